@@ -37,7 +37,7 @@ static void put_number(unsigned char *bytes, unsigned long long number, int coun
     for (int i = count - 1; i >= 0; i--, number >>= 8) bytes[i] = number & 255;
 }
 
-/* The offset of the gate that a number has where there are so many slots. Its body stands behind it. */
+/* The offset of the gate for a number, with this many slots. Its body follows it. */
 static off_t gate_of(unsigned long long number, int slots) { return BLOCK + 2 * BLOCK * (off_t)(number % slots); }
 
 static void store(int file, int slots, unsigned long long number, int spare_open, const unsigned char *value, size_t length) {

@@ -1,4 +1,4 @@
-"""Three hosts with the volume of docs/REPLICATION.md, made by the listings that stand there, and its unit on each."""
+"""Three hosts with the volume of docs/REPLICATION.md, made by the listings there, and its unit on each."""
 
 import concurrent.futures
 import os
@@ -142,8 +142,8 @@ class Cluster:
     # ---- clients ----
 
     def begin(self):
-        """New clients with a new record: a writer for each segment, that of the first a job, and scanners. The last writer and
-        the last scanner are those that move."""
+        """New clients with a new record: a writer for each segment, of which the first one is a job, and scanners. The
+        last writer and the last scanner are those that move."""
         self.record = Record(self.entries(), self.rng)
         place = (self.record, "outside", (FLOATING, PORT))
         self.job = Job(0, *place)
@@ -202,7 +202,7 @@ def at_once(work, hosts):
 
 
 def _behind(said, word):
-    """The place behind the last such line."""
+    """The place after the last such line."""
     return max((at + 1 for at, line in enumerate(said) if line == word), default=0)
 
 

@@ -2,11 +2,12 @@
 
     python3 bench/compare.py BEFORE [AFTER] [--folder FOLDER] [--rounds N]
 
-BEFORE and AFTER are programs; AFTER is by default bin/snapd. In a round each does the same half second of work on files of its
-own, or starts once, or does as many puts, and who begins changes from round to round. A line has both medians, and the median
-of the rounds' ratios with their quartiles: a ratio of 1.02 says that AFTER takes a fiftieth longer. The files lie in FOLDER, by
-default a fresh folder beside this repository's own files, so that they are on a disk; in a folder of memory, as /dev/shm, more
-of an update is the program's own. With one program as both, the quartiles say what the machine alone makes of a ratio.
+BEFORE and AFTER are programs; AFTER is by default bin/snapd. In a round each does the same half second of work on files
+of its own, or starts once, or does as many puts, and the order changes from round to round. A line has both medians,
+and the median of the rounds' ratios with their quartiles: a ratio of 1.02 says that AFTER takes a fiftieth longer. The
+files lie in FOLDER, by default a fresh folder beside this repository's own files, so that they are on a disk; in a
+folder of memory, such as /dev/shm, more of an update is the program's own. With one program as both, the quartiles are
+those of the machine alone.
 """
 
 import argparse
@@ -70,8 +71,8 @@ class Comparison:
                 self.show(label, "us", self.in_turn(measure))
 
     def starts(self):
-        """From the start of the process to its first reply: what is done before its line `listening` and what behind it, a
-        program may have changed."""
+        """From the start of the process to its first reply: a program may have moved work from before its line
+        `listening` to after it."""
         files = [bench.files("starts", LENGTH) for bench in self.sides]
 
         def measure(side):

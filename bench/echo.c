@@ -4,13 +4,13 @@
  *     echo live FOLDER SEGMENTS LENGTH         the same, and a scan is answered by what was stored
  *     echo calls FOLDER WRITERS MILLISECONDS   makes the calls of stores alone, each writer on a file of its own
  *     echo start FILE..                        opens, locks, syncs and reads each file, and ends
- *     echo touch KILOBYTES                     writes so much new memory, and copies it to as much again
+ *     echo touch KILOBYTES                     writes this much new memory, and copies it to as much again
  *
- * `serve` makes the device calls of a store for each update, on the file `S` and its segment in FOLDER, and judges nothing. It
- * answers each scan by SEGMENTS values of LENGTH bytes that never change, and prints `listening 127.0.0.1:PORT`. `live` copies each
- * value once more behind its store, and all of them for each scan, a segment at a time under its lock: its scans are of no one moment.
- * `calls` prints how many stores there were a second, and the median of their times in nanoseconds, and `touch` how many nanoseconds
- * it took, with a byte of the copy, so that none is left out.
+ * `serve` makes the device calls of a store for each update, on the file `S` and its segment in FOLDER, and judges
+ * nothing. It answers each scan by SEGMENTS values of LENGTH bytes that never change, and prints `listening
+ * 127.0.0.1:PORT`. `live` copies each value once more after its store, and all of them for each scan, a segment at a
+ * time under its lock: its scans are of no one moment. `calls` prints the stores a second and the median of their times
+ * in nanoseconds, and `touch` how many nanoseconds it took, with a byte of the copy, so that none is left out.
  */
 #define _GNU_SOURCE
 #include <arpa/inet.h>

@@ -150,7 +150,7 @@ class Host:
     # ---- harm ----
 
     def cut(self):
-        """No packet comes or goes any more, and nobody is told."""
+        """No packet arrives or leaves any more, and no peer is notified."""
         command("ip", "link", "set", self.name, "nomaster")
 
     def join(self):
@@ -174,8 +174,8 @@ class Host:
 
 
 class Unit:
-    """A service as systemd runs it with `Restart=always` and `RestartSec=1`: `words` are its `ExecStart`, and `behind` its
-    `ExecStopPost`. `lines` has what its runs printed, and when."""
+    """A service as systemd runs it with `Restart=always` and `RestartSec=1`: `words` are its `ExecStart`, `behind` its
+    `ExecStopPost`. `lines` has the output of its runs, with times."""
 
     REST = 1.0
 

@@ -162,13 +162,13 @@ static void *scan_on(void *of) {
     return NULL;
 }
 
-/* Rests until it is time to come. Who is late comes at once. */
+/* Rests until it is time to connect. A late connection begins at once. */
 static void rest_until(long long due) {
     struct timespec time = {.tv_sec = due / 1000000000LL, .tv_nsec = due % 1000000000LL};
     if (rate > 0) clock_nanosleep(CLOCK_MONOTONIC, TIMER_ABSTIME, &time, NULL);
 }
 
-/* It waits for nothing that the server does, and leaves by a reset, so that no port is kept for a minute behind it. */
+/* It waits for nothing that the server does, and closes by a reset, so that no port stays in use for a minute. */
 static void *come_and_go(void *of) {
     struct linger reset = {.l_onoff = 1, .l_linger = 0};
     long long since = now(), due = since;

@@ -1,4 +1,4 @@
-"""Writers and scanners that go on over faults of hosts, as clients of a job do, and the record of all that they were told.
+"""Writers and scanners that continue over faults of hosts, as clients of a job do, and the record of all replies.
 
 They are one thread on connections of their own. A client whose connection breaks, or that hears nothing for a while, asks the
 same again on a new one. An update keeps its number and its value until it is acknowledged, so the record has it once.
@@ -31,8 +31,8 @@ PASSING = (6, 8, 13)
 
 
 class Record:
-    """What was asked of so many segments, and answered. `acknowledged` and `shown` have the times of replies, by the place
-    that the client asks from."""
+    """The requests and replies of all segments. `acknowledged` and `shown` have the times of replies, by the place that
+    the client asks from."""
 
     def __init__(self, start, rng):
         self.start, self.rng = start, rng
@@ -90,7 +90,7 @@ class Client:
         self.stream, self.again = None, now + PAUSE
 
     def turn(self, now, is_ready):
-        """Goes on as far as it can without waiting."""
+        """Continues as far as it can without blocking."""
         try:
             if self.leaves:
                 self.leaves = False
@@ -124,7 +124,7 @@ class Client:
 
 
 class Writer(Client):
-    """Of a segment that nobody else writes."""
+    """Updates a segment that has no other writer."""
 
     def __init__(self, segment, *more):
         super().__init__(*more)
@@ -188,7 +188,7 @@ class Job(threading.Thread):
 
 
 class Onlookers(threading.Thread):
-    """All clients, at work until they are stopped. What one of them found wrong is raised by `look`."""
+    """All clients, at work until they are stopped. A fault that one of them found is raised by `look`."""
 
     def __init__(self, clients, job=None):
         super().__init__(daemon=True)

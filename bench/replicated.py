@@ -3,18 +3,18 @@
     python3 bench/replicated.py [--rounds N] [--minutes M] [--only KIND].. [--program bin/snapd] [--seed N] [--folder FOLDER]
         [--without PART]..
 
-Three hosts are namespaces of this machine, each with a disk of its own (ext4 in a file), a GlusterFS server, the volume mounted
-by FUSE, and the recipe's unit. Writers and scanners go on beside them, one of each on the host that serves where that is cut off.
-Of each KIND there are N rounds (50), or as many as begin within M minutes, at random moments:
+Three hosts are namespaces of this machine, each with a disk of its own (ext4 in a file), a GlusterFS server, the volume
+mounted by FUSE, and the recipe's unit. Writers and scanners continue beside them; if the serving host is cut off, one
+of each runs on it. Of each KIND there are N rounds (50), or as many as begin within M minutes, at random moments:
 
     brick    the process of one copy is killed, started again, and its copy healed
     server   the server is killed, and started on another host
     cut      the host that serves is cut off from the others, and joined again
     all      all processes of all hosts are killed at once, and what their disks hadn't synced is lost
 
-What all clients were told is judged by tests/oracle/histories.py, each kind as one history: nothing acknowledged is lost, and
-nothing shown is taken back. Status 1 where that failed. `--without` leaves a part out of the recipe (strict-locks, sync,
-direct-io, settle, silence), to see what it is there for.
+The replies of all clients are judged by tests/oracle/histories.py, each kind as one history: nothing acknowledged is
+lost, and nothing shown is taken back. Status 1 if that failed. `--without` leaves a part out of the recipe
+(strict-locks, sync, direct-io, settle, silence), to see what it is there for.
 
 It wants root, /dev/fuse and Debian's packages glusterfs-server, glusterfs-client, iproute2, iputils-arping and e2fsprogs; where
 something is missing it says so in one line, and ends with status 4. All that it makes, but for the files in FOLDER, lies in
@@ -130,7 +130,7 @@ def main():
     if lacking := missing(given.program):
         print(f"replicated.py: not tried, since this machine lacks {', '.join(lacking)}", file=sys.stderr)
         return MISSING
-    # An end by `kill` is one as by Ctrl-C: the folder goes, and with this process all others do.
+    # `kill` ends it as Ctrl-C does: the folder is removed, and all other processes end with this one.
     signal.signal(signal.SIGTERM, lambda *_: sys.exit(128 + signal.SIGTERM))
     folder = pathlib.Path(tempfile.mkdtemp(prefix="snapd-hosts-", dir=given.folder))
     again = [sys.executable, __file__, *sys.argv[1:], "--inside", str(folder)]

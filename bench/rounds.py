@@ -138,7 +138,7 @@ def cut(cluster, figures):
 
 
 def judge_cut_off(cluster, figures, host, began):
-    """What clients on the host that is cut off were told since then. What was under way may yet be answered, and no more."""
+    """The replies to clients on the host that is cut off. Only requests that were under way may still be answered."""
     for what, told in (("an update", cluster.record.acknowledged), ("a scan", cluster.record.shown)):
         late = [when - began for when in told.get(host.name, []) if when > began]
         figures.took(f"on the host that was cut off, {what} was last answered after", max(late, default=0.0))

@@ -57,7 +57,7 @@ def ratio(label, limit, timer, runs, start, program, baseline, file, value):
 
 
 def allocations(program, folder, stores):
-    """How many allocations a run of so many stores makes."""
+    """The number of allocations of a run of `stores` stores."""
     count = folder / "count"
     env = {"LD_PRELOAD": library("allocations"), "ALLOCATIONS_COUNT": str(count)}
     subprocess.run([*program, folder / f"stores{stores}", str(stores)], env=env, check=True, stdout=subprocess.DEVNULL)
@@ -127,7 +127,8 @@ def endless():
 
 
 def update(writer, segments):
-    """The lines of one update while nobody else writes. A store whose spare gate is closed answers the last call `not now`."""
+    """The lines of one update without other writers. A store whose spare gate is closed answers the last call `not
+    now`."""
     return [f"begin {writer} 61"] + [f"look w{writer}"] * (2 * segments) + [f"call {writer}"] * 5 + [f"show {writer}", f"ack {writer}"]
 
 

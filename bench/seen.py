@@ -1,11 +1,12 @@
-"""Times requests of a server that somebody looks at by HTTP beside those of one that nobody looks at, in turn, in one run.
+"""Times requests of a server with HTTP clients against those of one without, in turn, in one run.
 
     python3 bench/seen.py [--folder FOLDER] [--rounds N] [--program bin/snapd]
 
-Each line has both medians, and the median of the rounds' ratios with their quartiles. In a round each server does the same half
-second of work on files of its own, and who begins changes from round to round. First `/metrics` is read once a second, as a
-monitor does it (aim 1.02), then 1,000 connections ask for the page and read nothing of it, and each that is let go of comes again
-(aim 1.05). The first two lines compare two servers that nobody looks at: what the machine alone makes of a ratio.
+Each line has both medians, and the median of the rounds' ratios with their quartiles. In a round each server does the
+same half second of work on files of its own, and the order changes from round to round. First `/metrics` is read once a
+second, as a monitor does it (aim 1.02), then 1,000 connections ask for the page and read nothing of it, and each that
+is closed connects again (aim 1.05). The first two lines compare two servers without HTTP clients: their ratios are
+those of the machine alone.
 """
 
 import argparse
@@ -29,14 +30,14 @@ from serving import Server  # noqa: E402
 
 LENGTH = 1_000
 SLOW_READERS = 1_000
-# How long a connection that was let go of rests before it comes again, in seconds.
+# The rest of a closed connection before it connects again, in seconds.
 REST = 0.5
 WORK = ((0, "update, 1 writer", 1, 0), (0, "update, 16 writers", SEGMENTS, 0), (1, "scan of 16 values", 0, 1))
 
 
 @contextlib.contextmanager
 def in_a_thread(work):
-    """Has a thread work until the end of the `with`. The work is given what tells it to end."""
+    """Has a thread work until the end of the `with`. The work gets the event that ends it."""
     end = threading.Event()
     thread = threading.Thread(target=work, args=(end,))
     thread.start()
@@ -67,7 +68,7 @@ def called(server, ready):
 
 
 def read_slowly(server):
-    """Many ask for the page, and take no more of it than tells that they were let go of."""
+    """Many connections ask for the page, and read only enough of it to notice that they were closed."""
 
     def work(end):
         with selectors.DefaultSelector() as ready:
@@ -96,7 +97,7 @@ def is_gone(peer):
 
 
 class Seen:
-    """A server that nobody looks at, and one that somebody does."""
+    """A server without HTTP clients, and one with them."""
 
     def __init__(self, folder, program, rounds):
         self.rounds = rounds

@@ -7,18 +7,18 @@ Each figure is the median of the ratios of some rounds; in a round all that is c
 The files lie in FOLDER, by default a fresh folder beside this repository's own files, so that they are on a disk and not in
 memory.
 
-An update is compared with its device calls alone (aim 1.1), and with the yardstick, which makes the same calls behind a socket
-(aim 1.3); updates a second of 1 and 16 writers with bare calls (aim 0.8); a scan with the yardstick's reply of the same size
-(aim 1.5), alone and beside 16 writers, and with a yardstick that copies what was stored last; a scan of 1, 4 and 16 named segments of 16
-with a whole one of a server that has as many (aim 1.15); the time to the line `listening` with
-16 files, with their bare opening (aim 20 ms more), beside the time to write as much memory and to copy it, and the same by what
-docs/RECIPES.md gives the C library of a service.
+An update is compared with its device calls alone (aim 1.1), and with the yardstick, which makes the same calls for a
+client on a socket (aim 1.3); updates a second of 1 and 16 writers with bare calls (aim 0.8); a scan with the
+yardstick's reply of the same size (aim 1.5), alone and beside 16 writers, and with a yardstick that copies what was
+stored last; a scan of 1, 4 and 16 named segments of 16 with a whole one of a server that has as many (aim 1.15); the
+time to the line `listening` with 16 files, with their bare opening (aim 20 ms more), beside the time to write as much
+memory and to copy it, and the same with the C library's settings of docs/RECIPES.md.
 
 An update of one writer beside connections that come and go, 12,600 a second and as fast as a thread can make them, is compared
 with the same while it is quiet (aim 300 us).
 
-Then come the memory resident, with 2,000 idle connections too, and a scan on one worker beside stores that are held 2 ms at each
-sync, which is to take as long as without them; the yardstick's scans have a thread of their own and ask nobody. Where
+Then come the memory resident, with 2,000 idle connections too, and a scan on one worker beside stores that are held 2
+ms at each sync, which is to take as long as without them; the yardstick's scans have a thread of their own. If
 `redis-server` is installed, it is measured with its log synced at every write.
 """
 
@@ -46,7 +46,7 @@ PARTS = ("updates", "scans", "parts", "starts", "told", "comers", "memory", "hel
 SEGMENTS, SPAN = 16, 500
 # Connections a second that come and go, beside which a median update was once 4 ms.
 FLOOD = 12_600
-# What the unit of docs/RECIPES.md tells the C library, each by itself and both.
+# The C library's settings in the unit of docs/RECIPES.md, each alone and both together.
 PAGES, ARENAS = {"GLIBC_TUNABLES": "glibc.malloc.hugetlb=1"}, {"MALLOC_ARENA_MAX": "1"}
 TOLD = {"nothing": {}, "large pages": PAGES, "one arena": ARENAS, "both": {**PAGES, **ARENAS}}
 
@@ -88,14 +88,15 @@ class Bench:
         return target
 
     def files(self, place, length, count=SEGMENTS):
-        """Files of so many segments whose values have so many bytes, in a folder of their own."""
+        """Files of `count` segments whose values have `length` bytes, in a folder of their own."""
         (self.folder / place).mkdir(exist_ok=True)
         held = [(1, b"v" * length), (2, b"v" * length)]
         return segments(self.snapd, *[held] * count, folder=place)
 
     def load(self, server, length, writers, readers, kind="snapd", count=SEGMENTS, comers=(0, 0), part=0):
-        """Updates a second, their median and 99th percentile in microseconds, and the same of scans, and of connections that come and
-        go: so many at once, and so many a second. With a part the scans are of the segments that it names."""
+        """Updates a second, their median and 99th percentile in microseconds, and the same of scans, and of connections
+        that come and go. `comers` is how many at once, and how many a second. With a part the scans are of the segments
+        in it."""
         words = [self.client, server.place[1], kind, count, length, writers, readers, SPAN, *comers]
         env = {**os.environ, "PART": f"{part:04x}"} if part else None
         run = subprocess.run(list(map(str, words)), check=True, stdout=subprocess.PIPE, text=True, env=env)
@@ -188,7 +189,7 @@ class Bench:
                 show(name, beside, quiet, "us", f"{mine:.3f}   (aim 300 us; the yardstick's {its:.3f} beside {rate:,.0f})")
 
     def told(self):
-        """A start by what the unit of docs/RECIPES.md tells the C library, in times of one without."""
+        """A start with each of the C library's settings, in multiples of one without."""
         files = self.files("files", 1_000)
         found = {name: [] for name in TOLD}
         for _ in range(4 * self.rounds):
@@ -235,7 +236,7 @@ class Bench:
                 self.load(server, layout.MAX_VALUE, SEGMENTS, 8)
                 used = server.memory()
                 idle = [server.connect() for _ in range(2_000)]
-                # All of them have been taken once one behind them is answered on each worker.
+                # All have been accepted once a later one is answered on each worker.
                 for _ in range(scanners):
                     with server.connect() as stream:
                         stream.sendall(SCAN)

@@ -2,7 +2,7 @@
  *
  *     timer RUNS INPUT FILE START PROGRAM-A WORD.. -- PROGRAM-B WORD..
  *
- * INPUT is the standard input of each run, and its output goes nowhere. Before each run FILE gets the bytes of START,
+ * INPUT is the standard input of each run, and its output is discarded. Before each run FILE gets the bytes of START,
  * outside the time. It prints the two medians in nanoseconds, and the median of the ratios of each pair of runs, in
  * thousandths: what else the machine does drifts, and the two runs of a pair are near each other.
  */

@@ -1,9 +1,8 @@
-/* Stands between the program and the system (LD_PRELOAD): tells how many connections couldn't be accepted, and refuses some.
+/* A library for LD_PRELOAD: counts the connections that couldn't be accepted, and refuses some.
  *
- * ACCEPTS_FAILED names a file that gets one byte for each call that failed. It is opened at the start, since a program that
- * has no descriptor left couldn't open it.
- * ACCEPTS_REFUSE is `FIRST COUNT ERRNO`: so many calls, from the first of them on, which is counted from 1, fail so and do
- * nothing.
+ * ACCEPTS_FAILED names a file that gets one byte for each call that failed. It is opened at the start, since a program
+ * that has no descriptor left couldn't open it. ACCEPTS_REFUSE is `FIRST COUNT ERRNO`: COUNT calls from number FIRST
+ * on, counted from 1, fail with ERRNO and do nothing.
  */
 #define _GNU_SOURCE
 #include <dlfcn.h>

@@ -1,4 +1,4 @@
-/* Stands between the program and the system (LD_PRELOAD): records its calls that change files and folders, and makes one fail.
+/* A library for LD_PRELOAD: records the program's calls that change files and folders, and makes one fail.
  *
  * CHANGES_LOG gets a line for each of these calls that succeeded, with a tab between its words:
  *   open PATH       create PATH     mkdir PATH      rename PATH PATH    unlink PATH     rmdir PATH

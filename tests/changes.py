@@ -29,7 +29,7 @@ def environment(fault=None):
 
 @contextlib.contextmanager
 def stopped(snapd, *words, at):
-    """A run that has stopped before this call; it goes on at the end."""
+    """A run that has stopped before this call; it continues at the end."""
     run = subprocess.Popen([snapd.path, *words], cwd=snapd.folder, env=os.environ | environment((at, "stop")),
                            stdout=subprocess.PIPE, stderr=subprocess.PIPE, text=True)
     try:
@@ -82,7 +82,7 @@ class Open:
 
 
 def moved(path, before, after):
-    """A path behind a renaming."""
+    """A path after a renaming."""
     return after + path[len(before):] if path == before or path.startswith(before + "/") else path
 
 

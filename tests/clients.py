@@ -1,4 +1,4 @@
-"""What the tests of the clients have in common: the client in C as a program, peers that behave as they are told, the vectors
+"""What the tests of the clients have in common: the client in C as a program, peers with a given behaviour, the vectors
 of docs/FORMATS.md, and jobs that are killed."""
 
 import asyncio
@@ -64,7 +64,7 @@ class Driven:
 
 @functools.lru_cache(maxsize=None)
 def _loop():
-    """Goes with the process."""
+    """The loop of the process."""
     return asyncio.new_event_loop()
 
 
@@ -78,7 +78,7 @@ BOTH = (Client, driven_client)
 
 @contextlib.contextmanager
 def replaced(place, name, value):
-    """Something stands in the place of another thing meanwhile."""
+    """Replaces an attribute for the time of the `with`."""
     before = getattr(place, name)
     setattr(place, name, value)
     try:
@@ -101,12 +101,12 @@ def compiled(name, folder=EXAMPLES, more=()):
 
 @functools.lru_cache(maxsize=None)
 def _folder():
-    """Goes with the process."""
+    """Removed at the end of the process."""
     return tempfile.TemporaryDirectory(prefix="snapd-c-")
 
 
 def host_and_port(address):
-    """The words by which the programs in C are told an address."""
+    """The arguments that give an address to the programs in C."""
     return [address, "0"] if address.startswith("unix:") else address.split(":")
 
 
@@ -118,9 +118,9 @@ def ask(address, *words, timeout=1000 * PATIENCE, tries=1):
 
 
 class Peer:
-    """A peer that handles its connections one after another, each by the next of these functions; then it hangs up.
+    """A peer that handles its connections one after another, each with the next of these functions; then it hangs up.
 
-    What each connection sent to it stands in `heard`.
+    `heard` has the bytes that each connection sent to it.
     """
 
     def __init__(self, *handlers):
@@ -153,7 +153,7 @@ class Peer:
         assert not self.thread.is_alive(), "the client made fewer connections than it should have"
 
     def hear(self, connection, count):
-        """Reads so many bytes."""
+        """Reads `count` bytes."""
         while len(self.heard[-1]) < count:
             piece = connection.recv(count - len(self.heard[-1]))
             assert piece, self.heard
@@ -169,8 +169,8 @@ def hangs_up_after(count):
 
 
 def says(answer, count=5, then=lambda _, connection: connection.recv(1)):
-    """Reads a request of so many bytes, and answers by these bytes. A client that closes before it has read them resets the
-    connection."""
+    """Reads a request of `count` bytes, and answers with these bytes. A client that closes before it has read them
+    resets the connection."""
     def handle(peer, connection):
         peer.hear(connection, count)
         with contextlib.suppress(ConnectionError):
@@ -277,7 +277,7 @@ def jobs(address):
 
 
 def begun(words, steps):
-    """A job that does so many steps."""
+    """A job that does `steps` steps."""
     return subprocess.Popen([*words, str(steps)], stdout=subprocess.PIPE, stderr=subprocess.DEVNULL, text=True, env=ENVIRONMENT)
 
 

@@ -1,4 +1,4 @@
-/* Stands between the program and the system (LD_PRELOAD): while it runs, its calls on some files fail or wait.
+/* A library for LD_PRELOAD: while the program runs, its calls on some files fail or wait.
  *
  * DISK_CONTROL names a file that is read at each call on a file that was opened. A line of it is `NAME CALL WHAT MORE`: of the
  * file whose path ends by NAME, each CALL, which is `write`, `sync` or `read`, does this:

@@ -1,5 +1,5 @@
-/* Stands between the program and the system (LD_PRELOAD): locks of files. FLOCKS is the errno with which each call fails, or 0, and
- * then each succeeds and keeps nobody out. */
+/* A library for LD_PRELOAD: locks of files. FLOCKS is the errno with which each call fails, or 0, and
+ * then each succeeds and excludes nothing. */
 #include <errno.h>
 #include <stdlib.h>
 #include <sys/file.h>

@@ -14,7 +14,7 @@ SAMPLE = re.compile(r"(\w+)(\{[^}]*\})? (\S+)")
 
 
 class SeenServer(Server):
-    """A server with `--http`, and where that is: at this port, or at one that its log tells."""
+    """A server with `--http`, and its address for HTTP: at this port, or at the one in its log."""
 
     def __init__(self, snapd, *files, more=(), port=0, **rest):
         super().__init__(snapd, *files, more=("--http", f"127.0.0.1:{port}", *more), **rest)

@@ -1,4 +1,4 @@
-"""Writers and readers on a server, each on a connection of its own, and the record of all that they were told.
+"""Writers and readers on a server, each on a connection of its own, and the record of all replies.
 
 They are one thread, so that the record's times are of one clock and the server has the other processors. Each asks again as
 soon as it is answered. A writer keeps its segment's number over restarts of the server, as a job does.
@@ -62,8 +62,8 @@ class Load:
         self.moments.add(tuple(self.scans[-1].numbers))
 
     def resume(self, server):
-        """Looks at what a restart found, as each writer does. What was cut off may be there or not. If not it is made again,
-        or never: then another value takes its number."""
+        """Scans after a restart, as each writer does. An update that was cut off may be there or not. If not it is sent
+        again, or never: then another value gets its number."""
         began = time.monotonic()
         found = server.scan()
         self.scanned(began, found)
@@ -77,7 +77,7 @@ class Load:
                 self.begun[segment] = None
 
     def run(self, server, readers, over):
-        """Works until `over()` says so and all that was asked is answered, or until all connections are gone."""
+        """Works until `over()` is true and all requests are answered, or until all connections are closed."""
         clients = [_Writer(self, server.connect(), segment) for segment in range(len(self.start))]
         clients += [_Reader(self, server.connect()) for _ in range(readers)]
         with selectors.DefaultSelector() as ready:
@@ -103,8 +103,8 @@ class _Client:
         self.load, self.stream, self.held = load, stream, bytearray()
 
     def turn(self, ending):
-        """Takes in what came, and asks again once the reply is whole. False where that was the last reply, or the connection
-        is gone."""
+        """Takes in what came, and asks again once the reply is whole. False if that was the last reply, or the
+        connection is closed."""
         try:
             piece = self.stream.recv(1 << 17)
             if not piece:

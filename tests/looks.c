@@ -1,5 +1,5 @@
-/* Stands between the program and the system (LD_PRELOAD): a byte goes to the file LOOKS_LOG for each look by a path at what is no
- * folder's own name `.` and ends in a digit: at a segment's file. */
+/* A library for LD_PRELOAD: the file LOOKS_LOG gets a byte for each check by a path other than `.` that ends in a
+ * digit: of a segment's file. */
 #define _GNU_SOURCE
 #include <ctype.h>
 #include <dlfcn.h>

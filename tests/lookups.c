@@ -1,4 +1,4 @@
-/* Stands between the program and the system (LD_PRELOAD): a host name has two addresses.
+/* A library for LD_PRELOAD: a host name has two addresses.
  *
  * LOOKUPS is `NAME FIRST SECOND`: a look-up of that name finds these two addresses, in this order.
  */

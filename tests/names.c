@@ -1,7 +1,7 @@
-/* Stands between the program and the system (LD_PRELOAD): a name has several numbers.
+/* A library for LD_PRELOAD: a name has several numbers.
  *
- * NAMES_OF is `NAME NUMBER NUMBER ..`: what the system is asked of NAME it is asked of each of these in turn, and what it tells of
- * them stands in this order. Other names are the system's.
+ * NAMES_OF is `NAME NUMBER NUMBER ..`: a look-up of NAME looks up each of these in turn, and has their results in this
+ * order. Other names are the system's.
  */
 #define _GNU_SOURCE
 #include <dlfcn.h>

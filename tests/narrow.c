@@ -1,4 +1,4 @@
-/* Stands between the program and the system (LD_PRELOAD): a socket that connects holds little of what is sent, so that the sender of
+/* A library for LD_PRELOAD: a socket that connects holds little of what is sent, so that the sender of
  * much waits until the other end has read. */
 #define _GNU_SOURCE
 #include <dlfcn.h>

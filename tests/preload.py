@@ -1,4 +1,4 @@
-"""Compiles the C files that stand between the program and the system, each once."""
+"""Compiles the C files for LD_PRELOAD, each once."""
 
 import errno
 import functools
@@ -23,7 +23,8 @@ def library(name):
 
 
 class Accepts:
-    """What servers that are started with `env` can't accept: so many calls from the first of them on, or what really fails."""
+    """Refuses `count` accepts from the `first` on in servers that are started with `env`, and counts those that
+    fail."""
 
     def __init__(self, folder, first=0, count=0, why=errno.EMFILE):
         self.failed = folder / "failed"
@@ -36,5 +37,5 @@ class Accepts:
 
 @functools.cache
 def _folder():
-    """Goes with the process."""
+    """Removed at the end of the process."""
     return tempfile.TemporaryDirectory(prefix="snapd-preload-")

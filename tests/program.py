@@ -36,7 +36,7 @@ class Run:
         return self
 
     def refused(self, number, name, *more):
-        """The line of a refusal, and the lines behind it."""
+        """The line of a refusal, and the lines after it."""
         return self.gave(3, errors="".join(f"snapd: {line}\n" for line in (f"refused {number} {name}", *more)))
 
 

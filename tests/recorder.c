@@ -1,4 +1,4 @@
-/* Stands between the program and the system (LD_PRELOAD): records what it does to one file, and makes a call fail.
+/* A library for LD_PRELOAD: records what the program does to one file, and makes a call fail.
  *
  * RECORDER_FILE is the name of the file, as the program is given it. RECORDER_LOG gets a line for each of its calls that
  * changes or syncs the file: `write OFFSET HEX`, `length N` or `sync`, each once it has succeeded.

@@ -12,7 +12,7 @@ def no_file(file, place="--index I --count N"):
 
 
 def no_folder(folder):
-    """Where it is wanted as that of a server's files."""
+    """The advice on a server's folder that doesn't exist."""
     return f"{folder}: it isn't there: make it by snapd init {folder} --count N"
 
 

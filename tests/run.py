@@ -31,7 +31,7 @@ sys.path.insert(0, str(HERE))
 
 from program import Program, Skipped  # noqa: E402
 
-# How much of what a failed test said is told again at the end, in characters.
+# How much of a failed test's output is printed again at the end, in characters.
 LAST = 400
 # The files whose tests take longest, which begin first.
 LONG = ("test_plug", "test_serve_kills", "test_crashes", "test_clients_serve", "test_readme", "test_recipes", "test_serve_memory")
@@ -65,7 +65,7 @@ def work(program, seed):
     """Runs the tests that standard input names, a line each, and answers each with a line."""
     # A job in a shell's background ignores an interrupt, and would hand that on to the programs under test.
     signal.signal(signal.SIGINT, signal.default_int_handler)
-    # Tests and the programs that they start have other streams than those of the runner.
+    # Tests and the programs that they start have other streams than the runner.
     lines, answers = os.fdopen(os.dup(0)), os.fdopen(os.dup(1), "w")
     nothing = os.open(os.devnull, os.O_RDONLY)
     os.dup2(nothing, 0)
@@ -154,7 +154,7 @@ def main():
         it.start()
     for it in lanes:
         it.join()
-    # Once more at the end, where a reader of a long log looks first.
+    # Once more at the end, where a reader of a long log begins.
     print(*count.failures, f"{count.passed} passed, {len(count.failures)} failed", sep="\n")
     return 1 if count.failures or not count.passed else 0
 

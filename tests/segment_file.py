@@ -118,11 +118,11 @@ answer_of, findings = NOW.answer_of, NOW.findings
 
 
 def advice(file):
-    """What a command says of a file of the old format's length, behind the line of its refusal."""
+    """The second line about a file of the old format's length, after that of its refusal."""
     return f"{file}: it has the length of the old format: carry it over with snapd migrate {file} NEW"
 
 
-# What a command on the file F as segment 0 of 1 says behind the line of a refusal.
+# The second lines of a command on the file F as segment 0 of 1, after that of a refusal.
 DAMAGED = "F: its slots give no answer: see snapd check F"
 FORMATTED = "F: it is formatted already: see snapd check F"
 OF_ANOTHER = "F: it isn't the file of segment 0 of 1: see snapd check F"

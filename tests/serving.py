@@ -20,7 +20,7 @@ LOG_LINE = re.compile(r"\d{4}-\d\d-\d\dT\d\d:\d\d:\d\d\.\d{3}Z (ERROR|WARN|INFO|
 
 
 def free_port():
-    """A port that nobody has, and that the system gives to no connection meanwhile: those are above."""
+    """A free port below those that the system gives to connections."""
     for port in range(15_000 + os.getpid() * 37 % 10_000, 32_000):
         with contextlib.suppress(OSError), socket.create_server(("127.0.0.1", port)):
             return port
@@ -77,7 +77,7 @@ def standings(*pairs):
 # ---- streams ----
 
 def received(stream, count):
-    """So many bytes, or fewer where the stream ends before."""
+    """Receives `count` bytes, or fewer if the stream ends before."""
     got = b""
     while len(got) < count:
         piece = stream.recv(count - len(got))
@@ -100,7 +100,7 @@ def reply(stream):
 
 
 def reset(stream):
-    """Closes it so that the other end is told of an error."""
+    """Closes it by a reset."""
     stream.setsockopt(socket.SOL_SOCKET, socket.SO_LINGER, struct.pack("ii", 1, 0))
     stream.close()
 
@@ -108,7 +108,7 @@ def reset(stream):
 # ---- servers ----
 
 def limited(descriptors, words):
-    """The words of a command that has at most so many open files."""
+    """The words of a command with this limit of open files."""
     return ["sh", "-c", 'ulimit -n "$0" && exec "$@"', str(descriptors), *words]
 
 
@@ -133,12 +133,12 @@ FRESH = [(0, b"")]
 
 
 def fresh(snapd, count, **more):
-    """So many files that were just formatted."""
+    """`count` files that were just formatted."""
     return segments(snapd, *[FRESH] * count, **more)
 
 
 class Server:
-    """A server that has told its address. It is killed at the end of a `with`.
+    """A server that listens. It is killed at the end of a `with`.
 
     `report` is what it printed before the line of its address. What it writes on standard error goes to a file.
     """
@@ -202,7 +202,7 @@ class Server:
         return [it[3] for it in found if it and level in (None, it[1]) and target in (None, it[2])]
 
     def end(self):
-        """How it ended by itself: its status, what it printed behind its address, and its errors."""
+        """Waits until it ends: its status, what it printed after its address, and its errors."""
         output, _ = self.process.communicate(timeout=PATIENCE)
         return Run(self.process.returncode, self.printed_behind + output, self.errors.read_text())
 
@@ -232,7 +232,7 @@ class Server:
         return len(open_files(self.process.pid))
 
     def sockets_of(self, stream):
-        """What the system tells of both ends of this connection, the server's first: the fields of a line each."""
+        """The system's report on both ends of this connection, the server's first: the fields of a line each."""
         here, there = self.place[1], stream.getsockname()[1]
         lines = pathlib.Path(f"/proc/{self.process.pid}/net/tcp").read_text().splitlines()[1:]
         told = {tuple(int(end.split(":")[1], 16) for end in line.split()[1:3]): line.split() for line in lines}
@@ -264,7 +264,7 @@ def at_socket(path, timeout=PATIENCE):
 
 
 class AtSocket(Server):
-    """A server whose first address is that of a Unix socket, in its folder."""
+    """A server whose first address is a Unix socket in its folder."""
 
     def _place(self):
         return str(self.errors.parent / self.address.removeprefix("unix:"))
@@ -277,7 +277,7 @@ class AtSocket(Server):
         return at_socket(self.place, timeout)
 
     def printed(self, count):
-        """The lines behind that of the first address, once so many are there."""
+        """The lines after that of the first address, once there are `count`."""
         while self.printed_behind.count(b"\n") < count:
             piece = os.read(self.process.stdout.fileno(), 65_536)
             assert piece, self.printed_behind

@@ -1,4 +1,4 @@
-/* Stands between the program and the system (LD_PRELOAD): a sleep takes a thousandth of the time that it is for, so that a test
+/* A library for LD_PRELOAD: a sleep takes a thousandth of the time that it is for, so that a test
  * needn't wait for minutes. Waits for sockets, and clocks, are as they were. */
 #define _GNU_SOURCE
 #include <dlfcn.h>

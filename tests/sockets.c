@@ -1,4 +1,4 @@
-/* Stands between the program and the system (LD_PRELOAD): makes one of its calls on sockets, or on what it waits by, fail.
+/* A library for LD_PRELOAD: makes one of the program's calls on sockets, or on its poll, fail.
  *
  * SOCKETS_FAIL is `CALL NUMBER ERRNO`: of the calls with this name, the one with this number, counted from 1, does nothing and
  * fails. Only those are counted that come while the file SOCKETS_WHILE is there, and it is removed with the failure.

@@ -1,16 +1,16 @@
-/* Calls of the client in C, one after another, on a system that behaves as it is told.
+/* Calls of the client in C, one after another, on a system with a given behaviour.
  *
  *     strains SYSTEM HOST PORT TRIES STEP ..
  *
- * SYSTEM is `plain`, or one in which each send and each receive passes on one byte (`short`), in which of each kind of call
- * every other one does nothing and ends by EINTR (`interrupted`; a connection goes on being made), or in which a send waits until
- * the peer is gone (`gone`).
+ * SYSTEM is `plain`, or one in which each send and each receive passes on one byte (`short`), in which of each kind of
+ * call every other one does nothing and ends by EINTR (`interrupted`; a connection is still being made), or in which a
+ * send waits until the peer has closed (`gone`).
  *
- * A STEP is one word: it prints the result of its call, the number that it told, and the error. `get`, `put`, `update`, `wait` (for
- * a minute), `lag` (a wait for 50 ms) and `fill` (so many bytes) take their numbers behind a colon: `update:1:4`. What is put and
- * updated is the value that was read or filled last. `stray` waits for bytes or an end that nobody asked for, `rest` rests for
- * 50 ms, of which it tells how many passed, `later` lets two minutes pass by the clock, and `exec` becomes a program that lists the
- * descriptors it has.
+ * A STEP is one word: it prints the result of its call, its number, and the error. `get`, `put`, `update`, `wait` (for
+ * a minute), `lag` (a wait for 50 ms) and `fill` (a number of bytes) take their numbers after a colon: `update:1:4`.
+ * What is put and updated is the value that was read or filled last. `stray` waits for unrequested bytes or an end,
+ * `rest` rests for 50 ms and prints how many passed, `later` lets two minutes pass by the clock, and `exec` becomes a
+ * program that lists the descriptors it has.
  */
 #define _POSIX_C_SOURCE 200809L
 #include <arpa/inet.h>
@@ -86,7 +86,8 @@ static struct iovec first_of(const struct msghdr *message)
 static ssize_t strained_sendmsg(int connection, const struct msghdr *message, int flags)
 {
     static int calls, sent;
-    /* The peer's end comes first, and then that it takes nothing more: of the latter alone an event is told unasked. */
+    /* The peer's end comes first, and then that it takes nothing more: only the latter is an event that is always
+     * reported. */
     struct pollfd end = {connection, sent++ == 0 ? POLLIN : 0, 0};
     struct iovec one = first_of(message);
     struct msghdr less = *message;
@@ -123,7 +124,7 @@ static snapd_result wait_for(unsigned segment, uint64_t number, int timeout, uin
     return result;
 }
 
-/* Does one step; *number is what stands behind its segment, and then what it told. */
+/* Does one step; *number is the number after its segment, and then that of the result. */
 static snapd_result done(const char *step, unsigned segment, uint64_t *number)
 {
     static unsigned char filled[SNAPD_MAX_SENT];

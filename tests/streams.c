@@ -1,4 +1,4 @@
-/* Stands between the program and the system (LD_PRELOAD): a standard stream moves so many bytes, and then fails.
+/* A library for LD_PRELOAD: a standard stream moves a number of bytes, and then fails.
  *
  * STREAMS_FAIL is `STREAM ROOM STEP`: each call on stream 0, 1 or 2 moves STEP bytes at most, and once ROOM bytes have passed each
  * call fails with EIO.

@@ -4,7 +4,7 @@ import segment_file as layout
 from serving import SCAN, STATUS, frame, reply, snapshot, standings, stored, update
 
 VALUE = b"v" * layout.MAX_VALUE
-# What a scan answers at its end.
+# The reply to a scan after the talk.
 HELD = snapshot((1, VALUE), (1, b"hi"))
 # Each request, and what it is answered.
 TALK = [

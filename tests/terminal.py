@@ -1,4 +1,4 @@
-"""A terminal that `snapd watch` draws in: what it shows, and what it knows of what it is told."""
+"""A terminal that `snapd watch` draws in: its screen, and the control sequences that it knows."""
 
 import fcntl
 import os
@@ -26,7 +26,7 @@ class Screen:
         self.colour = ""
 
     def take(self, text):
-        """Does what it is told."""
+        """Shows this text, and obeys its control sequences."""
         for part in re.findall(r"\x1b\[[?0-9;]*[A-Za-z]|[^\x1b]|\x1b", text):
             if part[0] == "\x1b":
                 self.obey(part[2:-1], part[-1])
@@ -113,7 +113,7 @@ class Terminal:
         self.screen.resize(columns, lines)
 
     def board(self):
-        """What it shows behind the next drawing that has come whole."""
+        """Its screen after the next whole drawing."""
         until = time.monotonic() + PATIENCE
         while END not in self.unread:
             ready, _, _ = select.select([self.end], [], [], until - time.monotonic())
@@ -133,7 +133,7 @@ class Terminal:
         return board
 
     def rest(self):
-        """Whatever came behind the last board, once its other end is gone."""
+        """Takes whatever came after the last board, once its other end is closed."""
         while select.select([self.end], [], [], 0.1)[0]:
             self.unread += os.read(self.end, 65_536).decode()
         self.screen.take(self.unread)

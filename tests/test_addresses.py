@@ -32,7 +32,7 @@ WHOLE = (
     "127.0.0.1:7070", "127.0.0.1:0", "0.0.0.0:0", "[::1]:7070", "[::1]:0", "localhost:7070", "::1:7070", "::1:0", "a:b", "a:b:c", "a:70707",
     "127.0.0.1:70707", "0:0", "unix:7070", "unix:/run/a:b",
 )
-# What stands for all addresses of a machine, in any form that the system reads, and what doesn't.
+# What means all addresses of a machine, in any form that the system reads, and what doesn't.
 EVERYWHERE = (
     "0.0.0.0:0", "[::]:0", "[::0]:0", "[0:0:0:0:0:0:0:0]:0", "[::ffff:0.0.0.0]:0", ":::0", "0:0", "0.0:0", "00.0x0.0.0:0", "0x00:0",
     "0.0.0.0:70707",
@@ -105,7 +105,7 @@ def named(*addresses):
 
 
 def test_a_name_of_two_addresses(snapd, _):
-    """They are tried in order, and the one that is bound is told."""
+    """They are tried in order, and the one that is bound is printed."""
     files = segments(snapd, FRESH)
     for addresses, bound in (
         (("203.0.113.1", "127.0.0.1"), "127.0.0.1"),
@@ -148,7 +148,7 @@ def test_one_port_is_shown(snapd, _):
 
 
 def test_one_kind_of_file_is_shown(snapd, _):
-    """Behind the words of a command on files: names end in `.seg`, or are to be replaced; `.new` is renamed at once."""
+    """In commands on files: names end in `.seg`, or are to be replaced; `.new` is renamed at once."""
     found = 0
     command = re.compile(r"snapd (?:format|put|get|check|migrate|serve)((?: [^\s`|>&;]+)+)")
     for name, text in texts(snapd):

@@ -138,7 +138,7 @@ def test_a_put_has_one_time_for_both_its_requests(snapd, _):
 
 
 def test_the_time_doesnt_begin_before_the_connection(snapd, _):
-    """Who makes the value takes as long as it takes."""
+    """The writer of the value may take longer."""
     with Server(snapd, *fresh(snapd, 1)) as server:
         reader, writer = socket.socketpair()
 

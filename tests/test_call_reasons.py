@@ -1,4 +1,4 @@
-"""Why a call makes no connection: each reason of the system's is told with its own remedy."""
+"""Why a call makes no connection: each reason of the system is printed with its own advice."""
 
 import errno
 import os
@@ -83,7 +83,7 @@ def test_each_reason_of_a_socket(snapd, _):
 
 
 def test_reasons_as_they_come(snapd, _):
-    """Of a port that nobody has, and of paths where no server listens."""
+    """A free port, and paths where no server listens."""
     nobody = f"127.0.0.1:{free_port()}"
     with AtSocket(snapd, *fresh(snapd, 1), address="unix:left.sock"):
         pass
@@ -101,7 +101,7 @@ def test_reasons_as_they_come(snapd, _):
 
 
 def test_a_user_who_may_not(snapd, _):
-    """Neither use the socket, nor look into its folder."""
+    """Another user may neither use the socket nor read its folder."""
     if os.geteuid() != 0:
         raise Skipped("another user wants root")
     snapd.file("shut").mkdir(mode=0o700)
@@ -117,7 +117,7 @@ def test_a_user_who_may_not(snapd, _):
 
 
 def test_a_reason_is_that_of_the_last_connection(snapd, _):
-    """One that was made has none: what fails behind it is told alone."""
+    """A connection that was made has none: only a later failure is printed."""
     with Server(snapd, *fresh(snapd, 1)) as server:
         sockets = Sockets(snapd, "connect", 1, errno.ECONNREFUSED)
         sockets.fail()
@@ -130,7 +130,7 @@ def test_a_reason_is_that_of_the_last_connection(snapd, _):
 
 
 def test_the_reason_of_a_read_or_a_write(snapd, _):
-    """It stands behind what isn't known, and needs no remedy of its own."""
+    """It is printed after the complaint, and needs no advice of its own."""
     with Server(snapd, *fresh(snapd, 1)) as server:
         again = "send it again, since an update is stored once"
         for call, code, fault in (
@@ -147,7 +147,7 @@ def test_the_reason_of_a_read_or_a_write(snapd, _):
 
 def test_a_put_says_how_to_put_again_and_why(snapd, _):
     with Server(snapd, *fresh(snapd, 1)) as server:
-        # The second connection is that of the update.
+        # The second connection is the update's.
         sockets = Sockets(snapd, "connect", 2, errno.ECONNREFUSED)
         sockets.fail()
         run = snapd("call", server.address, "put", 0, "--value", "x", env=sockets.env)

@@ -47,8 +47,8 @@ def answers(reply):
 
 
 def called(snapd, words, comes, env=None, **more):
-    """How words end whose connections, in order, have these replies. In the place of `None`, which may be the first, none can be
-    made. In what they say `A` stands for the address."""
+    """Runs words whose connections, in order, get these replies. For `None`, which may be the first, none can be made.
+    In the words and the errors `A` means the address."""
     if comes[0] is None:
         sockets = Sockets(snapd, "connect", 1, errno.ECONNREFUSED)
         sockets.fail()
@@ -185,7 +185,7 @@ def test_connections_that_fail_are_said_once_all_were_tried(snapd, _):
 # ---- puts ----
 
 def test_a_put_is_a_status_and_an_update(snapd, _):
-    """Each has its tries. Of an update without an answer the number is said that it was to be stored behind."""
+    """Each has its tries. If an update has no answer, the advice has the number before its own."""
     end_so(
         snapd,
         ("call A put 0", [STATES, stored(1)], 0, "stored 1\n", ""),
@@ -202,7 +202,7 @@ def test_a_put_is_a_status_and_an_update(snapd, _):
 
 
 def test_a_put_has_its_value_before_it_connects(snapd, _):
-    """Nobody listens there."""
+    """No server listens there."""
     nobody = f"127.0.0.1:{free_port()}"
     snapd("call", nobody, "put", 0, stdin=b"a" * 4_081).refused(3, "TooLong")
     for count in range(3):

@@ -83,7 +83,7 @@ def took(snapd, *words, **how):
 def stop_and_continue(process):
     assert process.poll() is None, ended(process)
     process.send_signal(signal.SIGSTOP)
-    # One that has ended stays one, for who asks how.
+    # One that has ended can still be waited for.
     os.waitid(os.P_PID, process.pid, os.WSTOPPED | os.WEXITED | os.WNOWAIT)
     process.send_signal(signal.SIGCONT)
 
@@ -160,20 +160,20 @@ def test_a_call_that_is_stopped_while_it_sends_goes_on(snapd, _):
 # ---- rests ----
 
 def test_tries_rest_in_between(snapd, _):
-    """A tenth of a second behind the first one, and twice as long behind each other one, whatever became of them."""
+    """A tenth of a second after the first one, and twice as long after each other one, however they failed."""
     for handle in (hangs_up, reset, lambda stream: (received(stream, 5), stream.sendall(SNAPSHOT[:9]))):
         with Counter(handle) as peer:
             snapd("call", peer.address, "scan", "--tries", 4).failed_with(1, peer.address)
             rests = peer.rests()
         assert len(rests) == 3 and all(0.095 * 2**i <= it < 0.1 * 2**i + 5 for i, it in enumerate(rests)), rests
-    # Where nobody listens.
+    # At a free port.
     ran, seconds = took(snapd, "call", f"127.0.0.1:{free_port()}", "scan", "--tries", 4)
     ran.failed_with(1, "no connection")
     assert 0.69 < seconds < 10, seconds
 
 
 def test_no_rest_where_nothing_failed(snapd, _):
-    """Neither before the first try, nor between the two requests of a put, nor behind the last try."""
+    """Neither before the first try, nor between the two requests of a put, nor after the last try."""
     def answers(stream):
         stream.sendall(standings((6, False)) if received(stream, 5)[4] == 3 else stored(7))
         stream.recv(65_536)
@@ -229,7 +229,7 @@ def test_a_call_that_waits_tries_for_so_long(snapd, _):
 
 
 def test_a_wait_ends_with_the_time_of_the_call(snapd, _):
-    """What is shorter ends it, and is told."""
+    """The shorter time ends it, and is printed."""
     with Counter(hangs_up) as peer:
         for wait, timeout, over in ((60, 1, "1 s (--timeout)"), (1, 60, "1 s (--wait)"), (1, 1, "1 s (--timeout)")):
             ran, seconds = took(snapd, "call", peer.address, "scan", "--wait", wait, "--timeout", timeout)
@@ -325,14 +325,14 @@ def test_a_silent_address_leaves_time_for_the_next(snapd, _):
                 ran, seconds = took(snapd, "call", f"two.test:{port}", "scan", *more, env=env)
                 ran.gave(0, EMPTY)
                 assert 1.8 < seconds < 20, (more, seconds)
-        # Nobody else is there: the call has its time and no more.
+        # There is no other server: the call has its time and no more.
         ran, seconds = took(snapd, "call", f"two.test:{port}", "scan", "--timeout", 2, env=env)
         ran.failed_with(1, "no connection to the server could be made")
         assert seconds < 12, seconds
 
 
 def test_a_name_that_isnt_known_yet(snapd, _):
-    """Who waits asks for it again; what no system takes at any time is told at once."""
+    """A call that waits looks it up again; an address that is never valid is refused at once."""
     ran = snapd("call", "nobody.invalid:7070", "scan")
     assert ran.status == 1 and ran.errors.startswith("snapd: nobody.invalid:7070: failed to lookup") and ran.errors.count("\n") == 1, ran
     began = time.monotonic()

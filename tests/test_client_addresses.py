@@ -1,4 +1,4 @@
-"""Where the clients look for a server: Unix sockets, and names with several addresses or none."""
+"""The clients' addresses of servers: Unix sockets, and names with several addresses or none."""
 
 import contextlib
 import socket
@@ -83,7 +83,7 @@ def test_nobody_listens_on_a_unix_socket(program, _):
 
 
 class Full:
-    """A Unix socket whose queue has no room, and whose server takes none off before it is told to."""
+    """A Unix socket whose queue is full, and whose server accepts only in `serve`."""
 
     def __init__(self, path):
         self.listener = socket.socket(socket.AF_UNIX, socket.SOCK_STREAM)
@@ -98,7 +98,7 @@ class Full:
                 caller.connect(str(path))
 
     def serve(self, answer):
-        """Answers the first one who asks."""
+        """Answers the first client that asks."""
         while True:
             connection, _ = self.listener.accept()
             with connection:

@@ -16,7 +16,7 @@ from snapd_client import aio
 
 # ---- the other client's tests ----
 
-# Those of the other client that ask one task at a time, each with this client in its place.
+# Tests of the other client with one task at a time, run with this client instead.
 SHARED = {
     of_messages: """
         test_both_clients_send_every_vector_and_read_its_reply test_replies_that_are_none_are_told_apart
@@ -148,7 +148,7 @@ def test_tasks_of_two_loops_at_once_are_refused(_, __):
         loop.close()
 
 
-# Nothing is left open, nothing unawaited and nothing unlooked at, in Python's development mode, where each of these would be told.
+# Nothing is left open, unawaited or unread, in Python's development mode, which would report each of these.
 QUIET = """
 import asyncio, sys
 from snapd_client import WaitTimedOut

@@ -1,4 +1,4 @@
-"""Each listing of the clients' pages, and of the head of snapd_segment.h, runs as it stands there: against the server in plain
+"""Each listing of the clients' pages, and of the head of snapd_segment.h, runs unchanged: against the server in plain
 Python and against `snapd serve`."""
 
 import contextlib
@@ -26,7 +26,7 @@ def listings(language):
 
 @contextlib.contextmanager
 def served(snapd, is_real):
-    """Both segments behind an address, and what the first one holds."""
+    """The address of a server with two segments, and a function that returns the first one's number and value."""
     if is_real:
         with Server(snapd, *segments(snapd, FRESH, [*FRESH, (1, b"hi")])) as server:
             yield server.address, lambda: server.scan()[0]

@@ -29,7 +29,7 @@ def test_a_segment_keeps_its_number(_, __):
             assert mine.put(bytearray(b"b")) == 2 and mine.number == 2 and model.answered == 3
             assert mine.get() == b"b" and mine.number == 2 and model.answered == 4
             assert client.scan() == ((0, b""), (2, b"b"))
-            # Another one learns the number by one request, and goes on behind it.
+            # Another one learns the number by one request, and continues after it.
             other = client.segment(1)
             assert other.number == 2 and other.number == 2 and model.answered == 6
             assert other.put(b"c") == 3
@@ -60,7 +60,7 @@ def test_another_writer_is_noticed_and_nothing_is_tried_again(_, __):
             client.update(0, 2, b"a stranger's")
             refused(lambda: mine.put(b"mine"), 5, 2)
             assert mine.number == 0 and client.scan() == ((2, b"a stranger's"),)
-            # What was read is what a put goes behind.
+            # A put follows the value that was read.
             assert mine.get() == b"a stranger's" and mine.number == 2
             assert mine.put(b"mine") == 3
             client.update(0, 4, b"another one")
@@ -153,7 +153,7 @@ def test_another_value_behind_a_put_without_an_answer_is_a_conflict(_, __):
             assert type(raised(lambda: mine.put(b"hi"))) is snapd_client.NotAnswered
             client._address = address
             refused(lambda: mine.put(b"yo"), 4, 1)
-            # Its own value is answered again, and a get tells which one is there.
+            # Its own value is acknowledged again, and a get shows which one is there.
             assert mine.get() == b"hi" and mine.number == 1 and mine.put(b"yo") == 2
 
 
@@ -331,7 +331,7 @@ def test_a_wait_rests_longer_each_time(_, __):
                 last = rests[14:]
                 assert all(later < before for before, later in zip(last, last[1:])) and len(last) < 12, last
                 assert sum(rests) > 1 - 0.0011
-    # Of the client in C the looks are counted: each of the long rests is one, and there are few others.
+    # The polls of the client in C are counted: one for each of the long rests, and few others.
     model = oracle.Model(1)
     with oracle.Server(model) as server:
         assert ask(server.address, "wait", 1000, 0, 1)[0] == 1
@@ -374,7 +374,7 @@ def test_hostile_replies_to_a_wait(_, __):
                 assert type(raised(lambda: client.wait({0: 9}, timeout=PATIENCE))) is snapd_client.BadReply, text
         with Peer(says(framed(text))) as peer:
             assert ask(peer.address, "wait", 1000 * PATIENCE, 0, 9) == (1, "", "bad reply\n")
-    # The other segments' numbers are nobody's.
+    # The other segments' numbers don't matter.
     for make, peer in Peer.each(says(standings((5, False), (9, False)), 5, says(standings((6, False), (1, False)), 10))):
         with peer, make(peer.address) as client:
             assert client.wait({0: 6}, timeout=PATIENCE) == {0: 6}
@@ -401,7 +401,7 @@ def test_a_wait_without_an_answer(_, __):
             assert type(raised(lambda: client.wait({0: 9}, timeout=PATIENCE))) is snapd_client.TimedOut
     with Peer(says_nothing) as peer:
         assert ask(peer.address, "wait", 1000 * PATIENCE, 0, 9, timeout=100) == (1, "", "not answered\n")
-    # A pause that its time has no room for is cut short, and no try comes behind it.
+    # A pause that is longer than the remaining time is cut short, and no try follows it.
     for make, peer in Peer.each(hangs_up_after(5)):
         with peer, make(peer.address, tries=2, pause=PATIENCE) as client:
             began = time.monotonic()

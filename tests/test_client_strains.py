@@ -28,7 +28,8 @@ def strained(system, address, *steps, tries=1):
 # ---- values that lie in the client ----
 
 def test_a_value_that_was_read_is_stored_as_it_was_on_each_try(_, __):
-    """Behind the first one its connection ends, with a part of an answer or none: the client tries again, or its caller does."""
+    """After the first one its connection ends, with a part of an answer or none: the client tries again, or its caller
+    does."""
     frame, told = messages.update(1, 4, VALUE), standings((5, False), (3, False))
     for tries, *steps in ((2, "put:1"), (2, "update:1:4"), (1, "put:1", "update:1:4"), (1, "update:1:4", "update:1:4")):
         for cut in (hangs_up, says(stored(4)[:-1], then=hangs_up)):
@@ -74,7 +75,7 @@ def test_a_peer_that_goes_away_while_it_is_sent_to_ends_no_process(_, __):
 def test_no_answer_has_the_systems_reason_and_an_end_has_none(_, __):
     with Peer(hangs_up_after(5)) as peer:
         assert strained("plain", peer.address, "status")[1] == [f"status {NOT_ANSWERED} 0 0"]
-    # Nobody listens there any more.
+    # No server listens there any more.
     assert strained("plain", peer.address, "status")[1] == [f"status {NOT_ANSWERED} 0 {errno.ECONNREFUSED}"]
 
 

@@ -1,4 +1,5 @@
-"""Tasks of the client for asyncio that are cancelled, or give up, at any step of their own calls and of those of others."""
+"""Tasks of the client for asyncio that are cancelled, or give up, at any step of their own calls and of other tasks'
+calls."""
 
 import asyncio
 import contextlib
@@ -29,7 +30,7 @@ async def comes(has_come):
 
 
 def is_forgotten():
-    """Whether the running loop looks after none of the client's sockets: only its own waker is left."""
+    """Whether the running loop watches none of the client's sockets: only its own waker is left."""
     return len(asyncio.get_running_loop()._selector.get_map()) == 1
 
 
@@ -86,7 +87,7 @@ def test_a_call_that_is_cancelled_while_it_connects(_, __):
 
 
 def test_a_call_that_is_cancelled_while_it_sends(_, __):
-    """The peer reads nothing, so that the longest request stands in the buffers of the system."""
+    """The peer reads nothing, so that the longest request stays in the buffers of the system."""
     async def run(listener):
         async with AioClient("{}:{}".format(*listener.getsockname())) as client:
             call = asyncio.ensure_future(client.update(0, 1, b"v" * 65_990))
@@ -173,7 +174,7 @@ def test_a_turn_is_not_given_to_who_has_just_been_cancelled(_, __):
         assert waiting[0].cancelled() and waiting[1].cancelled() and not waiting[3].done()
         turns.give()
         await waiting[3]
-        # Nor to one whose time has run out and who doesn't know it yet.
+        # Nor to one whose time has run out without its knowledge.
         late = asyncio.ensure_future(turns.take(time.monotonic() + 0.05))
         await asyncio.sleep(0)
         time.sleep(0.1)
@@ -185,7 +186,8 @@ def test_a_turn_is_not_given_to_who_has_just_been_cancelled(_, __):
 
 
 def test_one_task_is_in_whoever_is_cancelled_meanwhile(_, rng):
-    """Tasks come, give up after a while, and are cancelled, at any step of each other. One is in at a time; who stays gets in."""
+    """Tasks come, give up after a while, and are cancelled, at any step of each other. One is in at a time; each that
+    stays gets in."""
     inside, came = set(), []
 
     async def stay(turns, name, until):

@@ -7,7 +7,7 @@ import subprocess
 from clients import ENVIRONMENT, TOP
 from program import Skipped
 
-# What a job's author may write, with each type said. What stands behind `# not:` is what no checker may pass.
+# What a job's author may write, with all types. No checker may accept the lines after `# not:`.
 USES = """
 from typing import Dict, Tuple
 import snapd_client

@@ -175,7 +175,7 @@ def test_jobs_go_on_where_they_were_while_all_is_killed(snapd, rng):
                         server.kill()
                     if killed_one == "server":
                         server.again()
-                        # It goes on over a new connection, or has given up after three tries.
+                        # It continues over a new connection, or has given up after three tries.
                         gets_on(number, rng.randrange(1, 10), lambda: job.poll() is not None)
                 finally:
                     kill(job)

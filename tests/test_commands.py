@@ -14,7 +14,7 @@ from program import Program, Skipped
 from test_serve_disks import Disk, file_system
 from waiting import is_read
 
-# What a command says behind the line of a refusal.
+# The second lines of commands, after that of a refusal.
 DAMAGED = "F: its slots give no answer: see snapd check F"
 FORMATTED = "F: it is formatted already: see snapd check F"
 
@@ -95,7 +95,7 @@ def test_a_hundred_stores(snapd, _):
         snapd("get", "F").gave(0, value)
         stored.append((number, value))
         data = file.read_bytes()
-        # The two newest are open. Behind the closed gate stands what a store left there, two numbers before.
+        # The two newest are open. The slot with the closed gate has what a store left there, two numbers before.
         assert data == closed_behind(layout.holding(*stored[-3:]), (number + 1) % 3), number
         snapd("check", "F").gave(0, layout.findings(data))
 
@@ -141,7 +141,7 @@ def test_wrong_lengths(snapd, _):
 
 
 def test_a_format_that_was_cut_off(snapd, _):
-    """It leaves a file of no byte, and the command that goes on is told."""
+    """It leaves a file of 0 bytes, and the command that continues is printed."""
     snapd.file().write_bytes(b"")
     for words, place in [
         (("put", "F"), "--index 0 --count 1"),
@@ -156,7 +156,7 @@ def test_a_format_that_was_cut_off(snapd, _):
 
 
 def test_unformatted(snapd, _):
-    """A file of the right length may hold something behind a header that is gone, which a format ends."""
+    """A file of the right length may have lost its header but not its values, which a format overwrites."""
     zeros = bytes(layout.LENGTH)
     snapd.file().write_bytes(zeros)
     for command in ("get", "put"):
@@ -209,7 +209,7 @@ def at(words, path):
 
 
 def by_nobody(snapd):
-    """A copy of the program that each user can run, a user who isn't root, and how that one runs it."""
+    """A copy of the program that each user can run, a user other than root, and how that user runs it."""
     os.chmod(snapd.folder, 0o755)
     if os.geteuid() != 0:
         return snapd, os.geteuid(), {}
@@ -234,7 +234,8 @@ def test_what_isnt_there_comes_with_its_remedy(snapd, _):
 
 
 def test_what_is_denied_comes_with_its_remedy(snapd, _):
-    """By the file, by the folder it is in, and by one above that, to who isn't root: whose it is, and who is asking."""
+    """By the file, by its folder, and by one above that, to a user other than root: the owner and the user are
+    printed."""
     file = snapd.formatted()
     folder = snapd.file("D")
     (folder / "E").mkdir(parents=True)
@@ -442,7 +443,8 @@ def test_the_reason_of_a_failed_call_is_told(snapd, _):
 
 
 def test_a_folder_that_isnt_synced(snapd, _):
-    """Where the system syncs none, or not for this user, nothing has failed. Each other reason ends a format, and the next goes on."""
+    """If the system syncs no folders, or not for this user, nothing has failed. Each other reason ends a format, and
+    the next one continues."""
     disk, place = Disk(snapd), snapd.file("D")
     place.mkdir()
     made, file = "formatted 0 of 1\n", place / "F"

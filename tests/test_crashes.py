@@ -6,9 +6,8 @@ Then the machine is made to crash at every point of that record: each write befo
 and each write after it is pending. A disk may have kept any part of what is pending, so many files are made, in
 which the pending ranges hold
 
-- nothing of it, or all of it;
-- a random subset of its 512-byte sectors, or of its single bytes;
-- all zeros, all A5, or random bytes: more than a disk does, since the file must stand even that.
+- nothing of it, or all of it; - a random subset of its 512-byte sectors, or of its single bytes; - all zeros, all A5,
+or random bytes: more than a disk does, since the file must survive even that.
 
 On each such file `get` has to answer the value from before the call or the new one, `check` has to agree with the
 format, and the next `put` has to work. Once the last sync is done, only the new value will do. The seed is printed by
@@ -165,8 +164,8 @@ def test_crash_upon_crash(snapd, random):
         was = answer
 
 
-# What the file holds before a `put`, and how many calls it makes: two open the file, four look whether it was overwritten, and the
-# store makes four, or five where the number before is open too.
+# What the file holds before a `put`, and how many calls it makes: two open the file, four check whether it was
+# overwritten, and the store makes four, or five if the number before is open too.
 STORES = [([(0, b"")], 10), ([(0, b""), (1, b"one")], 11), ([(2, b"two"), (1, b"one")], 11), ([(2, b"two")], 10)]
 
 
@@ -192,8 +191,8 @@ def calls_of(snapd, before, *words, **more):
 
 
 def test_every_call_fails(snapd, _):
-    """Each call on the file in turn fails, or takes no byte: refused 13, and the file holds the old value or the new.
-    A call that moves only some bytes, or that a signal interrupts, is gone on with."""
+    """Each call on the file in turn fails, or takes no byte: refused 13, and the file holds the old value or the new. A
+    call that moves only some bytes, or that a signal interrupts, is continued."""
     for slots, calls in STORES:
         before = layout.holding(*slots)
         was = layout.answer_of(before)
@@ -256,7 +255,7 @@ def test_killed_two_hundred_times(snapd, random):
         # About as long as a put takes.
         moment(random, min(0.1, (time.monotonic() - began) / (wanted + 1)))
         os.killpg(run.pid, signal.SIGKILL)
-        # Whatever the loop has started has ended once nobody holds its standard error, and its lock ends with it.
+        # All processes of the loop have ended once its standard error is closed, and its lock ends with them.
         said = run.communicate()[1]
         assert said == b"", said
         with open(snapd.file(), "rb") as file:

@@ -65,7 +65,7 @@ def test_first_reason(snapd, _):
         ((bad_gate, (gate, b"\0")), "gate"),
     ]:
         is_refused(snapd, changed(WHOLE, *places), 10, "Damaged", [HEADER, *with_slot(0, f"slot 0 bad {why}"), "answer none"])
-    # And behind a closed gate of the slot that nothing was stored in.
+    # And a bad gate of the slot that nothing was stored in.
     bad_gate = changed(WHOLE, (gate_at(2) + BLOCK - 1, b"\1"))
     is_refused(snapd, bad_gate, 10, "Damaged", [HEADER, *with_slot(2, "slot 2 bad gate"), "answer none"])
 
@@ -103,7 +103,7 @@ def test_any_two_slots_answer(snapd, _):
 
 
 def test_closed_slots_are_not_looked_at(snapd, _):
-    """Any byte but A5 closes a gate, and what stands behind a closed gate is any bytes."""
+    """Any byte but A5 closes a gate, and a slot with a closed gate may have any bytes."""
     for byte in (0x00, 0x01, 0x5A, 0xA4, 0xFF):
         data = changed(WHOLE, (gate_at(0), bytes([byte])), (body_at(0), b"\xff" * BLOCK))
         snapd.file().write_bytes(data)

@@ -34,7 +34,7 @@ def told(snapd, status, *words):
 
 
 def lines(snapd, status, *words):
-    """The same, in front of the line of the file system and behind it."""
+    """The same, split into the lines before that of the file system and after it."""
     output = told(snapd, status, *words)
     kept = KEPT.search(output)
     assert kept, output
@@ -96,8 +96,8 @@ def test_what_is_wrong_with_a_file_comes_with_its_remedy(snapd, _):
 
 
 def test_one_bad_file_in_each_place(snapd, _):
-    """First, in the middle and last, alone and beside one in use: each other file is told as it is, and a server refuses the bad
-    one by name, in both of its forms, and takes none."""
+    """First, in the middle and last, alone and beside one in use: each other file is reported as it is, and a server
+    refuses the bad one by name, in both of its forms, and opens none."""
     place = folder(snapd, 3)
     files = [f"D/{name_of(index)}" for index in range(3)]
     fresh = files_in(place)
@@ -157,7 +157,7 @@ def test_a_file_in_use_is_left_to_who_has_it(snapd, _):
         began = time.monotonic()
         assert snapd("doctor", "E").output.count(b"has it: ask it") == 8
         assert 0.9 < time.monotonic() - began < 5
-    # A reader keeps nobody out who reads.
+    # A reader doesn't exclude other readers.
     with locked(place / name_of(0), fcntl.LOCK_SH):
         assert lines(snapd, 0) == (at(0, 2, 0) + at(1, 2, 0) + SERVE_IT, "")
 
@@ -187,13 +187,13 @@ def test_a_measure_that_is_killed_leaves_its_file_to_the_next(snapd, _):
         doctor.kill()
         doctor.wait()
     assert STORES.search(told(snapd, 0, "--measure"))
-    # One that was killed before it had its lock leaves a name without a byte, which keeps nobody out.
+    # One that was killed before it had its lock leaves an empty file, which is in nobody's way.
     left = {name: data for name, data in files_in(place).items() if data}
     assert left == before, left
 
 
 def test_others_of_these_names_are_spared(snapd, _):
-    """What has another length, or is in use, is somebody's."""
+    """A file of another length, or in use, belongs to another process."""
     place = folder(snapd, 1)
     (place / "doctor-0.tmp").write_bytes(b"notes")
     (place / "doctor-1.tmp").write_bytes(bytes(layout.LENGTH))
@@ -214,7 +214,7 @@ def test_others_of_these_names_are_spared(snapd, _):
 # ---- two at once ----
 
 def at_once(count, do):
-    """What each of so many gives that are begun together."""
+    """The results of `count` calls that begin together."""
     with concurrent.futures.ThreadPoolExecutor(count) as pool:
         return [it.result() for it in [pool.submit(do, number) for number in range(count)]]
 
@@ -351,8 +351,8 @@ def cannot_serve(index, reason, remedy):
 
 
 def test_a_folder_that_this_user_cant_serve(snapd, _):
-    """Files that he may only read, or not even that, and a folder that he may not list: whose they are is said, and nothing is
-    written. One that he could serve is told so beside them."""
+    """Files that the user may only read, or not even that, and a folder that the user may not list: their owner is
+    printed, and nothing is written. A file that the user could serve is reported as such."""
     place = folder(snapd, 2)
     files = [place / name_of(index) for index in range(2)]
     own, user, by_him = by_nobody(snapd)
@@ -382,7 +382,7 @@ def test_a_folder_that_this_user_cant_serve(snapd, _):
     for it in files:
         it.chmod(0o666)
     assert own("doctor", "D", **by_him).output.decode().startswith(at(0, 2, 0) + at(1, 2, 0) + SERVE_IT)
-    # Who can't make a file there measures nothing.
+    # A user who can't make a file there measures nothing.
     place.chmod(0o555)
     run = own("doctor", "D", "--measure", **by_him)
     wanted = f"D: nothing could be stored: {remedies.DENIED}\n" + remedies.owned("D", place, user) + "\n"
@@ -394,7 +394,7 @@ def test_a_folder_that_this_user_cant_serve(snapd, _):
 
 
 def test_a_pipe_that_this_user_may_only_read(snapd, _):
-    """It is no segment's file, and nobody waits for a writer, also beside one in use."""
+    """It is no segment file, and is reported without waiting for a writer, also beside a file in use."""
     place = folder(snapd, 1)
     own, user, by_him = by_nobody(snapd)
     os.mkfifo(place / "a.seg")

@@ -138,14 +138,14 @@ def test_what_no_clause_says_has_a_test_or_says_that_it_has_none(snapd, random):
             shown.add((target, name))
             test = rf"^def {name}\(" if target.endswith(".py") else rf"#\[test\]\s+fn {name}\b"
             assert re.search(test, source, re.M), f"{target} has no test {name}"
-    # The tests that were written for such rows stand in them.
+    # The tests that were written for such rows are named in them.
     for name in re.findall(r"^def (test_\w+)", (TOP / "tests" / "test_unsaid.py").read_text(), re.M):
         assert ("../tests/test_unsaid.py", name) in shown, f"{name} is in no row"
 
 
-# Of these every function was gone through for the table.
+# In these every function was checked for the table.
 GONE_THROUGH = ("snap_server/src", "snap_serve/src", "snapd/src", "snap_devices/src/file.rt")
-# Functions with no clause of their own that stand in no row, by why they don't.
+# Functions with no clause of their own that are in no row, by the reason.
 IN_NO_ROW = {
     "its trait's clauses are its own": (
         ("snap_devices/src/file.rt", "failures len from"),
@@ -231,7 +231,7 @@ def test_the_table_of_crates_is_as_its_script_writes_it(snapd, random):
 
 
 def constant(name, file):
-    """The number that a constant of this file stands for. Another one that it names stands in the same crate."""
+    """The value of a constant of this file. A constant that it names is in the same crate."""
     stated = re.search(rf"\bconst {name}: \w+ = ([^;]+);", file.read_text())
     assert stated, f"{file} has no number {name}"
 
@@ -309,7 +309,8 @@ def test_above_the_registers_nobody_names_their_table(snapd, random):
 
 
 def test_files_are_called_by_nouns(snapd, random):
-    """No file of code, definitions or lemmas is called by what somebody is doing; where a writer stands is its standing, and what is read of figures a reading."""
+    """No file of code, definitions or lemmas has the name of an activity; the status of a writer is its standing, and a
+    snapshot of figures is a reading."""
     files = [it for part in ("src", "specs", "proofs") for it in TOP.glob(f"crates/*/{part}/**/*") if it.suffix in (".rt", ".antt")]
     assert len(files) > 500
     assert {it.name for it in files if it.stem.lower().endswith("ing")} == {"standing.rt", "reading.rt"}

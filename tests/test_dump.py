@@ -85,7 +85,7 @@ def entries_in(text):
 
 
 def dumped(snapd, whose, *more):
-    """The entries of a dump, after a look at its time."""
+    """The entries of a dump, after a check of its time."""
     before = time.time()
     run = snapd("dump", whose, *more)
     assert (run.status, run.errors) == (0, ""), run
@@ -194,7 +194,7 @@ def test_a_job_grows(snapd, _):
 
 
 def test_a_loaded_folder_goes_on(snapd, _):
-    """Its numbers are kept, so a job goes on where it was."""
+    """Its numbers are kept, so a job continues where it was."""
     write(snapd, document([(5, b"five"), (0, b"")]))
     snapd("load", "E", "dump").gave(0, loaded([(5, b""), (0, b"")], "E"))
     with Server(snapd, "--dir", "E") as server:
@@ -288,7 +288,7 @@ def test_a_folder_that_a_server_has(snapd, _):
         assert dumped(snapd, server.address) == [(1, b"x"), (2, b"y")]
     with locked(place / name_of(1), fcntl.LOCK_EX):
         snapd("dump", "D").gave(1, errors=f"snapd: {in_use.replace(name_of(0), name_of(1))}\n")
-    # Those who read keep nobody out.
+    # Readers exclude no other reader.
     with locked(place / name_of(1), fcntl.LOCK_SH):
         assert dumped(snapd, "D") == [(1, b"x"), (2, b"y")]
 

@@ -50,7 +50,7 @@ def test_an_output_that_fails_at_any_byte(snapd, _):
 
 
 def test_an_init_whose_output_fails_at_any_byte(snapd, _):
-    """The file of a line that was begun is made, or kept. The next init keeps it, and goes on."""
+    """The file of a line that was begun is made, or kept. The next init keeps it, and continues."""
     place, kept = snapd.file("D"), made(2, kept=[(0, 0), (1, 0)])
     for whole in (made(2), kept):
         for count in range(len(whole)):
@@ -76,7 +76,7 @@ def test_errors_that_can_not_be_written(snapd, _):
             snapd("get", "F", env=failing(2, count, step)).gave(3, errors=REFUSED[:count])
 
 
-# ---- want of memory ----
+# ---- memory that runs out ----
 
 FAILED = "snapd: refused 13 DeviceFailed\n"
 IN_VAIN = "look after its disk, and try again\n"

@@ -276,7 +276,7 @@ def test_init_where_the_folder_takes_no_file(snapd, _):
 def test_init_of_a_file_in_use(snapd, _):
     place = folder(snapd, 2)
     in_use = f"snapd: D/{name_of(1)}: it is in use by another snapd\n"
-    # Who writes it keeps out who would look whether it was stored to; who reads it only keeps out who would write it.
+    # A writer excludes the check whether it was stored to; a reader only excludes writers.
     for how, output in ((fcntl.LOCK_EX, ""), (fcntl.LOCK_SH, "kept 0 of 2 number 0\n")):
         with locked(place / name_of(1), how):
             snapd("init", "D", "--count", 2).gave(1, output, in_use)

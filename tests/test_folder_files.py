@@ -39,7 +39,7 @@ FAULTS = [
 
 
 def folder_of(snapd, places):
-    """The folder D with these files. Each holds a number that tells its place in the list."""
+    """The folder D with these files. Each has its place in the list as its number."""
     place = snapd.file("D")
     shutil.rmtree(place, ignore_errors=True)
     place.mkdir()
@@ -78,7 +78,7 @@ def test_names_of_segments(snapd, _):
             serve(snapd).gave(3, errors="snapd: D: it has no segment file: make them with snapd init D --count N\n")
 
 
-# Names, a count, and whether a file of that name is none of so many segments, though it has the name of one.
+# Names, a count, and whether a file of that name is of a segment above that count.
 FURTHER = [
     ("segment-04.seg", 4, True),
     ("segment-15.seg", 4, True),

@@ -1,5 +1,5 @@
-"""`snapd serve` and peers that vanish: their machine or its network fails, and no end and no reset comes from them. They hold a
-descriptor each until they are let go of, by `--idle` or since they answer no question of the system's."""
+"""`snapd serve` and peers that vanish: their machine or its network fails, and send neither an end nor a reset. Each
+holds a descriptor until the server closes it, by `--idle` or because it answers no keepalive probe."""
 
 import ctypes
 import socket
@@ -19,8 +19,8 @@ EMPTY = snapshot((0, b""))
 
 
 def vanish(stream):
-    """From here on nothing reaches this peer and nothing answers for it, as where its machine is without power. It stays open: of a
-    close the server would be told."""
+    """From here on nothing reaches this peer and nothing answers for it, as if its machine had no power. It stays open,
+    since the server would notice a close."""
     program = ctypes.create_string_buffer(NOTHING, len(NOTHING))
     try:
         stream.setsockopt(socket.SOL_SOCKET, ATTACH_FILTER, struct.pack("HP", 1, ctypes.addressof(program)))
@@ -44,8 +44,8 @@ def ends(server):
 
 
 def test_silent_peers_that_vanished_make_room(snapd, _):
-    """One had said all it had to say, one was within a request, and of one the reply is still on its way. By `--idle` they are let
-    go of, and who waits for their room is answered."""
+    """One was idle, one was within a request, and one still waits for its reply. `--idle` closes them, and callers that
+    wait for their room are answered."""
     with Server(snapd, *fresh(snapd, 1), more=("--idle", 1, "--clients-max", 3, "--log", "debug")) as server:
         gone = [server.connect() for _ in range(3)]
         assert all(answered(stream, EMPTY) for stream in gone)
@@ -64,9 +64,9 @@ def test_silent_peers_that_vanished_make_room(snapd, _):
 
 
 def test_peers_that_vanished_are_found_gone(snapd, _):
-    """While a disk hangs, too: the descriptors come back of those whose update is under way and who vanished, or closed. Who is as
-    silent and answers the system's questions is kept, and the updates of all are stored. The questions come after a second
-    and each second here, and six go without an answer."""
+    """While a disk hangs, too: peers with an update under way that vanished or closed give their descriptors back.
+    Peers that are as silent but answer keepalive probes are kept, and all updates are stored. Here the probes come
+    after a second and each second, and six go unanswered."""
     disk = Disk(snapd)
     env = disk.env | {"LD_PRELOAD": f"{disk.env['LD_PRELOAD']}:{library('keepalive')}"}
     # One worker, so that updates come to their segment in the order in which they are sent.

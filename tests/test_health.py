@@ -15,7 +15,7 @@ def health(snapd, server, *more):
 
 
 def test_a_server_is_healthy_until_a_disk_fails(snapd, _):
-    """Each fence is told at once, in order of segment, and for good: until the server is started again."""
+    """Each fence is reported at once, in order of segment, until the server is started again."""
     disk = Disk(snapd)
     files = segments(snapd, TWO, FRESH, TWO)
     with Server(snapd, *files, env=disk.env) as server:
@@ -29,7 +29,7 @@ def test_a_server_is_healthy_until_a_disk_fails(snapd, _):
         snapd("call", server.address, "update", 0, 3, "00").gave(3, errors="snapd: refused 13 DeviceFailed 2\n")
         disk.says()
         health(snapd, server, "--tries", 3).gave(3, "fenced 0\nfenced 2\n")
-        # What isn't fenced goes on, and the words of a status stay, with its status.
+        # Other segments are still served, and a status has the same text and exit status as before.
         snapd("call", server.address, "update", 1, 1, "00").gave(0, "stored 1\n")
         status = "segment 0 number 2 fenced 1\nsegment 1 number 1 fenced 0\nsegment 2 number 1 fenced 1\n"
         snapd("call", server.address, "status").gave(0, status)
@@ -62,7 +62,7 @@ def test_a_script_sees_the_fence(snapd, _):
 
 
 def test_who_doesnt_answer_isnt_healthy(snapd, _):
-    """Nobody there, and a peer that answers something else, are told as of a status."""
+    """No server, and a peer that answers something else, are reported as for a status."""
     port = free_port()
     for request in ("status", "health"):
         wanted = f"snapd: 127.0.0.1:{port}: no connection to the server could be made\n"

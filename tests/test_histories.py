@@ -87,7 +87,7 @@ def test_wrong_histories(_, __):
 
 
 def drawn(rng):
-    """A small history at random: nobody is at two things at once, and the scans show any numbers."""
+    """A small history at random: each client does one thing at a time, and the scans show any numbers."""
     updates, scans = [], []
     for segment in range(2):
         times = sorted(rng.sample(range(12), 4))

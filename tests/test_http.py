@@ -1,4 +1,5 @@
-"""`snapd serve --http`: what browsers and monitors are told, number for number, and that no peer of theirs holds anybody up."""
+"""`snapd serve --http`: its replies to browsers and monitors, number for number, and that none of them blocks another
+client."""
 
 import base64
 import contextlib
@@ -37,7 +38,7 @@ def asked(server, *pairs):
 
 
 def numbers(samples, name):
-    """The samples of this name, by what stands between the quotes of their last label."""
+    """The samples of this name, by the value of their last label."""
     found = {key.split('"')[-2]: value for key, value in samples.items() if key.startswith(name + "{")}
     assert found, name
     return {key: int(value) for key, value in found.items()}
@@ -87,7 +88,7 @@ def test_metrics_are_those_of_a_known_list_of_requests(snapd, _):
         assert numbers(found, "snapd_segment_fenced") == {"0": 0, "1": 0, "2": 1}
         assert int(found["snapd_connections_total"]) == 1
         comes_to("0", lambda: server.metrics()["snapd_connections_open"])
-        # A scan of three segments that nobody writes takes two looks at each, and one of one segment two.
+        # A scan of three segments without writers takes two looks at each, and one of one segment two.
         assert found["snapd_scan_looks_total"] == str(6 + 6 + 2), found["snapd_scan_looks_total"]
 
 
@@ -104,7 +105,8 @@ def test_frames_that_are_no_requests_are_among_the_refusals(snapd, _):
 
 
 def test_stores_are_timed(snapd, _):
-    """Each histogram counts each store once, its buckets add up and end in all of them, and its bounds are those that are told."""
+    """Each histogram counts each store once, its buckets add up and end in all of them, and its bounds are the
+    documented ones."""
     with SeenServer(snapd, *fresh(snapd, 2)) as server:
         asked(server, *((update(0, number, b"v"), stored(number)) for number in range(1, 41)))
         found = server.metrics()
@@ -131,7 +133,7 @@ def test_a_monitor_takes_the_metrics(snapd, _):
 
 
 def test_sixteen_segments_and_fifteen_workers_are_summed(snapd, _):
-    """Each worker counts by itself, and what is told is all of them together."""
+    """Each worker counts by itself, and the sum is reported."""
     with SeenServer(snapd, *fresh(snapd, 16), scanners=15) as server:
         for _ in range(45):
             server.ask(STATUS, standings(*[(0, False)] * 16))
@@ -208,7 +210,7 @@ def test_lines_that_the_log_loses_are_counted(snapd, _):
 
 
 def test_documents_are_those_of_a_call(snapd, _):
-    """`/scan` and `/status` are what `snapd call --json` prints; a value that is no text is told in base64."""
+    """`/scan` and `/status` are what `snapd call --json` prints; a value that isn't text is in base64."""
     with SeenServer(snapd, *segments(snapd, TWO, [(0, b""), (1, b"\x00\xff")])) as server:
         for path, request in (("/scan", "scan"), ("/status", "status")):
             told = snapd("call", server.address, request, "--json")
@@ -252,7 +254,8 @@ def test_head_and_what_is_not_there(snapd, _):
 # ---- places ----
 
 def test_where_it_can_t_listen(snapd, _):
-    """A taken port, a name that isn't there and words that are no address are told by their own text, and no file is touched."""
+    """A port in use, an unknown name and words that are no address have messages of their own, and no file is
+    touched."""
     files = fresh(snapd, 1)
     before = snapd.file(files[0]).read_bytes()
     with socket.create_server(("127.0.0.1", 0)) as taken:
@@ -302,7 +305,8 @@ def answers_to(server, data):
 
 
 def test_whatever_comes_gets_an_answer_or_a_close(snapd, rng):
-    """Requests that are none, heads without end, bodies, requests cut at each place, and noise. The server goes on."""
+    """Requests that are none, heads without end, bodies, requests cut at each place, and noise. The server
+    continues."""
     with SeenServer(snapd, *segments(snapd, TWO)) as server:
         for data, wanted in (
             (b"GET / HTTP/9.9\r\n\r\n", b"HTTP/1.1 400 "),
@@ -377,7 +381,7 @@ def shown(url, folder, *more):
 
 
 def keep_updating(server, segment, ended):
-    """One writer, which updates its segment until it is told to end."""
+    """One writer, which updates its segment until `ended` is set."""
     with server.connect() as stream:
         for number in range(1, 10**9):
             if ended.is_set():
@@ -420,7 +424,7 @@ def test_the_page_shows_the_board(snapd, _):
 
 
 def test_the_page_shows_the_minutes_before_it(snapd, _):
-    """By a real browser, of a server that has run for some seconds: the course of its updates stands there at once."""
+    """By a real browser, of a server that has run for some seconds: the course of its updates is there at once."""
     with SeenServer(snapd, *fresh(snapd, 1)) as server:
         with writers(server, 0):
             comes_to(True, lambda: len(server.document("/history")["samples"]) >= 6)

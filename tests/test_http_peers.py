@@ -45,8 +45,8 @@ def is_over(peer):
 
 
 def test_who_does_not_get_on_is_let_go_of_after_ten_seconds(snapd, _):
-    """Who says nothing, who stops within a request and who doesn't read: not before, and not much later. Who gets on stays: by a
-    byte of its request now and then, or by a request."""
+    """A peer that is silent, one that stops within a request and one that doesn't read: not before, and not much later.
+    One that makes progress stays: by a byte of its request now and then, or by a request."""
     with SeenServer(snapd, *fresh(snapd, 1)) as server, contextlib.ExitStack() as open_ones:
         silent, half, deaf, drips, asks = (
             open_ones.enter_context(it) for it in (server.call_http(), server.call_http(), narrow(server), server.call_http(), server.call_http())
@@ -137,7 +137,7 @@ def test_who_asks_without_end_keeps_nobody_waiting(snapd, _):
 
 
 def test_a_server_that_nobody_looked_at_ends(snapd, _):
-    """With no connection of a browser, now or ever: who waits for one is woken."""
+    """Without any connection over HTTP: the thread that waits for one is woken."""
     with SeenServer(snapd, *fresh(snapd, 1), connections=1) as server:
         server.ask(STATUS, standings((0, False)))
         assert server.end().gave(0, b"served 1\n", server.errors.read_text())

@@ -114,7 +114,7 @@ def test_nothing_is_made_of_a_folder_that_lost_a_file(snapd, _):
 
 
 def test_a_boot_script_sees_the_loss(snapd, _):
-    """As the issue was found: a server of five segments, one of which is gone at the next boot."""
+    """As the issue was found: a server of five segments, one of which is missing at the next boot."""
     script = 'set -e; "$0" init board --count 5 > made; "$0" serve 127.0.0.1:0 --dir board --connections 0'
 
     def boot():
@@ -155,7 +155,7 @@ def test_files_of_other_names_are_kept(snapd, _):
 
 
 def test_a_lost_file_beside_one_in_use(snapd, _):
-    """A server has the others: nothing is made, and it is said who has them."""
+    """A server has the others: nothing is made, and the file in use is named."""
     place = folder(snapd, (0, 2, 0))
     in_use = f"snapd: D/{name_of(1)}: it is in use by another snapd\n"
     for lost_one in (0, 2):
@@ -269,7 +269,7 @@ def test_a_user_who_isnt_root(snapd, _):
 
     place = folder(snapd, (2, None, 0))
     os.chmod(place, 0o755)
-    # What it may only read tells it that a file was lost.
+    # A file that it may only read shows that one was lost.
     before = files_in(place)
     nobody("D", "--count", 3).gave(3, errors=lost([name_of(1)], name_of(0), 2, 3))
     nobody("D", "--count", 3, "--missing-empty").failed_with(1, f"D/{name_of(0)}: Permission denied")
@@ -286,7 +286,7 @@ def test_a_user_who_isnt_root(snapd, _):
     assert (run.status, run.output) == (1, b"kept 0 of 3 number 2\nformatted 1 of 3\n"), run
     assert run.errors.startswith(f"snapd: D/{name_of(2)}: Permission denied"), run
     assert os.stat(place / name_of(1)).st_uid == NOBODY
-    # A folder that may not be read, and one that may not be gone into.
+    # A folder that may not be read, and one that may not be entered.
     for mode in (0o700, 0o744):
         os.chmod(place, mode)
         nobody("D", "--count", 3).failed_with(1, "D", "Permission denied")
@@ -316,7 +316,7 @@ def test_no_room_and_only_to_be_read(snapd, _):
                 subprocess.run(["mount", "-o", "remount,size=1m,nr_inodes=100", place], check=True)
                 init(snapd, 2, folder="disk/D").gave(0, made(2, kept=[(0, 0)] if output else ()))
                 assert files_in(place / "D") == fresh_files(2)
-                # What is whole needs nothing but to be read and locked, and yet is only for who may write.
+                # A whole file is only read and locked, but it has to be writable.
                 subprocess.run(["mount", "-o", "remount,ro", place], check=True)
                 init(snapd, 2, folder="disk/D").failed_with(1, f"disk/D/{name_of(0)}: Read-only file system")
         finally:
@@ -325,7 +325,8 @@ def test_no_room_and_only_to_be_read(snapd, _):
 
 
 def test_each_call_fails(snapd, _):
-    """Each call in turn, with each error that is a fault of a disk or a file system: it is said of which file, and the next init goes on."""
+    """Each call in turn, with each error that is a fault of a disk or a file system: the file is named, and the next
+    init continues."""
     place = snapd.file("D")
     run, events = changes.run(snapd, "init", "D", "--count", "2")
     run.gave(0, made(2))
@@ -355,7 +356,7 @@ def test_each_call_fails(snapd, _):
 
 
 def test_each_allocation_is_refused(snapd, _):
-    """Refused 8, and what was made stays; or the loss is told, or what is wrong with a file."""
+    """Refused 8, and files that were made stay; or the loss is reported, or the fault of a file."""
     place = folder(snapd, (2, None, 0))
     before = files_in(place)
     for more, status in (((), 3), (("--missing-empty",), 0)):
@@ -375,7 +376,7 @@ def test_each_allocation_is_refused(snapd, _):
 # ---- a power cut ----
 
 def test_what_it_says_is_for_good(snapd, _):
-    """Whatever a power cut takes that wasn't synced: of a file that is told, and of the folder's own name, nothing is left open."""
+    """Whatever unsynced data a power cut takes: a file that was reported, and the folder's own name, are synced."""
     for name in ("D", "D", "o/E", "./G"):
         snapd.file("o").mkdir(exist_ok=True)
         kept = enumerate((0, 0, 0)) if snapd.file(name).exists() else ()
@@ -391,7 +392,7 @@ def test_what_it_says_is_for_good(snapd, _):
 
 
 def test_it_is_killed_at_each_call(snapd, _):
-    """The next init goes on, and leaves nothing open that the first one did; so does the one behind that."""
+    """The next init continues, and leaves nothing unsynced that the first one did; so does the one after that."""
     place = snapd.file("D")
     _, all_events = changes.run(snapd, "init", "D", "--count", "2")
     shutil.rmtree(place)
@@ -439,7 +440,8 @@ def judge(told, count):
 
 
 def test_an_init_beside_one_that_is_stopped(snapd, _):
-    """At each call of the one: the other makes what is lacking, or says which file the first one has; and then the first one goes on."""
+    """At each call of the one: the other makes what is missing, or names the file that the first one has; and then the
+    first one continues."""
     _, events = changes.run(snapd, "init", "D", "--count", "2")
 
     def beside(at):
@@ -460,7 +462,7 @@ def test_an_init_beside_one_that_is_stopped(snapd, _):
 
 
 def test_a_lost_file_is_made_once(snapd, _):
-    """By one of several who ask for it."""
+    """By one of several processes that ask for it."""
     place = folder(snapd, (5, None, 6))
     before = files_in(place)
     runs = [subprocess.Popen([snapd.path, "init", "D", "--count", "3", "--missing-empty"], cwd=snapd.folder, stdout=subprocess.PIPE,

@@ -30,7 +30,7 @@ def dump(snapd):
 
 
 def standing(place):
-    """Whose a folder is, and who may do what with it."""
+    """The owner, group and mode of a folder."""
     found = os.stat(place)
     return found.st_uid, found.st_gid, stat.S_IMODE(found.st_mode)
 
@@ -60,7 +60,7 @@ def as_nobody(program, *words):
 # ---- what is taken over ----
 
 def test_an_empty_folder_keeps_its_mode(snapd, _):
-    """And nobody can look into what is being made, who couldn't look into it."""
+    """And the folder in the making is as closed as the wanted one."""
     dump(snapd)
     for mode in (0o700, 0o750, 0o1777, 0o2770, 0o711):
         place = snapd.file("E")
@@ -143,7 +143,7 @@ def test_a_folder_that_isnt_empty_is_left(snapd, _):
 # ---- each of the errors ----
 
 def test_a_user_who_isnt_root(snapd, _):
-    """Each thing that may be in the way of one: told, and nothing is made."""
+    """Everything that such a user may lack: it is reported, and nothing is made."""
     other = for_all(snapd)
     dump(snapd)
     place, left = snapd.file("E"), snapd.file("E.loading")
@@ -168,7 +168,7 @@ def test_a_user_who_isnt_root(snapd, _):
         refused(as_nobody(other, "load", "E", "dump"), "E", not_given("E", owner, group, 0o755))
         assert standing(place) == (owner, group, 0o755) and not files_in(place) and not left.exists()
         place.rmdir()
-    # A folder that nobody but its owner may read, and one in which its owner may make nothing.
+    # A folder that only its owner may read, and one in which its owner may make nothing.
     empty(0, 0, 0o700)
     as_nobody(other, "load", "E", "dump").failed_with(1, "E: Permission denied")
     place.rmdir()
@@ -328,7 +328,7 @@ def test_nothing_of_it_is_open_when_it_gets_its_name(snapd, _):
 
 
 def judge(events, still):
-    """A file is for good when it is told, all of them are at the renaming, and that is at the last line."""
+    """A file is synced before it is reported, all of them before the renaming, and that before the last line."""
     until = copy.deepcopy(still)
     for event in events[: events.index(("rename", "E.loading", "E"))]:
         until.take(event)

@@ -1,4 +1,4 @@
-"""One `snapd` on a file at a time: who writes it shuts all others out, and readers shut out who would write."""
+"""One `snapd` on a file at a time: a writer excludes all others, and readers exclude writers."""
 
 import fcntl
 import os
@@ -89,7 +89,7 @@ def test_put_has_its_file_from_its_beginning(snapd, _):
             [snapd.path, "put", "F"], cwd=snapd.folder, stdin=subprocess.PIPE, stdout=subprocess.PIPE, stderr=subprocess.PIPE
         )
         try:
-            # It has its lock before it reads. To look for the lock by another one would be in its way.
+            # It has its lock before it reads. A try for the lock would be in its way.
             put.stdin.write(b"h")
             put.stdin.flush()
             is_read(put.stdin)

@@ -13,7 +13,7 @@ from test_serve_disks import Disk
 from test_serve_memory import Memory, of_both
 from waiting import PATIENCE, comes_to, wait_until
 
-# Tells the program that what it has as standard error is the journal's; and that it has another stream.
+# Starts a program whose JOURNAL_STREAM names its standard error, and one whose variable names another stream.
 JOURNAL = ("sh", "-c", 'JOURNAL_STREAM="$(stat -L -c %d:%i /proc/self/fd/2)" exec "$@"', "sh")
 ELSEWHERE = ("sh", "-c", 'JOURNAL_STREAM="$(stat -L -c %d:1%i /proc/self/fd/2)" exec "$@"', "sh")
 
@@ -83,7 +83,7 @@ def ends_of(server):
 
 
 def test_lines_that_find_no_memory_are_told_of(snapd, _):
-    """While there is none, connections end that nobody hears of; the next line that there is memory for says how many."""
+    """While there is none, ends of connections aren't logged; the next line that there is memory for says how many."""
     memory = Memory(snapd, "all")
     with Server(snapd, *fresh(snapd, 1), scanners=1, env=memory.env, more=("--log", "debug")) as server, server.connect() as last:
         streams = [server.connect() for _ in range(3)]

@@ -116,7 +116,7 @@ def test_the_page_names_all_that_help_names(snapd, _):
 
 
 def is_told_otherwise(line):
-    """Whether a line of help stands in the page in other words: headings, usage, and what each command has."""
+    """Whether a line of help has another form in the page: headings, usage, and what each command has."""
     return re.match(r"[A-Z][A-Za-z ]*:|  -h|  -V|Usage: |      --\S+ *<|  [<\[]", line) is not None
 
 
@@ -141,7 +141,7 @@ def test_words_of_help(snapd, _):
 
 
 def completed(snapd, *words):
-    """What bash offers for the last of these words behind `snapd`."""
+    """What bash offers for the last of these words after `snapd`."""
     run = subprocess.run(
         [wanted("bash"), "--norc", "-c", TRY, "bash", str(COMPLETIONS["bash"]), "snapd", *words],
         cwd=snapd.folder,

@@ -1,4 +1,5 @@
-"""What is told of a server and of a disk, each beside the same as the test measures it: no figure is too small, and none too large."""
+"""The figures of a server and of a disk, each compared with the test's own measurement: none is too small or too
+large."""
 
 import http.client
 import os
@@ -23,7 +24,7 @@ def in_process(server, file):
 
 
 def kilobytes(server, name):
-    """What the system tells of the memory, in bytes."""
+    """The system's figure of the memory, in bytes."""
     return int(re.search(rf"^{name}:\s+(\d+) kB$", in_process(server, "status"), re.M)[1]) * 1024
 
 
@@ -62,7 +63,8 @@ def test_times_of_a_server(snapd, _):
 
 
 def test_memory_and_descriptors_of_a_server(snapd, _):
-    """Beside what the system tells of the process, while nothing changes; the limits are those that it was started with."""
+    """Compared with the system's figures of the process, while nothing changes; the limits are those that it was
+    started with."""
     with SeenServer(snapd, *fresh(snapd, 2), scanners=3, descriptors=300) as server, server.connect() as client:
         client.sendall(STATUS)
         # The very connection that is asked by is open while the descriptors are counted.
@@ -153,7 +155,7 @@ def test_the_history_of_a_known_course(snapd, _):
         times = [it["uptime_milliseconds"] for it in found]
         rests = [late - early for early, late in zip(times, times[1:])]
         assert 2 < took and all(it >= 1_000 for it in rests) and times[-1] <= stats["uptime_milliseconds"], (took, times)
-        # So many in all that time, but for those that a busy machine was late with.
+        # One for each second, except for those that a busy machine was late with.
         between((len(found) - 1) * 1_000, stats["uptime_milliseconds"], (len(found) + 1) * 1_000 + took * 500)
         counts = [sum(it["store_counts"]) for it in found]
         assert counts[:2] == [0, 0] and counts[-1] == 30 and counts == sorted(counts), counts

@@ -61,7 +61,7 @@ def test_each_allocation_of_a_migration_is_refused(snapd, _):
 
 
 def test_refused_help_and_words(snapd, _):
-    """Words that can't be read for want of memory are no fault of the words."""
+    """If memory runs out for the words, that is no fault of theirs."""
     for words in (["--help"], ["get", "--help"], ["get"], ["frobnicate"]):
         plain = snapd(*words)
         for number in range(1, count_of(snapd, *words) + 1):

@@ -18,7 +18,7 @@ from waiting import moment
 
 OF_OLD = "OLD: refused as the old file: "
 OF_NEW = "F: refused as the new file: "
-# What is said of a file behind the line of its refusal.
+# The second lines about a file, after that of its refusal.
 OLD_WRONG = OF_OLD + f"it isn't the file of segment 0 of 1 with the {OLD.length} bytes of the old format"
 OLD_UNFORMATTED = OF_OLD + "it was never formatted, or its header is gone: look for a backup"
 OLD_DAMAGED = OF_OLD + "its slots give no answer: look for a backup"
@@ -50,7 +50,7 @@ def test_migrates(snapd, _):
 
 
 def test_every_answer_is_carried_over(snapd, random):
-    """Whatever an old file answers, the new one answers, in the slot of its number, and a later store goes on from it."""
+    """Whatever an old file answers, the new one answers, in the slot of its number, and a later store follows it."""
     last = 2**63 - 1
     for values in [
         [(0, b"")],

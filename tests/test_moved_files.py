@@ -1,4 +1,5 @@
-"""Files that are moved, removed or replaced under `snapd serve`: what would be stored where nobody finds it again is refused."""
+"""Files that are moved, removed or replaced under `snapd serve`: an update that would be stored in a lost file is
+refused."""
 
 import contextlib
 import os
@@ -10,12 +11,12 @@ from preload import library
 from serving import SCAN, STATUS, Server, fresh, refused, segments, snapshot, standings, stored, update
 
 TWO = [(0, b""), (1, b"hi")]
-# From then on a look at the folder tells of a moved file, in seconds.
+# From then on a check of the folder finds a moved file, in seconds.
 SETTLED = 3
 
 
 def test_a_file_that_is_moved_takes_no_update(snapd, _):
-    """Once the old file is back, a restart goes on from what was acknowledged."""
+    """Once the old file is back, a restart continues from what was acknowledged."""
     for how in ("removed", "renamed", "replaced", "replaced by a copy"):
         files = segments(snapd, TWO, TWO)
         path, aside = snapd.file("S0"), snapd.file("aside")
@@ -97,7 +98,7 @@ class Place:
 
 
 def test_a_file_that_is_moved_later_takes_no_update(snapd, _):
-    """When its folder was as it was for some seconds, and the last look at the file is younger than one."""
+    """After its folder hasn't changed for some seconds, within a second of the last check of the file."""
     moves = (remove, rename, rename_elsewhere, replace, rename_the_folder, replace_the_folder)
     ways = [(move, link) for move in moves for link in ("none", "to the folder", "to the file")]
     with contextlib.ExitStack() as servers:
@@ -126,7 +127,7 @@ def test_another_file_in_the_folder_is_no_move(snapd, _):
 
 
 def test_a_store_looks_at_the_folder_alone(snapd, _):
-    """A look at the file lets the next write change more than its bytes. So there is one a second, once the folder has settled."""
+    """A check of the file makes the next write more costly. So there is one a second, once the folder has settled."""
     place = snapd.file("place")
     place.mkdir()
     looks = snapd.file("looks")

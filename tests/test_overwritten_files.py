@@ -1,4 +1,4 @@
-"""Files that are overwritten or cut in place under `snapd serve`: no store goes into what somebody else wrote, and it is left as it is."""
+"""Files that are overwritten or cut in place under `snapd serve`: no store overwrites what another program wrote."""
 
 import errno
 import os
@@ -20,7 +20,7 @@ WHY = (
 
 
 def copied(snapd, *values, **more):
-    """Copies a file that holds these onto that of segment 0 of 2, as an operator would."""
+    """Copies a file with these values onto that of segment 0 of 2, as an operator would."""
     backup = snapd.file("backup")
     backup.write_bytes(layout.holding(*values, **{"index": 0, "count": 2, **more}))
     subprocess.run(["cp", backup, snapd.file("S0")], check=True)
@@ -55,7 +55,8 @@ WAYS = {
 
 
 def test_a_file_that_is_overwritten_takes_no_update(snapd, _):
-    """The next update is refused before a byte of it is written, the rest goes on, and a restart shows what was copied there."""
+    """The next update is refused before a byte of it is written, the other segments are served, and a restart shows
+    what was copied there."""
     for how, (overwrite, shown) in WAYS.items():
         files = segments(snapd, FIRST, TWO)
         with Server(snapd, *files) as server:
@@ -77,7 +78,7 @@ def test_a_file_that_is_overwritten_takes_no_update(snapd, _):
 
 
 def test_each_store_looks(snapd, _):
-    """The first behind a start, and each one behind it."""
+    """The first after a start, and each one after it."""
     for count in range(5):
         with Server(snapd, *segments(snapd, TWO)) as server:
             for number in range(2, 2 + count):
@@ -87,8 +88,8 @@ def test_each_store_looks(snapd, _):
 
 
 def test_what_is_still_there_is_not_overwritten(snapd, _):
-    """Its own bytes copied onto it, another time or mode, and a reader are no news. Nor is another value of the same number: the next
-    one stands beside it, and is there after a restart."""
+    """Its own bytes copied onto it, another time or mode, and a reader don't matter. Nor does another value of the same
+    number: the next one is stored beside it, and is there after a restart."""
     files = segments(snapd, TWO)
     path, aside = snapd.file("S0"), snapd.file("aside")
     with Server(snapd, *files) as server:

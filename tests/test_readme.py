@@ -46,7 +46,8 @@ def test_readme_script_prints_what_it_shows(snapd, random):
 
 
 def test_server_of_the_readme_survives_its_kill(snapd, random):
-    """The commands of the server's story in one shell, each printing what the README shows behind it. The port is a free one."""
+    """The commands of the server's story in one shell, each printing what the README shows after it. The port is a free
+    one."""
     block = next(it for it in EXAMPLES if "$ snapd serve" in it)
     commands, printed = [], ""
     for line in block.splitlines():
@@ -97,7 +98,7 @@ class Job:
         return self.run.poll() is not None
 
     def kill(self):
-        """Kills all that it started. They have ended when this returns, since nobody holds its output any more."""
+        """Kills all that it started. They have ended when this returns, since its output is closed."""
         with contextlib.suppress(ProcessLookupError):
             os.killpg(self.run.pid, signal.SIGKILL)
         self.run.communicate()

@@ -1,4 +1,4 @@
-"""Every listing of docs/RECIPES.md, run as it stands there: on real files, with kills of the jobs and of the server. Those of
+"""Every listing of docs/RECIPES.md, run unchanged: on real files, with kills of the jobs and of the server. Those of
 docs/REPLICATION.md are run by bench/replicated.py, which wants root."""
 
 import functools
@@ -60,7 +60,7 @@ def written(snapd, *names):
 
 
 def written_with(snapd, name, old, new):
-    """The listing with another number in one place, so that a test needn't wait so long."""
+    """The listing with another number in one place, so that a test takes less time."""
     assert LISTINGS[name].count(old) == 1, (name, old)
     (snapd.folder / name).write_text(LISTINGS[name].replace(old, new))
 
@@ -117,7 +117,7 @@ def test_backups_are_kept_and_restored(snapd, _):
             0, f"loaded 0 of 3 number 0\nloaded 1 of 3 number {number}\nloaded 2 of 3 number 0\nready board{number}\n")
         with Server(snapd, "--dir", f"board{number}") as server:
             assert server.scan() == [(0, b""), (number, b"%d" % number), (0, b"")]
-    # A server that is gone leaves no dump and no part of one, and none of the old ones goes.
+    # Without a server there is no dump and no part of one, and none of the old ones is removed.
     status, output, errors = ended(snapd, "sh", "backup.sh", "127.0.0.1:1", "dumps", 1)
     assert (status, output) == (1, "") and errors.startswith("snapd: 127.0.0.1:1: ") and sorted((snapd.folder / "dumps").iterdir()) == kept, errors
 
@@ -244,7 +244,8 @@ def test_checkpoints_survive_kills_of_all(snapd, rng):
 
 
 def test_ranks_that_cannot_go_on_say_so(snapd, _):
-    """One of two ranks can't save, a rank is alone, and a server has too few segments: nobody waits for ever, and the job has failed."""
+    """One of two ranks can't save, a rank is alone, and a server has too few segments: no rank waits for ever, and the
+    job has failed."""
     written_with(snapd, "checkpoint.py", "PATIENCE = 600", "PATIENCE = 1")
     written(snapd, "launch.sh")
     with Server(snapd, *fresh(snapd, 2)) as server:
@@ -275,7 +276,7 @@ class Board:
             self.printed.append(line)
 
     def prints(self, *lines):
-        """Waits for these lines of one scan, behind all that came before and nothing else."""
+        """Waits for these lines of one scan, right after all earlier ones."""
         self.wanted += [f"{line}\n" for line in (*lines, "")]
         comes_to(self.wanted, lambda: self.printed[: len(self.wanted)])
 
@@ -295,11 +296,11 @@ def test_board_shows_what_all_said(snapd, _):
         with Board(snapd, server.address, 0.5) as board:
             board.prints("0 0 ", "1 0 ")
             board.prints("0 0  *", "1 0  *")
-            # One moves and stands still again. The other one doesn't move, and isn't printed.
+            # One changes and rests again. The other one doesn't change, and isn't printed.
             server.ask(update(1, 1, b"step 1"), stored(1))
             board.prints("1 1 step 1")
             board.prints("1 1 step 1 *")
-            # The monitor goes on by itself, over a new connection.
+            # The monitor continues by itself, over a new connection.
             server.kill()
             server = Server(snapd, *files, address=server.address)
             server.ask(update(0, 1, b"\xff"), stored(1))
@@ -317,7 +318,8 @@ def test_board_ends_where_nobody_answers(snapd, _):
 
 
 def test_board_prints_nothing_while_nothing_changes(snapd, _):
-    """The server in plain Python counts how often it has been asked. Between two groups of lines the monitor looks on."""
+    """The server in plain Python counts how often it has been asked. Between two groups of lines the monitor keeps
+    polling."""
     model = oracle.Model(3)
     with oracle.Server(model) as server, Client(server.address) as client, Board(snapd, server.address, 0.3) as board:
         def is_quiet():
@@ -337,7 +339,7 @@ def test_board_prints_nothing_while_nothing_changes(snapd, _):
 # ---- the lease ----
 
 class Holders:
-    """Three that stand by for a lease, and the tokens that they and the ones before them have printed."""
+    """Three processes that wait for a lease, and the tokens that they and the ones before them have printed."""
 
     def __init__(self, snapd, address):
         self.start = lambda: started(snapd, sys.executable, "lease.py", address, 0, LEASE, stderr=subprocess.DEVNULL)
@@ -384,8 +386,8 @@ LEASE, TAKEOVERS = 1.2, 6
 
 
 def test_lease_has_one_holder_and_growing_tokens(snapd, rng):
-    """Holders are killed once they have told of a token, and others take over. Every token that anybody printed is another
-    one, and is the number of its own update."""
+    """Holders are killed once they have printed a token, and others take over. All printed tokens differ, and each is
+    the number of its own update."""
     written(snapd, "lease.py")
     file, = fresh(snapd, 1)
     with Server(snapd, file) as server:
@@ -404,7 +406,7 @@ def test_lease_has_one_holder_and_growing_tokens(snapd, rng):
     for one in {pid for _, pid in holders.tokens}:
         mine = [token for token, pid in holders.tokens if pid == one]
         assert mine == sorted(mine), mine
-    # Who told of a token last was never one that had been killed before.
+    # The last holder that printed a token had never been killed before.
     assert len({pid for _, pid in holders.tokens}) >= TAKEOVERS, holders.tokens
     # What a holder stored and could not print before it was killed is missing, and nothing else.
     assert max(said) <= number and number - len(said) <= holders.count, (number, said)
@@ -441,7 +443,7 @@ def test_lease_leaves_what_is_no_lease(snapd, _):
 
     with Server(snapd, *segments(snapd, *[[(0, b""), (1, value)] for value in NO_LEASES])) as server:
         for segment, value in enumerate(NO_LEASES):
-            # It waits for an answer for a third of its seconds, and looks again after a quarter.
+            # It waits for an answer for a third of its seconds, and polls again after a quarter.
             remedy = refuses_to_lease(begun(segment, 3 * PATIENCE), server, segment, value)
         assert server.scan() == [(1, value) for value in NO_LEASES]
         assert remedy == ["call", server.address, "update", str(segment), "2", "-"]
@@ -461,7 +463,7 @@ def test_lease_leaves_what_is_no_lease(snapd, _):
 
 
 def stores(client, segment, value):
-    """Whether nobody else stored meanwhile."""
+    """Stores the value, unless another process stored in between."""
     try:
         return client.update(segment, client.scan()[segment].number + 1, value)
     except (Conflict, OutOfStep):
@@ -503,7 +505,7 @@ def test_unit_of_the_system(snapd, _):
     assert (pathlib.Path(PROGRAM).name, COMMAND, ADDRESS) == ("snapd", "serve", "127.0.0.1:7070")
     assert SERVICE["WorkingDirectory"] == [FOLDER] and SERVICE["StateDirectory"] == ["snapd-board/%i"]
     assert UNIT_ENVIRONMENT == {"GLIBC_TUNABLES": "glibc.malloc.hugetlb=1", "MALLOC_ARENA_MAX": "1"}
-    # It goes on trying what may come right by itself: here the files aren't there yet.
+    # It keeps trying if the fault may pass by itself: here the files don't exist yet.
     assert of_section("Unit")["StartLimitIntervalSec"] == ["0"] and SERVICE["Restart"] == ["always"]
     gives_up = [int(it) for it in SERVICE["RestartPreventExitStatus"][0].split()]
     assert gives_up == [2, 3]
@@ -577,7 +579,7 @@ def test_unit_at_a_socket(snapd, _):
 
 @functools.cache
 def calls_in(name):
-    """The system calls that a word of a filter stands for."""
+    """The system calls that a word of a filter means."""
     if not name.startswith("@"):
         return {name}
     run = subprocess.run(["systemd-analyze", "syscall-filter", name], capture_output=True, text=True, check=True)

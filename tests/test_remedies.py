@@ -22,7 +22,8 @@ HELD = {
 }
 MIGRATE, AS_OLD, AS_NEW = "migrate OLD F --index 1 --count 2", "refused as the old file: ", "refused as the new file: "
 SERVE = "serve 127.0.0.1:0 F G"
-# How the files are made, the words, and the two lines of standard error behind `snapd: `, the first behind `refused ` too.
+# How the files are made, the words, and the two lines of standard error after `snapd: `, the first after `refused `
+# too.
 ROWS = [
     ({"F": "empty"}, "check F --json", "14 WrongFile", "F: it has no byte: a format that was cut off: go on with snapd format F --index I --count N"),
     ({"F": "short"}, "check F --json", "14 WrongFile", "F: it has 28671 bytes, and a segment file has 28672"),

@@ -37,7 +37,8 @@ def refusals(output):
 
 
 def is_refused_right(line, before):
-    """The files before the refused one took two calls more, and the others none. Behind the last file all of them did."""
+    """The files before the refused one took two calls more, and the others none. After the last file all of them
+    did."""
     segment, calls = line.removeprefix("NoMemory at segment ").split(", calls ")
     taken = [after - earlier for after, earlier in zip(map(int, calls.split()), before)]
     return taken == [2] * int(segment) + [0] * (FILES - int(segment))
@@ -61,7 +62,7 @@ def test_each_allocation_of_a_restart_is_refused(snapd, _):
         # Each of the others is one of an opening, which is refused, and is done whole when it is made again.
         assert status == 0 and len(refused) == 1, (number, output)
         is_first = number <= count["opened"]
-        # A formatting makes seven calls. The second opening comes behind the first, whose calls are in the line of closing.
+        # A formatting makes seven calls. The second opening follows the first, whose calls are in the line of closing.
         before = [7] * FILES if is_first else closed
         assert is_refused_right(refused[0], before), (number, refused)
         lines = ample.splitlines()

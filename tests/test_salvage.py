@@ -28,7 +28,7 @@ def has_none(run, number, why, file="F"):
 
 
 def judged(data, number):
-    """What lies in a slot's body, as the format reads it behind an open gate."""
+    """The contents of a slot's body, as the format reads it if the gate is open."""
     return layout.slot_of(changed(data, (gate_at(number), OPEN_GATE)), number)
 
 
@@ -57,7 +57,7 @@ def test_each_slot_is_printed(snapd, _):
     for number in range(1, 6):
         snapd("put", "F", stdin=f"value {number}\n").gave(0, f"stored {number}\n")
     data = snapd.file().read_bytes()
-    # That of 3 is closed by now, and its body is there still.
+    # The gate of 3 is closed by now, and its body is there still.
     assert layout.slot_of(data, 0) == ("closed",)
     for number in (3, 4, 5):
         slot(snapd, number % 3).gave(0, f"value {number}\n")
@@ -112,7 +112,7 @@ def test_slots_that_hold_no_value(snapd, _):
 
 
 def test_the_last_number(snapd, _):
-    """Its value is printed, and that of the number behind it is none."""
+    """Its value is printed, and a number after it is invalid."""
     last = 2**63 - 1
     gives(snapd, layout.holding((last, b"end")))
     slot(snapd, last % 3).gave(0, b"end")
@@ -169,7 +169,7 @@ def test_a_disk_that_fails(snapd, _):
 
 
 def test_who_else_has_the_file(snapd, _):
-    """It is shared with who reads, and left to who writes."""
+    """It is shared with readers, and not with a writer."""
     file = snapd.file()
     file.write_bytes(WHOLE)
     with locked(file, fcntl.LOCK_SH):
@@ -188,7 +188,7 @@ def test_output_that_fails(snapd, _):
 
 
 def test_each_allocation_is_refused(snapd, _):
-    """Refused as 8, or the same as with ample memory. A reason for which no memory is left is told all the same."""
+    """Refused as 8, or the same as with ample memory. A reason is printed although no memory is left for it."""
     snapd.file().write_bytes(WHOLE)
     for number in (1, 2):
         words = ("check", "F", "--slot", number, "--value")

@@ -82,7 +82,7 @@ def test_borrowed_view_script(snapd, _):
 def test_worked_script(snapd, _):
     script, printed = zip(*WORKED)
     snapd("script", stdin=lines(script)).gave(0, lines(printed))
-    # A crash that closes the gate takes the update back, which nobody had seen.
+    # A crash that closes the gate takes the update back, which no scan had seen.
     script = lines(script[: script.index("serve") + 1]).replace("crash a5", "crash 00")
     assert snapd("script", stdin=script).output.endswith(b"\nmemory -\n")
 
@@ -140,8 +140,8 @@ def test_crash_after_the_closing_write(snapd, _):
 
 
 def test_five_calls(snapd, _):
-    """The second store closes the gate of the number before with its body's sync. Until it opens its own gate a crash leaves
-    number 1, and behind that write either."""
+    """The second store closes the gate of the number before with its body's sync. Until it opens its own gate a crash
+    leaves number 1, and after that write either."""
     again = begun("796f", 1)
     plays(snapd, *FIRST, *again, *called("close", "body", "sync", "open", "sync"), ("call 0", "not now"), *shown(2))
     for fill in ("a5", "00", "keep"):

@@ -9,8 +9,8 @@ from test_script import BORROWED, WORKED, lines
 
 
 def of_rows(text):
-    """A script, and what it prints. Each row has a line and, behind `>`, what it prints each time that it stands there; a line alone
-    prints itself."""
+    """A script, and what it prints. Each row has a line and, after `>`, its outputs, one for each time that the line is
+    given; a line alone prints itself."""
     script, printed = [], []
     for row in text.splitlines():
         line, _, answers = row.partition(" > ")
@@ -25,7 +25,7 @@ def ends(snapd, script, status, printed, said=""):
     assert run == Run(status, printed.encode(), f"snapd: {said}\n" if said else ""), (script, run)
 
 
-# ---- first lines, and lines behind them ----
+# ---- first lines, and lines after them ----
 
 NO_WORLD = "the first line has to be `world N S`, with N and S from 1 to 16"
 FIRST = [
@@ -41,7 +41,7 @@ def test_first_lines(snapd, _):
         ends(snapd, "\n" + line, 2, "", f"line 2: {NO_WORLD}")
 
 
-# Lines that can be read, and what each prints behind `world 2 1`.
+# Lines that can be read, and what each prints after `world 2 1`.
 READ = [
     ("begin 0 -", "begun"),
     ("begin 00000000000000001 6A6b", "begun"),
@@ -90,7 +90,7 @@ UNREAD = {
 
 
 def test_lines_that_can_not_be_read(snapd, _):
-    """The lines in front of them are done, and none behind them."""
+    """The lines before them are done, and none after them."""
     for said, unread in UNREAD.items():
         for line in unread:
             ends(snapd, f"world 2 1\n\nscan 0\n{line}\nscan 0\n", 2, "world 2 1\nscanning\n", f"line 4: {said}")
@@ -129,8 +129,8 @@ call 1 > called body, called sync, called open, called sync
 show 1 > shown
 look s0 > number 0, number 0
 answer 0 > part 0=- 2=-, not now"""
-# Segment 0 is shown twice inside a scan of segments 0 and 2, which takes their values from the view of the second of these updates: the
-# memory as it stood before that one.
+# Segment 0 is shown twice inside a scan of segments 0 and 2, which takes their values from the view of the second of
+# these updates: the memory as it was before that one.
 BORROWED_PART = """world 3 1
 pick 0 0005 > scanning
 look s0 > number 0

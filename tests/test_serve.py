@@ -105,14 +105,14 @@ def test_addresses_that_the_system_does_not_take(snapd, _):
         assert (run.status, run.output.decode()) == (1, REPORT), (address, run)
         assert run.errors.startswith(f"snapd: {address}: can't listen there: "), (address, run)
         assert run.errors.count("\n") == 1, (address, run)
-    # Nothing was left behind: the files are free.
+    # Nothing was left: the files are free.
     assert snapd("get", "S0", "--count", 2).gave(0, "hi")
 
 
 # ---- files ----
 
 def remedy(refusal, file, index, count, fault=""):
-    """What is said of this file, of segment `index` of `count`, behind the line of that refusal."""
+    """The second line about this file, of segment `index` of `count`, after that of the refusal."""
     words = {"FILE": file, "I": str(index), "N": str(count), "CALL: REASON": fault}
     return f"{file}: " + re.sub(r"\b(FILE|CALL: REASON|I|N)\b", lambda it: words[it[0]], REMEDIES[refusal])
 
@@ -218,7 +218,7 @@ def test_file_in_use(snapd, _):
     put = subprocess.Popen([snapd.path, "put", "S1", "--index", "1", "--count", "2"], cwd=snapd.folder,
                            stdin=subprocess.PIPE, stdout=subprocess.DEVNULL)
     try:
-        # It has its lock before it reads. To look for the lock by another one would be in its way.
+        # It has its lock before it reads. A try for the lock would be in its way.
         put.stdin.write(b"h")
         put.stdin.flush()
         is_read(put.stdin)
@@ -334,7 +334,7 @@ def test_third_try_succeeds(snapd, _):
         snapd("call", peer.address, "update", 0, 1, "6869", "--tries", 3).gave(0, "stored 1\n")
         peer.done()
         assert server.scan() == [(1, b"hi")]
-        # One try less, and nobody knows whether it was stored: the same words again say so.
+        # With one try less it isn't known whether it was stored: the same words again show that.
         peer = Peer(reset, lambda stream: server.ask(received(stream, 16), stored(2)))
         snapd("call", peer.address, "update", 0, 2, "6869", "--tries", 2).failed_with(1, peer.address)
         peer.done()
@@ -387,7 +387,7 @@ def made(snapd, name):
 
 
 def test_nobody_reads_the_report(snapd, _):
-    """Standard output is a pipe whose reader is gone."""
+    """Standard output is a pipe whose reader is closed."""
     reader, writer = os.pipe()
     os.close(reader)
     with open(writer, "wb", buffering=0) as gone:

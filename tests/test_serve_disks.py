@@ -113,7 +113,7 @@ def test_no_outcome_is_missed_by_a_worker_that_falls_asleep(snapd, _):
 
 
 def test_a_scan_passes_a_held_update(snapd, _):
-    """An update that waits for its disk holds up nobody: no scan, no other segment, no connection of its own worker."""
+    """An update that waits for its disk blocks no scan, no other segment, and no connection of its own worker."""
     disk = Disk(snapd)
     for scanners in (1, 2):
         with Server(snapd, *segments(snapd, TWO, FRESH), env=disk.env, scanners=scanners) as server:
@@ -132,14 +132,14 @@ def test_a_scan_passes_a_held_update(snapd, _):
                     stream.settimeout(PATIENCE)
                 disk.says()
                 assert received(slow, 13) == stored(2)
-                # The one behind it was judged once the first was stored.
+                # The later one was judged once the first was stored.
                 assert received(behind, 13) == stored(3)
                 first, second = entries_of(reply(slow))
                 assert first in ((2, b"slow"), (3, b"behind")) and second == (50, b"x")
 
 
 def test_a_peer_that_leaves_its_held_update(snapd, _):
-    """Its update is stored when the disk goes on, and its outcome is told to nobody else."""
+    """Its update is stored when the disk continues, and no other peer gets its outcome."""
     disk = Disk(snapd)
     with Server(snapd, *segments(snapd, TWO, FRESH), env=disk.env, scanners=1) as server:
         disk.says("S0 sync hold 0")
@@ -225,7 +225,7 @@ def test_the_file_system_is_read_only(snapd, _):
         files = segments(snapd, TWO, TWO, folder="small")
         subprocess.run(["mount", "-o", "remount,ro", place], check=True)
         snapd("serve", "127.0.0.1:0", *files).gave(1, errors=remedies.failed("small/S0", remedies.READ_ONLY, remedies.read_only("small/S0")))
-        # What only reads goes on.
+        # Commands that only read still work.
         snapd("get", "small/S0", "--index", 0, "--count", 2).gave(0, "hi")
         assert snapd("check", "small/S0").status == 0
         subprocess.run(["mount", "-o", "remount,rw", place], check=True)
@@ -259,7 +259,7 @@ def test_a_file_is_damaged_while_it_serves(snapd, _):
         snapd("serve", "127.0.0.1:0", *files).refused(number, name, remedy(refusal, "S0", 0, 2))
         assert snapd.file("S0").read_bytes() == before
         assert snapd("check", "S0").status == checked
-        # A file from a backup in its place, and all goes on.
+        # With a file from a backup in its place all is served again.
         snapd.file("S0").write_bytes(layout.holding(*TWO, index=0, count=2))
         with Server(snapd, *files) as server:
             assert server.scan() == [(1, b"hi"), (1, b"on")]

@@ -30,7 +30,7 @@ def test_every_vector(snapd, _):
         assert to_its_end(stream) == wanted
     with Server(snapd, *fresh(snapd, 2), scanners=2) as server:
         for cut in range(len(sent)):
-            # The long update's value is all the same byte: some of its places stand for all.
+            # The long update's value is all the same byte: some of its places are tried.
             if 100 < cut < len(sent) - 100 and cut % 61:
                 continue
             with server.connect() as stream:
@@ -82,7 +82,8 @@ def test_payloads_that_are_no_requests(snapd, _):
 
 
 def test_lengths_above_the_limit(snapd, _):
-    """The reply, an orderly end, and the others go on. What comes behind such a length may cost its peer the reply."""
+    """The reply, an orderly end, and the other connections continue. Bytes after such a length may cost its peer the
+    reply."""
     with Server(snapd, *segments(snapd, HI)) as server:
         for length in (66_001, 2**24, 2**31, 2**32 - 1):
             with server.connect() as stream:
@@ -98,7 +99,7 @@ def test_lengths_above_the_limit(snapd, _):
 
 
 def test_random_bytes(snapd, rng):
-    """With a fixed seed. Whatever they are, each connection comes to its end and the server goes on."""
+    """With a fixed seed. Whatever they are, each connection ends and the server continues."""
     starts = [b"", b"\0\0\0", b"\0\0", b"\0\0\0\x0c\x01\0", b"\0\0\0\x01", SCAN]
     with Server(snapd, *segments(snapd, HI, FRESH), connections=402, scanners=2) as server:
         for number in range(400):
@@ -116,7 +117,7 @@ def test_random_bytes(snapd, rng):
 
 
 def test_half_open_connections(snapd, _):
-    """A peer that writes no more still gets its replies, whole frames and cut ones; one that vanishes harms nobody."""
+    """A peer that writes no more still gets its replies, whole frames and cut ones; one that vanishes does no harm."""
     with Server(snapd, *fresh(snapd, 1), scanners=1, more=("--log", "debug")) as server:
         for number, rest in enumerate((b"", b"\0", SCAN[:-1], update(0, 9, b"cut off")[:-1]), start=1):
             with server.connect() as stream:
@@ -131,7 +132,7 @@ def test_half_open_connections(snapd, _):
             stream = server.connect()
             stream.sendall(update(0, number, b"gone") + SCAN * 3)
             ending(stream)
-            # It was stored, or never read: nobody was told. The same again says that it is.
+            # It was stored, or never read, without a reply. The same update again is acknowledged.
             server.ask(update(0, number, b"gone"), stored(number))
         comes_to(before, server.descriptors)
 
@@ -174,7 +175,8 @@ def used(server, count, value):
 
 
 def test_a_peer_that_never_reads(snapd, _):
-    """It is read no more, costs no more memory than its share, and holds nobody up; once it reads it gets every reply."""
+    """It is read no more, costs no more memory than its share, and blocks no other; once it reads it gets every
+    reply."""
     longest = b"v" * 4_080
     for scanners in (1, 2):
         with Server(snapd, *fresh(snapd, 16), scanners=scanners) as server, server.connect() as flood:
@@ -282,7 +284,7 @@ def test_five_hundred_are_opened_and_closed_at_once(snapd, _):
 
 
 def all_at_once(server, count):
-    """Begins so many connections before it waits for any of them."""
+    """Begins `count` connections before it waits for any of them."""
     streams = [socket.socket() for _ in range(count)]
     for stream in streams:
         stream.setblocking(False)

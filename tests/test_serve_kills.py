@@ -36,7 +36,7 @@ def test_a_hundred_kills_under_load(snapd, rng):
 
 
 class Killing:
-    """Kills the server so many seconds after something has come true. What it still sends is taken in."""
+    """Kills the server some seconds after a condition has become true. What it still sends is taken in."""
 
     def __init__(self, server, has_come, seconds):
         self.server, self.has_come, self.seconds, self.moment = server, has_come, seconds, None

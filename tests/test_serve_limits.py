@@ -33,8 +33,8 @@ def answered(stream, wanted=EMPTY):
     return received(stream, len(wanted)) == wanted
 
 
-# How long a caller may wait for its answer once there is room for it, in seconds. It is a promise, and so a test goes by the clock;
-# of several callers by the one that waited least, since a machine may stand still for a moment.
+# How long a caller may wait for its answer once there is room for it, in seconds. It is a promise, and so a test uses
+# the clock; of several callers it takes the one that waited least, since a machine may be busy for a moment.
 IN_TIME = 1
 
 
@@ -46,8 +46,8 @@ def waited(stream, wanted, since):
 
 
 def test_callers_wait_where_no_descriptor_is_left(snapd, _):
-    """It says so once, and once more when there is room, and no connection is tried that the system could refuse. Who waits is
-    answered within a second of room."""
+    """It says so once, and once more when there is room, and no connection is tried that the system could refuse.
+    Waiting callers are answered within a second of room."""
     accepts = Accepts(snapd.folder)
     with Server(snapd, *fresh(snapd, 1), scanners=2, descriptors=40, env=accepts.env) as server:
         with contextlib.ExitStack() as open_ones:
@@ -58,7 +58,7 @@ def test_callers_wait_where_no_descriptor_is_left(snapd, _):
             streams[1].sendall(update(0, 1))
             assert received(streams[1], 13) == stored(1)
             wanted, [taken] = snapshot((1, b"")), told(server)[0]
-            # One goes, and so there is room for the first that waits; then the next ones.
+            # One is closed, and so there is room for the first that waits; then the next ones.
             took = []
             for gone in range(5):
                 streams[taken + gone].sendall(SCAN)
@@ -79,7 +79,7 @@ def test_callers_wait_where_no_descriptor_is_left(snapd, _):
 
 
 def test_a_disk_that_hangs_makes_it_deaf_to_nobody_for_long(snapd, _):
-    """Clients that give up and try again leave an update behind each time. Once the disk is back all goes on."""
+    """Clients that give up and try again leave an update each time. Once the disk is back all are served."""
     disk = Disk(snapd)
     files = segments(snapd, TWO, TWO)
     with Server(snapd, *files, env=disk.env, descriptors=60) as server:
@@ -153,8 +153,8 @@ class Honest(threading.Thread):
 
 
 def test_honest_clients_get_through_a_disk_that_hangs(snapd, _):
-    """Each try leaves a connection behind. Below the limit scans and the server's health are answered all the while, and at the
-    limit those that are there. Right behind the hang each update is acknowledged, and a new caller is answered."""
+    """Each try leaves a connection. Below the limit scans and the server's health are answered all the time, and at the
+    limit the open connections. Right after the hang each update is acknowledged, and a new caller is answered."""
     disk, accepts = Disk(snapd), Accepts(snapd.folder)
     env = disk.env | accepts.env | {"LD_PRELOAD": f"{disk.env['LD_PRELOAD']}:{accepts.env['LD_PRELOAD']}"}
     files, before = segments(snapd, *[TWO] * 16), snapshot(*[(1, b"hi")] * 16)
@@ -253,7 +253,7 @@ def test_a_listener_that_fails_for_good_ends_it(snapd, _):
 
 
 def refuses(server):
-    """Whether nobody listens at its address."""
+    """Whether connections to its address are refused."""
     try:
         server.connect(timeout=1).close()
     except ConnectionRefusedError:

@@ -1,4 +1,4 @@
-"""Sixteen writers and eight readers on a server of real files, and the judgement of all that they were told."""
+"""Sixteen writers and eight readers on a server of real files, and the judgement of all replies."""
 
 import segment_file as layout
 from load import Load
@@ -6,8 +6,8 @@ from serving import Server, fresh
 
 
 def whole_record(snapd, rng, updates, scanners):
-    """Runs so many updates, and more where the scans have hardly shown any of them. Then it judges the record, and looks at the
-    files."""
+    """Runs this many updates, and more if the scans have shown too few of them. Then it judges the record, and checks
+    the files."""
     load = Load(16, rng)
     files = fresh(snapd, 16)
     with Server(snapd, *files, scanners=scanners) as server:

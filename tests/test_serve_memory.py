@@ -1,5 +1,5 @@
-"""`snapd serve` while memory is wanting: each allocation of a start and of a conversation is refused in turn, and all of them
-for a while. No request waits for ever, nothing that was acknowledged is lost, and what comes behind is served."""
+"""`snapd serve` while memory runs out: each allocation of a start and of a conversation is refused in turn, and all of
+them for a while. No request waits for ever, nothing that was acknowledged is lost, and later requests are served."""
 
 import contextlib
 import itertools
@@ -34,7 +34,7 @@ def of_both(disk, memory):
 
 
 def started(snapd, count, scanners=1, **more):
-    """A server whose threads all run: each worker has scanned, and each store's thread has told its number."""
+    """A server whose threads all run: each worker has scanned, and each store's thread has answered."""
     server = Server(snapd, *segments(snapd, *[FRESH] * count), scanners=scanners, **more)
     for _ in range(scanners):
         server.ask(SCAN, snapshot(*[(0, b"")] * count))
@@ -48,7 +48,8 @@ NO_THREAD = "the system refused a thread: allow more of them, or give --scanners
 
 
 def test_each_allocation_of_a_start_is_refused(snapd, _):
-    """It serves, or says that memory was wanting, or a thread, and nothing else. The files stay as they are."""
+    """It serves, or complains that memory ran out, or that it got no thread, and nothing else. The files stay as they
+    are."""
     words = ("serve", LOOPBACK, *segments(snapd, FRESH, [(0, b""), (1, b"hi")]), "--connections", 0, "--log", "error")
     before = [snapd.file(name).read_bytes() for name in ("S0", "S1")]
     env, counted = {"LD_PRELOAD": library("allocations")}, snapd.file("count")
@@ -59,7 +60,7 @@ def test_each_allocation_of_a_start_is_refused(snapd, _):
         wanted = (0, "") if b"served 0" in run.output else (3, "snapd: refused 8 NoMemory\n")
         is_thread = run.status == 1 and run.errors in (f"snapd: {NO_THREAD}", f"snapd: {LOOPBACK}: {NO_THREAD}")
         assert (run.status, run.errors) == wanted or is_thread, (number, run)
-        # Who waits for the line may count on the server.
+        # A caller that waits for the line may count on the server.
         assert not is_thread or b"listening" not in run.output, (number, run)
         refusals += run.status == 3
         threads += is_thread
@@ -96,7 +97,7 @@ def test_each_allocation_of_updates_that_queue_is_refused(snapd, _):
             memory.runs_out()
             for stream in streams[1:]:
                 stream.sendall(update(0, 1, VALUE))
-            # It comes behind them, so they are handed over once it is answered.
+            # It is sent after them, so they have been handed over once it is answered.
             assert asked(server, SCAN) in (snapshot((0, b"")), refused(8), CLOSED), number
             is_last = memory.wanting.exists()
             memory.is_there_again()
@@ -124,12 +125,12 @@ def test_an_outcome_waits_for_memory(snapd, _):
         server.ask(update(0, 1, VALUE) + SCAN, stored(1) + snapshot((1, VALUE)))
 
 
-# So many stores have an outcome at once, or so many connections come at once, that a worker's queue has to grow for them.
+# As many outcomes of stores, or connections, at once make a worker's queue grow.
 MANY = 16
 
 
 def warmed(server, peers):
-    """Connections whose sessions have the memory that they need, so that want of it keeps none of them from its turns."""
+    """Connections whose sessions have the memory that they need, so that each gets its turns without any."""
     streams = []
     for _ in range(200):
         streams.append(peers.enter_context(server.connect()))
@@ -140,8 +141,8 @@ def warmed(server, peers):
 
 @contextlib.contextmanager
 def stopped_and_flooded(server, memory, streams):
-    """What is done within comes to a server at once that has no memory, and so many requests to answer that its only worker takes
-    one outcome and one connection in a while."""
+    """What is done within reaches a server all at once that has no memory, and whose only worker has so much to answer
+    that it takes outcomes and connections slowly."""
     server.process.send_signal(signal.SIGSTOP)
     for stream in streams:
         stream.sendall(STATUS * 4_000)
@@ -174,7 +175,7 @@ def test_outcomes_wait_for_memory(snapd, _):
 
 
 def test_connections_wait_for_memory(snapd, _):
-    """Those that come while there is none are served afterwards, or closed; the server goes on."""
+    """Those that come while there is none are served afterwards, or closed; the server continues."""
     memory = Memory(snapd, "all")
     with started(snapd, 1, scanners=2, env=memory.env) as server:
         memory.runs_out()
@@ -190,7 +191,7 @@ def test_connections_wait_for_memory(snapd, _):
 
 
 def test_no_place_is_lost_for_want_of_memory(snapd, _):
-    """Connections come to a worker while there is none. Behind them as many may be open at once as before."""
+    """Connections come to a worker while there is none. After them as many may be open at once as before."""
     memory = Memory(snapd, "all")
     with started(snapd, 1, env=memory.env, more=("--clients-max", 300)) as server:
         with contextlib.ExitStack() as peers:

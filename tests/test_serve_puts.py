@@ -1,5 +1,5 @@
-"""`snapd call ADDR put I` and `get I`: a value as text, and a number that nobody counts. On real servers, and on peers that say what
-was sent to them."""
+"""`snapd call ADDR put I` and `get I`: a value as text, under a number that the user needn't count. On real servers,
+and on peers that record what was sent."""
 
 import errno
 
@@ -116,7 +116,7 @@ def test_a_put_without_an_answer_names_its_number(snapd, _):
 
 
 def test_the_value_comes_before_any_connection(snapd, _):
-    """Nobody listens there: what is wrong with the value is said all the same."""
+    """No server listens there: the fault of the value is printed all the same."""
     nobody = f"127.0.0.1:{free_port()}"
     snapd("call", nobody, "put", 0, stdin=b"x" * 4_081).refused(3, "TooLong")
     with open("/proc/self/mem", "rb") as unread:

@@ -9,7 +9,7 @@ from serving import FRESH, LOOPBACK, SCAN, STATUS, Server, segments, snapshot, s
 from talk import CLOSED, HELD, TALK, VALUE, asked, talked, told
 from waiting import wait_until
 
-# The calls of a connection, with what the system says where it is gone or wanting.
+# The calls of a connection, with the system's errors for one that was closed or resources that ran out.
 CALLS = {
     "accept4": (errno.ECONNABORTED, errno.EMFILE),
     "setsockopt": (errno.EINVAL,),
@@ -86,7 +86,7 @@ def test_each_call_of_a_conversation_fails(snapd, _):
             closed = closed_by(snapd, call, why)
             # It comes for each connection, and closes no more than its own.
             assert len(closed) >= len(TALK) and max(closed) <= 1, (call, why, closed)
-            # What is tried again, or comes behind the replies, closes none.
+            # Calls that are tried again, or come after the replies, close none.
             assert any(closed) == (call not in ("accept4", "shutdown")), (call, why, closed)
 
 
@@ -100,12 +100,12 @@ def test_each_call_of_a_start_fails(snapd, _):
             sockets.fail()
             run = snapd("serve", LOOPBACK, *files, "--scanners", 2, "--connections", 0, "--log", "error", env=sockets.env)
             came = sockets.has_failed()
-            # Where the system asks no silent peers, a peer that is gone is found at the next write.
+            # Without keepalive probes a vanished peer is found at the next write.
             if call == "setsockopt" and run.status == 0:
                 break
             assert run.status == (1 if came else 0), (call, number, run)
             assert run.errors.startswith("snapd: ") == came and run.errors.count("\n") == came, (call, number, run)
-            # Who waits for either line may count on the server.
+            # A caller that waits for either line may count on the server.
             assert all((it in run.output) != came for it in (b"listening", b"served 0")), (call, number, run)
             assert before == [snapd.file(name).read_bytes() for name in files]
             if not came:
@@ -135,7 +135,7 @@ def test_a_worker_that_cannot_wait_ends_the_server(snapd, _):
             assert [asked(server, SCAN) for _ in range(failed + 1)] == [shown] * failed + [CLOSED]
             assert told(other, request[-1:]) == stored(1)
         run = server.end()
-        # A thread of its own writes the log, so its last line may come behind the complaint; nothing else is said.
+        # A thread of its own writes the log, so its last line may come after the complaint; nothing else is printed.
         lines, complaint = run.errors.splitlines(), f"snapd: {LOOPBACK}: {REFUSED}"
         assert run.status == 1 and run.errors.endswith("\n") and lines.count(complaint) == 1, run
         assert len(lines) == 3 and server.logged("ERROR", "server") == [f"it ends: {REFUSED}"], run

@@ -1,5 +1,5 @@
-"""`snapd serve unix:PATH`: who may connect, which file it makes, replaces, removes and leaves alone; several addresses of one server;
-and `snapd call unix:PATH`."""
+"""`snapd serve unix:PATH`: which users may connect, which file it makes, replaces, removes and leaves alone; several
+addresses of one server; and `snapd call unix:PATH`."""
 
 import array
 import contextlib
@@ -129,7 +129,7 @@ def masked(mask):
 
 
 def test_no_mode_is_given_back_where_others_could_put_a_link(snapd, _):
-    """Behind a path that somebody else can change there may be a link by then, and its mode would be set to what nobody asked for."""
+    """A path that another user can change may be a link by then, and a file's mode would be set by mistake."""
     files, where, mode = fresh(snapd, 1), snapd.file(folder(snapd, "shared")), ("--socket-mode", "0660")
     for bits in (0o777, 0o775, 0o1777, 0o1775, 0o755, 0o711):
         os.chmod(where, bits)
@@ -146,7 +146,7 @@ def test_no_mode_is_given_back_where_others_could_put_a_link(snapd, _):
             assert run.stderr == f"snapd: unix:shared/a: can't listen there: {MASKED}\n", run
             assert os.listdir(where) == [], oct(bits)
     if os.geteuid() == 0:
-        # Who owns a folder changes it, whatever its mode says.
+        # The owner of a folder can change it, whatever its mode.
         for owner in (NOBODY, 0):
             os.chown(where, owner, -1)
             run = subprocess.run((*masked("077"), snapd.path, "serve", "unix:shared/a", *files, *mode, "--connections", "0"),
@@ -224,7 +224,7 @@ def test_what_a_killed_server_left_is_replaced(snapd, _):
         with AtSocket(snapd, *files) as server:
             before = os.lstat(server.path).st_ino
             snapd("call", ADDRESS, "put", 0, "--value", str(number)).gave(0, f"stored {number}\n")
-        # It is there, and who calls is refused.
+        # It is there, and callers are refused.
         assert os.lstat(server.path).st_ino == before
         snapd("call", ADDRESS, "scan").failed_with(1, ADDRESS)
     with AtSocket(snapd, *files):
@@ -259,7 +259,7 @@ def test_a_socket_of_another_user_is_left(snapd, _):
     with AtSocket(snapd, *fresh(snapd, 1), address="unix:shared/a") as server:
         is_left(os.lstat(server.path).st_ino)
         assert asks(server.path) == [(0, b"")]
-    # Its server is gone. Everybody may call it now, and find that nobody listens.
+    # Its server has ended. Everybody may call it now, and is refused.
     is_left(os.lstat(server.path).st_ino)
     os.chmod(server.path, 0o666)
     is_left(os.lstat(server.path).st_ino)
@@ -310,7 +310,7 @@ def test_anything_else_at_the_path_is_left(snapd, _):
 
 
 def test_a_link_is_called(snapd, _):
-    """Who calls may go through one."""
+    """A call may use one."""
     with AtSocket(snapd, *fresh(snapd, 1)):
         os.symlink("snapd.sock", snapd.folder / "link")
         snapd("call", "unix:link", "scan").gave(0, EMPTY)
@@ -360,7 +360,7 @@ def asks_in(snapd):
 
 
 def test_a_folder_that_is_locked(snapd, _):
-    """Who holds its lock for long keeps a server from it; who lets go within a second doesn't."""
+    """A process that holds its lock for long keeps a server from it; one that releases it within a second doesn't."""
     files = fresh(snapd, 1)
     held = os.open(snapd.folder, os.O_RDONLY)
     try:
@@ -369,7 +369,7 @@ def test_a_folder_that_is_locked(snapd, _):
                 "another process has locked its folder: give a path in a folder of this server's own")
         threading.Timer(0.2, lambda: fcntl.flock(held, fcntl.LOCK_UN)).start()
         with AtSocket(snapd, *files):
-            # Its own lock is gone.
+            # Its own lock is released.
             fcntl.flock(held, fcntl.LOCK_EX | fcntl.LOCK_NB)
     finally:
         os.close(held)
@@ -424,7 +424,7 @@ def test_each_call_of_a_start_fails(snapd, _):
             sockets.fail()
             run = snapd("serve", *MIXED, *files, "--scanners", 2, "--connections", 0, "--log", "error", env=sockets.env)
             came = sockets.has_failed()
-            # Some options of a socket may be refused, and at its end those in the queue may wait for it.
+            # Some options of a socket may be refused, and when it closes those in the queue may wait for it.
             if not (call in ("setsockopt", "ioctl") and run.status == 0):
                 assert run.status == (1 if came else 0), (call, number, run)
                 assert run.errors.startswith("snapd: ") == came and run.errors.count("\n") == came, (call, number, run)
@@ -436,7 +436,8 @@ def test_each_call_of_a_start_fails(snapd, _):
 
 
 def test_each_allocation_of_a_start_is_refused(snapd, _):
-    """It serves, or says that memory was wanting, or a thread, and nothing else; and no socket's file is left."""
+    """It serves, or complains that memory ran out, or that it got no thread, and nothing else; and no socket's file is
+    left."""
     words = ("serve", *MIXED, *fresh(snapd, 1), "--connections", 0, "--log", "error")
     env, counted = {"LD_PRELOAD": library("allocations")}, snapd.file("count")
     snapd(*words, env={**env, "ALLOCATIONS_COUNT": str(counted)})
@@ -498,7 +499,7 @@ def test_the_most_connections_count_over_all_addresses(snapd, _):
 
 
 def test_no_descriptor_is_wanting(snapd, _):
-    """With sixteen addresses of both kinds, and few descriptors: who finds no room waits, and nothing fails."""
+    """With sixteen addresses of both kinds, and few descriptors: callers without room wait, and nothing fails."""
     more = [word for number in range(7) for word in ("--listen", f"unix:s{number}", "--listen", LOOPBACK)]
     with AtSocket(snapd, *fresh(snapd, 2), more=more, descriptors=60, scanners=2) as server, contextlib.ExitStack() as opened:
         server.printed(14)
@@ -536,7 +537,7 @@ def test_a_flood_at_one_address_starves_no_other(snapd, _):
 
 
 def test_a_server_without_callers_sleeps(snapd, _):
-    """At addresses of both kinds: while nobody calls it takes no time of a processor, also behind callers at each."""
+    """At addresses of both kinds: without callers it takes no time of a processor, also after callers at each."""
     with AtSocket(snapd, *fresh(snapd, 1), more=("--listen", LOOPBACK)) as server:
         unix, tcp = both(snapd, server)
         for connect in (unix, tcp, tcp, unix):
@@ -610,7 +611,7 @@ def test_a_descriptor_that_is_passed_along_is_not_kept(snapd, _):
             stream.sendmsg([SCAN], [(socket.SOL_SOCKET, socket.SCM_RIGHTS, array.array("i", [writer] * 8))])
             os.close(writer)
             assert entries_of(reply(stream)) == [(0, b"")]
-            # Nobody has the other end any more.
+            # The other end is closed.
             assert os.read(reader, 1) == b""
             os.close(reader)
         assert server.descriptors() == before
@@ -633,7 +634,7 @@ def test_a_request_in_pieces_and_an_end_inside_one(snapd, _):
 
 
 def test_a_call_whose_server_is_stopped_ends_with_its_time(snapd, _):
-    """Also where the queue of those who call is full."""
+    """Also if the queue of callers is full."""
     with AtSocket(snapd, *fresh(snapd, 1)) as server, contextlib.ExitStack() as opened:
         os.kill(server.process.pid, signal.SIGSTOP)
         said = f"snapd: {ADDRESS}: there was no answer within 1 s (--timeout)\n"

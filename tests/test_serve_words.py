@@ -1,5 +1,5 @@
-"""The words by which `serve` is told what to let in and to log, up to their bounds, and the segments that the mask of `call ADDR part
-MASK` names. Wrong words are those of test_words.py."""
+"""The words of `serve` that set limits and the log, up to their bounds, and the segments that the mask of `call ADDR
+part MASK` names. Wrong words are those of test_words.py."""
 
 import remedies
 from serving import Server, fresh

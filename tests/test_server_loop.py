@@ -1,5 +1,5 @@
-"""The server's loop over real sockets, with nothing behind it: `try_bench server` answers an update by its number once a store
-has rested over it, and everything else at once by 0. The end-to-end tests want it built (`make programs`)."""
+"""The server's loop over real sockets, without a service: `try_bench server` answers an update by its number once a
+store has rested over it, and everything else at once by 0. The end-to-end tests want it built (`make programs`)."""
 
 import contextlib
 import errno
@@ -28,7 +28,7 @@ TOO_LONG, TOO_LARGE = struct.pack(">I", 65_537 + 464), refused(15, 66_000)
 
 
 class Trial:
-    """A server that runs until so many connections have ended, or without end."""
+    """A server that runs until `connections` have ended, or without end."""
 
     def __init__(self, workers, micros=0, connections=None, descriptors=None, env=None):
         words = bench("server", workers, micros, *([] if connections is None else [connections]))
@@ -190,7 +190,8 @@ def test_a_peer_that_does_not_read_is_read_no_more(_, __):
 
 
 def answered_while_one_is_out(rest):
-    """How many are answered on one worker, each on a connection of its own, while an update is out for so many seconds."""
+    """How many are answered on one worker, each on a connection of its own, while an update is out for `rest`
+    seconds."""
     with Trial(1, int(rest * 1_000_000)) as trial, trial.connect() as slow:
         slow.sendall(UPDATE + SCAN)
         count = 0
@@ -198,7 +199,7 @@ def answered_while_one_is_out(rest):
             trial.ask(SCAN, SCANNED)
             count += 1
         assert received(slow, 26) == STORED + SCANNED
-    # The last one may have been answered behind it.
+    # The last one may have been answered after it.
     return count - 1
 
 
@@ -271,12 +272,12 @@ def test_fifteen_faults_in_a_row_end_nothing(program, _):
 
 
 def test_a_sixteenth_fault_in_a_row_ends_it(program, _):
-    """Callers are refused then, who has nothing under way is let go of, and who began a request may end it."""
+    """Callers are refused then, peers with nothing under way are closed, and a peer that began a request may end it."""
     accepts = Accepts(program.folder, first=3, count=16, why=errno.EINVAL)
     with Trial(1, env=accepts.env) as trial, trial.connect() as begun:
         begun.sendall(SCAN + SCAN[:-1])
         assert received(begun, 13) == SCANNED
-        # The faults begin behind the second connection.
+        # The faults begin after the second connection.
         with trial.connect() as quiet:
             assert to_its_end(quiet) == b""
         with contextlib.suppress(ConnectionRefusedError):
@@ -290,7 +291,7 @@ def test_a_sixteenth_fault_in_a_row_ends_it(program, _):
 
 
 def test_no_descriptor_is_left(program, _):
-    """Who calls then waits in the system's queue, and is served as soon as another one has ended."""
+    """Later callers wait in the system's queue, and are served as soon as another one has ended."""
     accepts = Accepts(program.folder)
     with Trial(2, 0, 40, 30, accepts.env) as trial:
         streams = [trial.connect() for _ in range(40)]

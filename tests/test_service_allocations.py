@@ -30,14 +30,15 @@ def refuse_each(folder, work, answer):
     before, between, after = (count(folder, work, rounds) for rounds in (0, 1, 2))
     assert run(work, 2) == answer
     for number in range(before + 1, after + 1):
-        # The round behind one that was refused is answered.
+        # The round after one that was refused is answered.
         printed = run(work, 2, ALLOCATIONS_REFUSE=str(number))
         assert printed == ("refused NoMemory 0\n" if number > between else answer), (work, number, printed)
     return between - before, after - between
 
 
 def test_each_allocation_of_an_answer_is_refused(snapd, _):
-    # The list; and once the place of what is kept, and of each value its bytes and who shares them. What hasn't changed is shared.
+    # The list; and once the place of the kept values, and of each value its bytes and their owners. What hasn't changed
+    # is shared.
     assert refuse_each(snapd.folder, "scan", f"snapshot of {SEGMENTS}\n") == (2 + 2 * SEGMENTS, 1)
     # The list of two, and that of what their segments are; and once as above, of two values.
     assert refuse_each(snapd.folder, "part", "part of 2\n") == (3 + 2 * 2, 2)

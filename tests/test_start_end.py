@@ -14,7 +14,7 @@ from waiting import PATIENCE, comes_to
 
 EMPTY = snapshot((0, b""), (0, b""))
 IGNORED = "SIGINT is ignored, as a script has it for what it starts with &: end it with kill {}"
-# Starts a program that ignores an interrupt, as a shell without a terminal does behind `&`.
+# Starts a program that ignores an interrupt, as a shell without a terminal does with `&`.
 DEAF = ("sh", "-c", 'trap "" INT; exec "$@"', "sh")
 
 

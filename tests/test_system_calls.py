@@ -49,7 +49,7 @@ def calls_of(snapd, *words, stdin=b"", file="F", folder="."):
 
 
 OPENED = [("open",), ("flock",), ("statx",)]
-# What only reads looks first whether it is a file, since a pipe would let it wait.
+# Commands that only read check first whether it is a file, since a pipe would block them.
 READ = [("look at the name",), *OPENED]
 # A sync, and then whether the path still names the file; and the next one, which doesn't ask again.
 LOOK = ("look at the name of the folder",)
@@ -120,7 +120,7 @@ WHOLE = ("pread64", 0, 28_672)
 
 
 def test_calls_of_an_init(snapd, _):
-    """It looks at all files whether one was lost, and then at each before it makes it, keeps it or refuses it."""
+    """It checks all files for a loss, and then each before it makes it, keeps it or refuses it."""
     snapd("init", "D").gave(0, "formatted 0 of 1\n")
     file = snapd.file("D/segment-00.seg")
     whole = layout.holding((0, b""), (1, b"hi"))
@@ -154,7 +154,7 @@ def test_refused_calls_make_none(snapd, _):
     assert on_file == OPENED + LOOKED_AT + [("close",)], on_file
     for data in (b"x", bytes(layout.LENGTH - 1), bytes(layout.OLD.length), b""):
         for command in ("format", "put", "get", "check"):
-            # A format of an empty file goes on.
+            # A format of an empty file continues.
             if data or command != "format":
                 snapd.file().write_bytes(data)
                 on_file, _ = calls_of(snapd, command, "F", stdin=b"hi")

@@ -1,4 +1,5 @@
-"""What `snapd serve` does that no contract asks for, and no other test looks at (docs/UNPROVED.md, "What no clause says")."""
+"""What `snapd serve` does that no contract asks for, and no other test checks (docs/UNPROVED.md, "What no clause
+says")."""
 
 import collections
 import contextlib
@@ -24,12 +25,12 @@ from waiting import comes_to, wait_until
 
 EMPTY = snapshot((0, b""))
 
-# How often each thread is looked at, and in how many looks one has to be found asleep that waits.
+# How often each thread is checked, and in how many checks a waiting one has to be asleep.
 LOOKS, MOST = 50, 40
 
 
 def all_sleep(server):
-    """Whether each thread of the server sleeps in most looks: it neither runs nor wants a processor."""
+    """Whether each thread of the server sleeps in most checks: it neither runs nor wants a processor."""
     asleep = collections.Counter()
     for _ in range(LOOKS):
         for task in pathlib.Path(f"/proc/{server.process.pid}/task").iterdir():
@@ -43,7 +44,7 @@ def test_who_waits_sleeps(snapd, _):
     disk = Disk(snapd)
     with Server(snapd, *fresh(snapd, 2), scanners=2, env=disk.env) as server, server.connect() as idle, server.connect() as waits:
         assert told(idle, update(0, 1, b"a")) == stored(1) and told(waits, STATUS) == standings((1, False), (0, False))
-        # What looks before it sleeps does so for less than a millisecond each time, of a processor that nobody else wants.
+        # A thread that spins before it sleeps does so for less than a millisecond each time, on an idle processor.
         wait_until(lambda: all_sleep(server), "the sleep of an idle server")
         disk.says("S1 sync hold 0")
         waits.sendall(update(1, 1, b"a"))
@@ -54,7 +55,7 @@ def test_who_waits_sleeps(snapd, _):
 
 
 def test_each_thread_of_a_start_is_refused(snapd, _):
-    """It says so, and doesn't listen: who waits for that line may count on all of them."""
+    """It complains, and doesn't listen: a caller that waits for that line may count on all threads."""
     files = fresh(snapd, 2)
     for number in itertools.count(1):
         env = {"LD_PRELOAD": library("threads"), "THREADS_REFUSE": str(number)}
@@ -63,13 +64,13 @@ def test_each_thread_of_a_start_is_refused(snapd, _):
             break
         assert run.status == 1 and b"listening" not in run.output, (number, run)
         assert run.errors in (f"snapd: {NO_THREAD}", f"snapd: {LOOPBACK}: {NO_THREAD}"), (number, run)
-    # That of the log, two that store, and three that serve.
+    # The log's, two that store, and three that serve.
     assert number == 1 + 2 + 3 + 1 and b"served 0" in run.output, (number, run)
 
 
 def test_faults_of_a_listener_are_rested_behind(snapd, _):
-    """For twice as long behind each; and where the system has no room for a connection, for a moment. No sleep ends early, so what
-    is measured here is too short only where there was none."""
+    """For twice as long after each; and if the system has no room for a connection, for a moment. No sleep ends early,
+    so the time measured here is too short only if there was none."""
     for count, why, least in ((6, errno.EBADF, 0.02 * (1 + 2 + 4 + 8 + 16)), (20, errno.EMFILE, 0.01 * 19)):
         accepts = Accepts(snapd.folder, 2, count, why)
         accepts.failed.unlink(missing_ok=True)
@@ -140,8 +141,8 @@ def has_ended(stream):
 
 
 def test_who_talks_is_not_let_go_of(snapd, _):
-    """Nor who waits for its update, whether it says something meanwhile or not. Beside them one is let go of that says nothing, not
-    before its time, and one that began a request and says no more."""
+    """Nor a peer that waits for its update, whether it sends something in between or not. Beside them a silent one is
+    closed, not before its time, and one that began a request and sends no more."""
     disk, may, ended = Disk(snapd), 3, []
     with Server(snapd, *fresh(snapd, 2), scanners=1, env=disk.env, more=("--idle", may)) as server, contextlib.ExitStack() as peers:
         disk.says("S0 sync hold 0", "S1 sync hold 0")
@@ -151,8 +152,8 @@ def test_who_talks_is_not_let_go_of(snapd, _):
         waits.sendall(update(0, 1, b"a"))
         asks.sendall(update(1, 1, b"a"))
         disk.wait_for_hold()
-        # For twice as long as one may be silent, with rests that are far shorter. Behind each the worker is woken by the one's request:
-        # then it looks around, and finds the other one silent, which talks next.
+        # For twice as long as one may be silent, with rests that are far shorter. After each the worker is woken by the
+        # one's request: then it checks all, and finds the other one silent, which talks next.
         for turn in range(150):
             time.sleep(0.05)
             for stream in talking:
@@ -168,7 +169,7 @@ def test_who_talks_is_not_let_go_of(snapd, _):
 
 
 def test_who_came_is_served_to_its_own_end(snapd, _):
-    """Once as many have come as were asked for, nobody is let go of who says nothing for a moment."""
+    """Once as many have come as were asked for, no peer is closed for a moment's silence."""
     with Server(snapd, *fresh(snapd, 1), scanners=2, connections=3) as server:
         with server.connect() as first, server.connect() as second, server.connect() as third:
             for stream in 5 * (third, second, first):
@@ -193,7 +194,7 @@ def test_want_of_room_is_told_once(snapd, _):
 
 
 def test_who_began_a_request_keeps_no_server_that_stops(snapd, _):
-    """It is waited for as long as it goes on, and five seconds behind its last byte."""
+    """The server waits for as long as it continues, and five seconds after its last byte."""
     accepts = Accepts(snapd.folder, 2, 10**6, errno.EBADF)
     env = accepts.env | {"LD_PRELOAD": f"{accepts.env['LD_PRELOAD']}:{library('sleeps')}"}
     with Server(snapd, *fresh(snapd, 1), env=env, more=("--log", "debug")) as server, server.connect() as begun:
@@ -225,7 +226,7 @@ def test_a_worker_that_failed_is_told_where_all_have_come(snapd, _):
 
 
 def told_of(snapd):
-    """Where the calls on sockets are told, and the environment in which they are."""
+    """The file that lists the calls on sockets, and the environment in which it does."""
     path = snapd.file("calls")
     path.unlink(missing_ok=True)
     return path, {"LD_PRELOAD": library("sockets"), "SOCKETS_TOLD": str(path)}
@@ -256,7 +257,7 @@ def test_what_is_asked_of_sockets(snapd, _):
 
 
 def test_each_number_of_a_name_is_tried(snapd, _):
-    """The first that can be bound is served, and told; where none can, the reason is the last one's."""
+    """The first that can be bound is served, and printed; if none can, the reason is the last one's."""
     files = fresh(snapd, 1)
 
     def env(*numbers):
@@ -279,7 +280,7 @@ def made(snapd):
 
 
 def test_a_path_that_cannot_be_asked_takes_no_update(snapd, _):
-    """Its folder is replaced by a link to itself, so the system can't tell what the path names: that is no reason to store."""
+    """Its folder is replaced by a link to itself, so the system can't resolve the path, and nothing may be stored."""
     folder, link = snapd.file("folder"), snapd.file("link")
     folder.mkdir()
     fresh(snapd, 1, folder="folder")
@@ -306,7 +307,7 @@ def test_a_migration_looks_before_it_opens(snapd, _):
 
 
 def test_a_call_says_what_to_do(snapd, _):
-    """Where nobody listens, where the peer closes before it has answered, and where it answers what no server does."""
+    """If no server listens, if the peer closes before it has answered, and if it answers as no server does."""
     run = snapd("call", f"127.0.0.1:{free_port()}", "scan")
     assert run.status == 1 and run.errors.endswith(": start snapd serve there, or wait for it with --wait\n"), run
     for sent, remedy in ((b"", "send it again, since an update is stored once"), (frame(b"\0"), "check the address")):

@@ -165,7 +165,7 @@ def test_a_sample_is_new_with_each_seed_and_keeps_to_its_bounds(snapd, _):
     draws = [drawn(LOWER, edits, crates, seconds, [], seed, (2, 5, 250)) for seed in range(40)]
     assert {name for names, _ in draws for name in names} == set(LOWER) and len({tuple(it) for _, it in draws}) > 30
     assert all(len(names) == 2 and len(chosen) == 5 and {it[0] for it in chosen} <= set(names) for names, chosen in draws)
-    # What nobody has measured isn't taken to cost nothing.
+    # A crate that wasn't measured isn't taken to cost nothing.
     assert all(len(drawn(LOWER, edits, crates, {**seconds, "low": 0}, list(LOWER), seed, (3, 5, 150))[0]) < 3 for seed in range(20))
     # Where nothing below is at hand, a high one would cost all three.
     draws = [drawn(LOWER, edits, crates, seconds, list(LOWER), seed, (3, 99, 250)) for seed in range(40)]
@@ -200,7 +200,7 @@ def test_a_record_has_a_crate_as_long_as_nothing_under_its_proof_changes(snapd, 
         assert Record(record.digests_of(top, "logic"), made.lines).missing() == wanted, path
         (top / path).write_text(text)
     assert Record(record.digests_of(top, "another"), made.lines).missing() == list(LOWER)
-    # What was proved before keeps its day and its time, and what is gone goes.
+    # Crates that were proved before keep their day and time, and those that no longer exist are dropped.
     again = Record({**made.digests, "high": "new"}, {**made.lines, "gone": Proved("0", "old", "day", 1)})
     again.take({"high": 4}, "2026-12-01")
     assert [(it.day, it.seconds) for it in again.lines.values()] == [("2026-11-28", 7), ("2026-11-28", 5), ("2026-12-01", 4)]
@@ -267,7 +267,7 @@ def test_a_proof_is_kept_as_long_as_all_that_it_read_is_the_same(snapd, _):
         built.write_text(name)
 
     def taken(name="middle"):
-        """Whether the archive gives the crate's library, once it is gone."""
+        """Whether the archive restores the crate's library after it was removed."""
         built = top / "crates" / name / "out" / "rlib"
         shutil.rmtree(built, ignore_errors=True)
         is_taken = archive.Archive(top, folder).take(name)

@@ -19,7 +19,7 @@ from test_serve_disks import Disk
 from waiting import PATIENCE, comes_to
 
 HELD = [(0, b""), (1, b"hi")]
-# Looks often, so that a test needn't wait.
+# Polls often, so that a test needn't wait.
 OFTEN = ("--every", "10")
 
 
@@ -46,7 +46,7 @@ class Watch:
             self.process.stdout.close()
 
     def lines(self, count):
-        """The next lines, so many of them."""
+        """The next `count` lines."""
         until = time.monotonic() + PATIENCE
         while self.text.count(b"\n") < count:
             ready, _, _ = select.select([self.process.stdout], [], [], until - time.monotonic())
@@ -57,7 +57,7 @@ class Watch:
         return [it.decode() for it in lines]
 
     def is_silent(self, seconds=0.3):
-        """It prints nothing for a while, in which it looks again and again."""
+        """Whether it prints nothing for a while, in which it polls again and again."""
         ready, _, _ = select.select([self.process.stdout], [], [], seconds)
         return not ready and self.text == b""
 
@@ -202,7 +202,7 @@ def test_an_output_that_is_closed_ends_it(snapd, _):
 
 
 def test_an_output_that_is_closed_ends_it_at_rest(snapd, _):
-    """At the next look, though there is nothing to print."""
+    """At the next poll, though there is nothing to print."""
     with Server(snapd, *two(snapd)) as server, Watch(snapd, server.address) as watch:
         watch.lines(2)
         watch.process.stdout.close()
@@ -239,7 +239,7 @@ class Stalled:
 
 
 def test_a_server_that_hangs_is_lost_within_ten_seconds(snapd, _):
-    """Before its first answer and behind it, as lines and on a board; a peer that trickles, too."""
+    """Before its first answer and after it, as lines and on a board; a peer that trickles, too."""
     late = "there was no answer within 10 s"
     with contextlib.ExitStack() as all_of_it:
         begin = all_of_it.enter_context
@@ -335,7 +335,7 @@ def test_colours(snapd, _):
 
 
 def ending(snapd, address, output):
-    """A watch that signals end, also where who runs the tests has them ignored, as behind `nohup` or `&` of a script."""
+    """A watch that signals end, also if the tests run with them ignored, as with `nohup` or `&` of a script."""
     def heed():
         for number in (signal.SIGINT, signal.SIGTERM, signal.SIGHUP):
             signal.signal(number, signal.SIG_DFL)

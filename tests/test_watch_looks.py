@@ -1,5 +1,5 @@
-"""What each look of `snapd watch` asks, what it prints of the answers, and how a board is drawn: to the byte, at a peer that answers as it
-is told."""
+"""What each poll of `snapd watch` requests, what it prints of the replies, and how a board is drawn: to the byte, with
+a peer that sends given replies."""
 
 import contextlib
 import os
@@ -18,7 +18,7 @@ from waiting import wait_until
 
 
 def answers(*replies):
-    """Answers the requests of a connection, one after the other, and hangs up behind the last one."""
+    """Answers the requests of a connection, one after the other, and hangs up after the last one."""
     def handle(peer, stream):
         with contextlib.suppress(OSError):
             for reply in replies:
@@ -34,8 +34,8 @@ NEW, FENCED = standings((1, False), (0, False)), standings((1, False), (0, True)
 HELD = snapshot((1, b"hi"), (0, b""))
 LINES = [row(0, 1, 'text "hi"'), row(1, 0, 'text ""')]
 MANY = standings(*[(1, False)] * 12, (9, True))
-# Words, the answers to the looks, what these ask, and the lines that are printed. A look asks for the numbers, and for the values where one
-# of them is another.
+# Words, the replies to the polls, their requests, and the lines that are printed. A poll requests the numbers, and the
+# values if a number has changed.
 LOOKS = [
     ("A", [NEW, HELD], [STATUS, SCAN], LINES),
     ("A", [NEW, HELD, NEW, NEW], [STATUS, SCAN, STATUS, STATUS], LINES),
@@ -78,7 +78,7 @@ def test_what_a_look_asks_and_prints(snapd, _):
         with Peer(answers(*replies)) as peer:
             with Watch(snapd, *(peer.address if it == "A" else it for it in words.split())) as watch:
                 assert watch.lines(len(printed)) == printed, words
-                # It has had all answers once it says that the connection is gone.
+                # It has had all answers once it reports that the connection is lost.
                 wait_until(watch.notes, "the end")
                 assert watch.is_silent(0.05) and peer.heard == [b"".join(asked)], (words, peer.heard)
 
@@ -113,7 +113,7 @@ def at_last(*replies, still):
 
 
 def test_a_board_is_drawn_in_place(snapd, _):
-    """In that of the three lines before it."""
+    """In the place of the three lines before it."""
     fenced = standings((4, True))
     peer = Peer(at_last(standings((1, False)), snapshot((1, b"a")), fenced, snapshot((4, b"a\tb")), still=fenced))
     with peer, Terminal() as terminal, Watch(snapd, peer.address, output=terminal.side, env={"NO_COLOR": "1"}):

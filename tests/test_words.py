@@ -1,4 +1,5 @@
-"""The words of each command: what is said of wrong ones, to the byte and before anything is opened, and what right ones stand for."""
+"""The words of each command: the message about wrong ones, to the byte and before anything is opened, and what right
+ones mean."""
 
 import contextlib
 import os
@@ -254,7 +255,7 @@ def test_wrong_puts_and_gets(snapd, _):
         ("call A update 0 1 00 --after 0", alone),
         (f"call A put 0 --value {'x' * 65_991}", "the update's value has 65991 bytes, and a request holds at most 65990"),
     )
-    # With one byte less it is a value. What the address lacks is said behind what is wrong with the words.
+    # With one byte less it is a value. What the address lacks is checked after the words.
     lacking = ":0: an address is HOST:PORT or unix:PATH, and the host is missing: give for example 127.0.0.1:7070"
     snapd("call", ":0", "put", 0, "--value", "x" * 65_990).gave(1, errors=f"snapd: {lacking}\n")
 
@@ -306,7 +307,8 @@ def test_wrong_words_of_a_watch(snapd, _):
 # ---- right words: one file, a folder, a dump ----
 
 OPEN = '"state":"open"'
-# What `check` says of the slots and the answer of a file with `hi` as number 1; and all that it says of that of segment 0 of 1 as JSON.
+# What `check` prints of the slots and the answer of a file with `hi` as number 1; and all of it for segment 0 of 1 as
+# JSON.
 HI = "slot 0 open number 0 length 0\nslot 1 open number 1 length 2\nslot 2 closed\nanswer number 1\n"
 HI_AS_JSON = (f'{{"header":"open","index":0,"count":1,"slots":[{{"slot":0,{OPEN},"number":0,"length":0}},'
               f'{{"slot":1,{OPEN},"number":1,"length":2}},{{"slot":2,"state":"closed"}}],"answer":1}}\n')
@@ -338,7 +340,7 @@ COMMANDS = [
 
 
 def test_what_commands_on_files_do(snapd, _):
-    """Without an option each has its default, and an option may stand in front of the file."""
+    """Without an option each has its default, and an option may come before the file."""
     snapd.file("OLD").write_bytes(layout.OLD.holding((0, b""), (1, b"hi")))
     for name in ("dump", "-dump"):
         snapd.file(name).write_bytes(DUMP)
@@ -380,8 +382,8 @@ def masks(*rows):
     return [(f"call A part {mask}", (part(bits), None)) for mask, bits in rows]
 
 
-# Words, and each connection that is made for them, in order: what is sent, and what it is answered, where it isn't hung up behind it.
-# Standard input has `in`.
+# Words, and each connection that is made for them, in order: what is sent, and the reply, or `None` for a connection
+# that is closed. Standard input has `in`.
 SENT = [
     ("call A scan", (SCAN, None)),
     ("call --tries=10 A status", *[(STATUS, None)] * 10),
@@ -413,7 +415,7 @@ AGAIN = "the connection ended before the reply: whether the request was done isn
 
 
 def test_what_a_call_sends(snapd, _):
-    """To the byte, and on so many connections."""
+    """To the byte, and on how many connections."""
     for words, *turns in SENT:
         with peer_of(*turns) as peer:
             run = snapd(*at(peer.address, words), stdin="in", env={"LD_PRELOAD": library("sleeps")})
@@ -456,7 +458,7 @@ def test_what_files_and_scanners_a_server_has(snapd, _):
         first, *more = words.split()
         with Server(snapd, *more, address=first) as server:
             assert server.report.endswith(f"segments {files}\n") and ("S0" in words) == ("segment 0 number 1 " in server.report), words
-            # Its own, that of the log, one for each segment, and one for each scanner.
+            # Its own, the log's, one for each segment, and one for each scanner.
             comes_to(1 + 1 + files + scanners, lambda: threads_of(server))
             for _ in range(connections or 2):
                 assert len(server.scan()) == files
@@ -491,7 +493,7 @@ def test_where_a_server_listens(snapd, _):
             lines = [f"listening {server.address}", *server.printed(len(addresses) - 1)]
             assert lines == [f"listening {it}" for it in addresses], words
             assert stat.S_IMODE(os.lstat(snapd.file("c")).st_mode) == mode, words
-        # Who may not call at a socket can't tell that nobody serves there.
+        # A user who may not use a socket can't find out that no server has it.
         snapd.file("c").unlink()
     # One that leaves the port to the system may be given twice.
     run = snapd("serve", LOOPBACK, "one/S0", "--listen", LOOPBACK, "--connections", 0)
@@ -514,8 +516,8 @@ def test_where_a_server_answers_browsers(snapd, _):
     snapd("serve", LOOPBACK, "--dir", "D", "--http=unix:w").gave(1, errors=f"snapd: {no_port}\n")
 
 
-# A server's words behind its file, whether a second client waits for the first one to go, whether one is let go of that says nothing
-# for a second, and the levels of its lines.
+# A server's words after its file, whether a second client waits for the first one to close, whether one is closed that
+# is silent for a second, and the levels of its lines.
 LEVELS = ["WARN", "INFO", "DEBUG"]
 LIMITED = [
     ("", False, False, LEVELS[:2]),
@@ -540,7 +542,7 @@ def test_what_a_server_lets_in_and_logs(snapd, _):
             began, first, second = time.monotonic(), begin(server.connect()), begin(server.connect())
             talks.append((words, waits, is_let_go, began, first, second))
             second.sendall(SCAN)
-            # Once the first one is let go of there is room.
+            # Once the first one is closed there is room.
             assert is_quiet(second, 0.1) or time.monotonic() - began > 0.9 if waits else received(second, len(EMPTY)) == EMPTY, words
         for words, _, is_let_go, began, first, _ in talks:
             assert not is_let_go or first.recv(1) == b"" and time.monotonic() - began >= 1, words
@@ -556,14 +558,14 @@ def test_what_a_server_lets_in_and_logs(snapd, _):
 
 
 def is_quiet(stream, seconds=0):
-    """Whether nothing comes from it for so long, and no end."""
+    """Whether nothing comes from it for this time, and no end."""
     return not select.select([stream], [], [], seconds)[0]
 
 
 # ---- right words: a watch ----
 
 def looked_at(times):
-    """Answers each look at sixteen new segments, and notes when it came."""
+    """Answers each poll with sixteen new segments, and records its time."""
     def handle(_peer, stream):
         with contextlib.suppress(OSError):
             while head := received(stream, 4):

@@ -1,4 +1,4 @@
-/* Stands between the program and the system (LD_PRELOAD): of the threads that it starts the one with the number THREADS_REFUSE,
+/* A library for LD_PRELOAD: of the threads that the program starts the one with the number THREADS_REFUSE,
  * counted from 1, is refused, as where there may be no more. */
 #define _GNU_SOURCE
 #include <dlfcn.h>

@@ -1,4 +1,4 @@
-"""The programs of crates/try_faults and crates/try_bench, which do what some of the tests and benchmarks look at (`make programs`
+"""The programs of crates/try_faults and crates/try_bench, which some of the tests and benchmarks run (`make programs`
 builds them), and what the merge gate has the first one print."""
 
 import pathlib
@@ -23,11 +23,11 @@ def faults(*words):
 
 
 def bench(*words):
-    """What benchmarks time, and a server with nothing behind it."""
+    """What benchmarks time, and a server without a service."""
     return trial("try_bench", *words)
 
 
 def stored(words):
-    """What `try_faults` has to print where it is started with these words: in its stored output that stands behind a heading."""
+    """What `try_faults` has to print with these words: the part of its stored output under that heading."""
     _, *parts = re.split(r"^== (.*)\n", (CRATES / "try_faults" / "stdout").read_text(), flags=re.MULTILINE)
     return dict(zip(parts[::2], parts[1::2]))[words]

@@ -1,12 +1,12 @@
-"""Waits that end with what they wait for, and not by the clock: so a test means the same on a fast and quiet machine and on a
-slow and full one. The clock only tells that something has stopped for good."""
+"""Waits that end with what they wait for, and not by the clock: so a test means the same on a fast and quiet machine
+and on a slow and full one. The clock only shows that something has stopped for good."""
 
 import fcntl
 import struct
 import termios
 import time
 
-# How long something may stand still, in seconds, before it is held to have stopped for good.
+# How long something may make no progress, in seconds, before it counts as stopped for good.
 PATIENCE = 60
 # More steps than a job does while a test runs.
 NO_END = 10**9
@@ -29,14 +29,14 @@ def comes_to(wanted, value):
 
 
 def gets_on(value, steps, is_over=lambda: False):
-    """Waits until a number has grown by so many steps, as long as it grows at all. False where `is_over()` came before."""
+    """Waits until a number has grown by `steps`, as long as it grows at all. False if `is_over()` came before."""
     seen = value()
     wanted, until = seen + steps, time.monotonic() + PATIENCE
     while seen < wanted:
         if is_over():
             return False
         assert time.monotonic() < until, f"it stands still at {seen}"
-        # A look may cost a connection, and the system has only so many.
+        # A check may cost a connection, and the system has only so many.
         time.sleep(0.005)
         seen, before = value(), seen
         if seen != before:
@@ -45,7 +45,7 @@ def gets_on(value, steps, is_over=lambda: False):
 
 
 def moment(rng, longest=0.02):
-    """Rests a moment, so that what is done behind it comes anywhere. No test may rest on its length."""
+    """Rests a moment, so that what follows comes at any time. No test may rely on its length."""
     time.sleep(rng.uniform(0, longest))
 
 

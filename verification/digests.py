@@ -26,7 +26,7 @@ HERE = ("crate", "super", "self")
 
 
 def summed(*parts):
-    """The SHA-256 of these parts, each behind its length, so that no two lists of parts have one sum."""
+    """The SHA-256 of these parts, each after its length, so that no two lists of parts have one sum."""
     total = hashlib.sha256()
     for part in parts:
         part = part if isinstance(part, bytes) else part.encode()
@@ -77,7 +77,7 @@ class Digests:
 
     @functools.lru_cache(maxsize=None)
     def meant(self, crate, path, text):
-        """The pieces that a text names, which stands in this file."""
+        """The pieces that a text in this file names."""
         imports, found = self.imports.get(path, {}), []
         for word in words_of(text):
             found += self.in_file.get((path, word), [])
@@ -91,7 +91,7 @@ class Digests:
         return found
 
     def defined(self, crate, name):
-        """The pieces of this name that a crate has, or that it hands on from one below."""
+        """The pieces of this name that a crate has, or re-exports from one below."""
         own = self.named.get((crate, name), [])
         return own or [it for lower in self.below.get(crate, ()) for it in self.named.get((lower, name), [])]
 

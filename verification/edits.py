@@ -95,7 +95,7 @@ class Edits:
                 self.failures.append(f"edit {name}: {came}{text[:300]}")
 
     def record(self, top):
-        """Writes what stands: nothing of an edit that is gone, has changed, or wasn't refused."""
+        """Writes the refused edits, without those that were removed or have changed."""
         kept = {self.name(it): self.recorded[self.name(it)] for it in self.known()}
         (top / LOCK).write_text(HEAD + "".join(f"{name} {it.digest} {it.release}\n" for name, it in sorted(kept.items())))
 

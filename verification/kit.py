@@ -23,7 +23,7 @@ def release():
 
 
 def logic():
-    """What a proof is a proof of, whichever release finds it; the whole identity where that isn't told."""
+    """The logic in which a proof holds, whichever release finds it; the whole identity if the kit doesn't say."""
     return identity().partition(" ")[2] or identity()
 
 

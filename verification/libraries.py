@@ -1,11 +1,11 @@
-"""Lays the libraries that this machine has proved where `rt check` looks, so that it begins at once in any crate.
+"""Puts the libraries that this machine has proved where `rt check` finds them, so that it begins at once in any crate.
 
     python3 verification/libraries.py
 
-`make prove` and `make test` keep what they prove (archive.py); `rt check` knows nothing of that, and in a fresh checkout it proves
-each library below its crate first. Here each library that was proved of these very texts is laid into its crate's out/, with
-the stamp by which `rt check` sees that nothing has changed since. What lay there is removed, since statements fit only the
-libraries that they were built over. No gate takes anything from an out/.
+`make prove` and `make test` keep what they prove (archive.py); `rt check` knows nothing of that, and in a fresh
+checkout it proves each library below its crate first. This script puts each library that was proved from these very
+files into its crate's out/, with the stamp by which `rt check` sees that nothing has changed since. Anything else there
+is removed, since statements fit only the libraries that they were built over. No gate reads an out/.
 """
 
 import shutil

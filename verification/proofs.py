@@ -1,10 +1,10 @@
-"""Proves crates by the kit's `rt ci`, from a copy of the checkout, and says how it gets on.
+"""Proves crates by the kit's `rt ci`, from a copy of the checkout, and prints its progress.
 
     python3 proofs.py ci [--anew]
 
-is the kit's `rt ci` in this folder, but for four things: tests aren't proved, since nobody relies on a theorem about a test; the
-crates come in the order of the times that the record has, the longest chain first; it says how long each took; and what this
-machine has proved before is taken from its archive (archive.py), with --anew nothing.
+is the kit's `rt ci` in this folder, except in four things: tests aren't proved; the crates are in the order of their
+recorded times, with the longest chain first; it prints how long each took; and it uses what this machine has proved
+before (archive.py), except with --anew.
 """
 
 import os

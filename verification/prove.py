@@ -1,11 +1,11 @@
-"""Proves the program with all that it stands on, builds it by two compilers, tries the edits that aren't on record, and runs the
-end-to-end tests on it.
+"""Proves the program and all crates that it uses, builds it with two compilers, tries the edits that aren't on record,
+and runs the end-to-end tests on it.
 
     python3 verification/prove.py [--fresh] [NAME ..]
 
-What this machine has proved before, of the same texts over the same libraries, is taken from its archive, with --fresh nothing.
-The program is left at bin/snapd. Where every proof passed, proofs.lock says so, and README has its line. With names these
-programs are proved and built alone, each at its crate's out/, as the benchmarks want them.
+It uses what this machine has proved before, from the same files over the same libraries, except with --fresh. The
+program is left at bin/snapd. If every proof passed, proofs.lock records that, and README has its line. With names only
+these programs are proved and built, each in its crate's out/, where the benchmarks need them.
 """
 
 import argparse

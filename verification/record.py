@@ -1,11 +1,13 @@
-"""The record of proofs: which crates were proved whole as they stand, by which release of the kit, when, and in what time.
+"""The record of proofs: which crates were proved whole as they are now, by which release of the kit, when, and in what
+time.
 
     python3 verification/record.py
 
-says how much of this checkout stands in `proofs.lock` as it is now. `make prove` writes a line for each crate that was proved
-from nothing, by that run or by an earlier one on that machine. Its digest (SHA-256) is of all that the proof rests on: each file
-of the crate's src/, specs/ and proofs/ without its comments, its line of crates.txt, HANDLES, the kit's logic, and the digests
-of the crates below. A line is the word of who wrote it: what holds it to that is everybody's `make prove`, and `make test`'s sample.
+prints how much of this checkout is in `proofs.lock` as it is now. `make prove` writes a line for each crate that was
+proved from nothing, by that run or by an earlier one on that machine. Its digest (SHA-256) is of all that the proof
+rests on: each file of the crate's src/, specs/ and proofs/ without its comments, its line of crates.txt, HANDLES, the
+kit's logic, and the digests of the crates below. A line is only a claim of its author: anyone can check it by
+`make prove`, and `make test` checks a sample.
 """
 
 import datetime
@@ -79,7 +81,7 @@ class Record:
         return line + (f"; not {', '.join(missing)}" if missing else "")
 
     def take(self, seconds, day=None):
-        """Notes all crates as proved now, those in `seconds` in so many, and lets go of those that are gone."""
+        """Notes all crates as proved now, with their seconds if they have any, and drops those that no longer exist."""
         day, missing, were = day or datetime.date.today().isoformat(), set(self.missing()), self.lines
         self.lines = {}
         for name, digest in self.digests.items():

@@ -1,5 +1,5 @@
-"""Builds what is tested without proofs, and runs tests: those of the crates, each in a process of its own, and the end-to-end
-tests on a program."""
+"""Builds crates without proofs and runs their tests, each crate in a process of its own, and runs the end-to-end tests
+on a program."""
 
 import os
 import pathlib
@@ -29,7 +29,8 @@ def programs(top):
 
 
 def run_tests(rt, built):
-    """Runs a crate's tests as the kit does it, outside the checkout and as nobody where that can be: how many passed, and what failed."""
+    """Runs a crate's tests as the kit does, outside the checkout and, if possible, as the user nobody. Returns how many
+    passed, and which failed."""
     drop = rt.drop_to_nobody() or []
     with tempfile.TemporaryDirectory(prefix="snapd-tests-") as room:
         room = pathlib.Path(room)

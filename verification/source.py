@@ -1,4 +1,4 @@
-"""What stands in a source or a file of definitions, and what an edit replaces in it."""
+"""Finds the functions of a source and the definitions of a file, and what an edit replaces in it."""
 
 import re
 from dataclasses import dataclass
@@ -10,7 +10,7 @@ COMMENT = {
     ".rt": re.compile(r'^ *//.*\n|"(?:\\[\s\S]|[^"\\])*"|r(#+)"[\s\S]*?"\1|\'(?:\\[^\']+|[^\\\n\'])\'|//.*', re.M),
     ".antt": re.compile(r'^ *--.*\n|"(?:\\.|[^"\\\n])*"|--.*', re.M),
 }
-# The word that a line of a definition begins with, behind the words that say what it is.
+# The name at the beginning of a definition's line, after its keywords.
 DEFINED = re.compile(r"^( *)(?:(?:pub|abbrev|unfoldable|record|data|unfolding) )*([A-Za-z_◌][^\s:({]*)", re.M)
 DECLARED = re.compile(r"\b(?:struct|enum|trait|type|union|const|static) (\w+)")
 VARIANTS = re.compile(r"^    (\w+)[ ,({=]", re.M)
@@ -32,7 +32,7 @@ def proved_text(path):
 
 @dataclass(frozen=True)
 class Function:
-    """A function of a source file, by its first and last line, and the head of the impl that it stands in."""
+    """A function of a source file, by its first and last line, and the head of its impl."""
 
     path: str
     name: str
@@ -42,7 +42,7 @@ class Function:
 
 
 def functions_in(text, path):
-    """A file's functions. In the layout of `rt fmt` each ends at the first brace that stands where its head begins."""
+    """A file's functions. In the layout of `rt fmt` each ends at the first brace in the column of its head."""
     lines, found, of = text.split("\n"), [], ""
     for first, line in enumerate(lines):
         if IMPL.match(line):
@@ -61,7 +61,7 @@ def functions_in(text, path):
 
 
 def body_of(lines, function):
-    """The lines of a function's body, from and to, or None where it has none or can't be told apart from the head."""
+    """The first and last line of a function's body, or None if it has none or can't be told from the head."""
     head = next(at for at in range(function.first - 1, function.last) if HEAD.match(lines[at]))
     indent = HEAD.match(lines[head])[1]
     if re.match(r"\s*(pub(\([a-z]+\))? )?const fn", lines[head]):
@@ -117,7 +117,7 @@ def replacements(edit):
 
 
 def applies(folder, edit):
-    """Whether what an edit replaces still stands in its crate, once each."""
+    """Whether each text that an edit replaces is still in its crate, exactly once."""
     texts = {}
     for path, old, new in replacements(edit):
         if path not in texts and not (folder / path).exists():

@@ -12,7 +12,7 @@ TOP = pathlib.Path(__file__).resolve().parent.parent
 LOGS = TOP / "out"
 # What the prover reads of a crate.
 PARTS = ("src", "specs", "proofs")
-# What of a crate stays behind when it is copied: what an earlier run made, and the edits, which are tried apart.
+# What isn't copied of a crate: the output of an earlier run, and the edits, which are tried separately.
 LEFT = shutil.ignore_patterns("out", "must-fail")
 TEST = re.compile(r"^\s*#\[test\]", re.M)
 
@@ -50,7 +50,7 @@ def refuse_strange(crates, names):
 
 
 def below(crates, name):
-    """The crates of the checkout that this one stands on, each behind those that it uses itself."""
+    """The crates of the checkout that this one uses, directly or not, each after those that it uses itself."""
     found = []
     for used in crates[name].uses:
         if used in crates:
@@ -76,8 +76,8 @@ def is_program(top, name):
 
 
 def proved_crates(top):
-    """The crates that are proved: the program with all that it stands on, and the laws. Crates of tests, and the programs that
-    tests run, are built without proofs and run."""
+    """The crates that are proved: the program, all crates that it uses, and the laws. Crates of tests, and programs
+    that tests run, are built without proofs and run."""
     names = crates_of(top)
     tried = {it for it in names if it.startswith("try_") or it.startswith("tests_") and has_tests(top / "crates" / it)}
     return [it for it in names if it not in tried]
@@ -99,7 +99,7 @@ def laid(top, copy, names):
 
 @contextlib.contextmanager
 def copied(top, names):
-    """A copy of these crates, without their edits, in a folder that is gone afterwards."""
+    """A copy of these crates, without their edits, in a temporary folder."""
     with tempfile.TemporaryDirectory(prefix="snapd-proofs-") as room:
         copy = pathlib.Path(room) / "main"
         # The prover takes a folder with a .git for the top of a repository.

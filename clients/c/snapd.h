@@ -15,10 +15,10 @@
  *         ...                             // it is on the server's disk
  *     snapd_close(&client);
  *
- * A call connects where no connection stands. One whose connection fails, ends or says nothing for the timeout is tried
- * again on a new connection, with the same bytes: an update under one number is stored once, however often it comes.
- * A value that a scan or a get gives lies within the client. It stands until the client's next snapd_scan, snapd_scan_some or
- * snapd_get, whatever that comes to. All other calls leave it: so it may be stored again, by as many of them as that takes.
+ * A call connects if there is no connection. If the connection fails, ends or is silent for the timeout, the call is
+ * tried again on a new one, with the same bytes: an update under one number is stored once, however often it is sent. A
+ * value that a scan or a get returns is within the client. It is valid until the client's next snapd_scan,
+ * snapd_scan_some or snapd_get, whatever its result. All other calls leave it, so it may be stored again.
  *
  * One thread at a time uses a client, and snapd_close is such a use. A process that is forked off makes a connection of its own,
  * and a program that is executed inherits none. Signals shorten no call and no rest, and it never raises SIGPIPE.
@@ -60,8 +60,8 @@ typedef enum {
     SNAPD_REFUSED,      /* the server said no: refusal and detail of the client say why */
     SNAPD_NOT_ANSWERED, /* no try had an answer: error of the client is the last errno, or 0 where the server hung up */
     SNAPD_TIMED_OUT,    /* the last try had no whole answer within the timeout */
-    SNAPD_BAD_REPLY,    /* what came isn't an answer to the request, or says that another number was stored than was sent, or
-                         * tells other segments than were named. It isn't tried again: check the address, and scan */
+    SNAPD_BAD_REPLY,    /* what came isn't an answer to the request, or says that another number was stored than was
+                         * sent, or has other segments than were named. It isn't tried again: check the address, and scan */
     SNAPD_BAD_CALL      /* a value, a mask or an address that no message or socket can say; nothing was sent */
 } snapd_result;
 
@@ -72,7 +72,7 @@ typedef enum {
     SNAPD_TOO_LONG = 3,       /* detail: the value's length */
     SNAPD_CONFLICT = 4,       /* the number is there with another value; detail of 4, 5, 6, 7, 9, 13, 17: the segment's number */
     SNAPD_OUT_OF_STEP = 5,    /* an update takes the segment's number plus one */
-    SNAPD_FENCED = 6,         /* a store failed before: look at the disk, start the server again, send the update again */
+    SNAPD_FENCED = 6,         /* a store failed before: check the disk, start the server again, send the update again */
     SNAPD_FULL = 7,
     SNAPD_NO_MEMORY = 8,      /* ask again */
     SNAPD_EXHAUSTED = 9,
@@ -89,7 +89,7 @@ typedef enum {
 typedef struct {
     uint64_t number;
     uint32_t length;
-    const unsigned char *value; /* within the client: it stands until the client's next scan or get */
+    const unsigned char *value; /* within the client: valid until the client's next scan or get */
 } snapd_entry;
 
 /* All segments at one moment. */
@@ -109,7 +109,7 @@ typedef struct {
     int fenced;
 } snapd_standing;
 
-/* Where each segment stands, each at a moment of its own. */
+/* The number and fence of each segment, each at a moment of its own. */
 typedef struct {
     int count;
     snapd_standing standing[SNAPD_MAX_SEGMENTS];
@@ -121,7 +121,7 @@ typedef struct {
     socklen_t address_length;
     int timeout; /* milliseconds, for one try */
     int tries;
-    int64_t until; /* by snapd_now: no call goes on behind it */
+    int64_t until; /* by snapd_now: no call continues after it */
     /* the connection, or -1, and the process that made it */
     int connection;
     pid_t process;
@@ -158,7 +158,7 @@ static inline void snapd_name(snapd_client *client, const void *address, size_t 
     client->address_length = (socklen_t)length;
 }
 
-/* A file behind `unix:`, or a numeric address with a port. No name is looked up. */
+/* The path after `unix:`, or a numeric address with a port. No name is looked up. */
 static inline snapd_result snapd_name_server(snapd_client *client, const char *host, int port)
 {
     struct sockaddr_in four;
@@ -221,7 +221,7 @@ static inline int64_t snapd_now(void)
     return (int64_t)now.tv_sec * 1000 + now.tv_nsec / 1000000;
 }
 
-/* Rests so long, whatever signals come meanwhile. */
+/* Rests for this time, whatever signals come in between. */
 static inline void snapd_rest(int64_t milliseconds)
 {
     int64_t end = snapd_now() + milliseconds, left;
@@ -261,8 +261,8 @@ static inline snapd_result snapd_failed(snapd_client *client)
     return SNAPD_NOT_ANSWERED;
 }
 
-/* Connects, or begins to and waits until that has come to something. Where the queue of a Unix socket is full the system says
- * so at once, and lets nobody wait. */
+/* Connects, or begins to and waits for the result. If the queue of a Unix socket is full the system reports that at
+ * once and doesn't wait. */
 static inline snapd_result snapd_join(snapd_client *client, int64_t end)
 {
     while (connect(client->connection, (struct sockaddr *)&client->address, client->address_length) != 0) {
@@ -298,9 +298,9 @@ static inline snapd_result snapd_connect(snapd_client *client, int64_t end)
     return error ? SNAPD_NOT_ANSWERED : SNAPD_OK;
 }
 
-/* The connection that stands, or a new one where none does, the server has ended it, or another process made it, from which
- * this one was forked: two processes on one connection would take each other's replies. Bytes that nobody asked for are no
- * answer to what will be asked. */
+/* The open connection, or a new one if there is none, the server has ended it, or the parent of a forked process made
+ * it: two processes on one connection would take each other's replies. Bytes without a request are no answer to the
+ * next one. */
 static inline snapd_result snapd_connected(snapd_client *client, int64_t end)
 {
     if (client->process != getpid())
@@ -320,7 +320,7 @@ static inline snapd_result snapd_connected(snapd_client *client, int64_t end)
     return snapd_connect(client, end);
 }
 
-/* A request: its head, the value behind it, and the room for its reply's payload. */
+/* A request: its head, its value, and the buffer for its reply's payload. */
 typedef struct {
     unsigned char head[14];
     size_t head_length;
@@ -330,7 +330,7 @@ typedef struct {
     size_t room;
 } snapd_request;
 
-/* Sends a request, in as many pieces as the system takes it. The value goes from where it lies. */
+/* Sends a request, in as many pieces as the system takes it. The value isn't copied. */
 static inline snapd_result snapd_send(snapd_client *client, snapd_request *request, int64_t end)
 {
     struct iovec rest[2];
@@ -360,7 +360,7 @@ static inline snapd_result snapd_send(snapd_client *client, snapd_request *reque
     return SNAPD_OK;
 }
 
-/* So many bytes, and no more. */
+/* Receives exactly `length` bytes. */
 static inline snapd_result snapd_receive(snapd_client *client, unsigned char *bytes, size_t length, int64_t end)
 {
     while (length > 0) {
@@ -385,8 +385,8 @@ static inline snapd_result snapd_receive(snapd_client *client, unsigned char *by
 
 /* ---- one call ---- */
 
-/* One try: the request is sent, and the payload of the reply, of *length bytes, stands in its room. One that is longer answers
- * another request. */
+/* One try: sends the request, and receives the payload of its reply, *length bytes, into its buffer. A longer one
+ * answers another request. */
 static inline snapd_result snapd_try(snapd_client *client, snapd_request *request, size_t *length)
 {
     int64_t end = snapd_now() + client->timeout;
@@ -481,7 +481,7 @@ static inline snapd_result snapd_update(snapd_client *client, unsigned segment, 
     return SNAPD_OK;
 }
 
-/* Asks by a head alone, of so many bytes behind the first four. */
+/* Sends a request that is a head alone, of `bytes` bytes after the first four. */
 static inline snapd_result snapd_ask_head(snapd_client *client, uint64_t head, int bytes, unsigned char *reply, size_t room,
                                           size_t *length)
 {
@@ -496,7 +496,7 @@ static inline snapd_result snapd_ask_head(snapd_client *client, uint64_t head, i
     return snapd_ask(client, &request, length);
 }
 
-/* The entry at this place of a payload: the place behind it, or 0 where there is none. */
+/* Reads the entry at this place of a payload. Returns the place after it, or 0 if there is none. */
 static inline size_t snapd_read_entry(const unsigned char *x, size_t length, size_t at, snapd_entry *entry)
 {
     if (length - at < 12)

@@ -1,5 +1,5 @@
-/* snapd_segment.h: calls on one segment of a snapd server, and a wait for the numbers of some. It stands on snapd.h alone, and
- * as that it allocates nothing.
+/* snapd_segment.h: calls on one segment of a snapd server, and a wait for the numbers of some. It needs only snapd.h,
+ * and like that it allocates nothing.
  *
  *     snapd_entry mine;
  *     uint64_t number, wanted[SNAPD_MAX_SEGMENTS] = {18, 17};
@@ -17,8 +17,8 @@
 extern "C" {
 #endif
 
-/* Number and value of one segment, 0 to 15: else SNAPD_BAD_CALL. *entry is as a scan's: it stands until the client's next scan or
- * get, and may be put or updated meanwhile. It has number 0 and no byte where the result isn't SNAPD_OK. */
+/* Number and value of one segment, 0 to 15: else SNAPD_BAD_CALL. *entry is as a scan's: it is valid until the client's
+ * next scan or get, and may be put or updated in between. It has number 0 and no byte if the result isn't SNAPD_OK. */
 static inline snapd_result snapd_get(snapd_client *client, unsigned segment, snapd_entry *entry)
 {
     snapd_part part;
@@ -40,13 +40,13 @@ static inline snapd_result snapd_no_segment(snapd_client *client, int count)
     return SNAPD_REFUSED;
 }
 
-/* Stores a value behind the one that is there: asks for the segment's number by a status, and updates with the next one.
- * *number is the one that was sent, and 0 where none was. A segment above 15 is SNAPD_BAD_CALL.
+/* Stores a value as the next one: asks for the segment's number by a status, and updates with the next number. *number
+ * is the one that was sent, or 0 if none was. A segment above 15 is SNAPD_BAD_CALL.
  *
- * A refusal isn't tried again. SNAPD_CONFLICT and SNAPD_OUT_OF_STEP say that somebody else stored a value between the two
- * requests; one that came before is gone unseen. So a job that has to notice another writer keeps its number, and calls
- * snapd_update. Where there was no answer the value may have been stored: send it again by snapd_update under *number, and it is
- * stored once. Another snapd_put would store it once more, behind itself. */
+ * A refusal isn't tried again. SNAPD_CONFLICT and SNAPD_OUT_OF_STEP say that another client stored a value between the
+ * two requests; a value that it stored before is overwritten unseen. So a job that has to notice another writer keeps
+ * its number, and calls snapd_update. If there was no answer the value may have been stored: send it again by
+ * snapd_update under *number, and it is stored once. Another snapd_put would store it a second time. */
 static inline snapd_result snapd_put(snapd_client *client, unsigned segment, const void *value, size_t length, uint64_t *number)
 {
     snapd_status_list list;
@@ -64,7 +64,7 @@ static inline snapd_result snapd_put(snapd_client *client, unsigned segment, con
     return snapd_update(client, segment, *number, value, length, &stored);
 }
 
-/* Whether a segment that the mask names lags behind its number. */
+/* Whether a segment in the mask is below its number. */
 static inline int snapd_lags(const snapd_status_list *list, unsigned mask, const uint64_t *numbers)
 {
     for (int i = 0; i < list->count; i++)
@@ -73,7 +73,8 @@ static inline int snapd_lags(const snapd_status_list *list, unsigned mask, const
     return 0;
 }
 
-/* One look of a wait: a status with all segments of the mask, none of them at a smaller number than at the look before. */
+/* One poll of a wait: a status with all segments of the mask, none of them at a smaller number than at the last poll.
+ * */
 static inline snapd_result snapd_look(snapd_client *client, unsigned mask, snapd_status_list *list)
 {
     snapd_status_list now;
@@ -92,14 +93,14 @@ static inline snapd_result snapd_look(snapd_client *client, unsigned mask, snapd
     return SNAPD_OK;
 }
 
-/* Waits until each segment that the mask names has come to its number, or passed it: where bit i of the mask is 1, segment i to
- * numbers[i]. It asks for the status, rests for 1 ms, asks again, and rests twice as long each time, up to 100 ms; near the end
- * for half of the time that is left. *list is what it saw last.
+/* Waits until each segment in the mask has reached its number or passed it: if bit i of the mask is 1, segment i
+ * reaches numbers[i]. It asks for the status, rests for 1 ms, asks again, and rests twice as long each time, up to 100
+ * ms; near the end for half of the remaining time. *list is the last status.
  *
- * SNAPD_TIMED_OUT after so many milliseconds: the segments lag that stand in *list below their numbers; its count is 0 where no
- * look was answered in time. SNAPD_REFUSED with SNAPD_NO_SEGMENT at once where the server hasn't one of them, SNAPD_BAD_REPLY
- * where a number falls, and SNAPD_NOT_ANSWERED where a look has no answer after the client's tries. A mask as snapd_scan_some
- * doesn't take it, or a timeout below 1, is SNAPD_BAD_CALL. */
+ * SNAPD_TIMED_OUT after `timeout` milliseconds: *list shows which segments are below their numbers; its count is 0 if
+ * no poll was answered in time. SNAPD_REFUSED with SNAPD_NO_SEGMENT at once if the server hasn't one of them,
+ * SNAPD_BAD_REPLY if a number falls, and SNAPD_NOT_ANSWERED if a poll has no answer after the client's tries. A mask
+ * that snapd_scan_some doesn't take, or a timeout below 1, is SNAPD_BAD_CALL. */
 static inline snapd_result snapd_wait(snapd_client *client, unsigned mask, const uint64_t *numbers, int timeout,
                                       snapd_status_list *list)
 {

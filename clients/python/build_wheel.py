@@ -1,6 +1,5 @@
-"""Builds the package for pip, with nothing but the standard library, so that it is installed without a network.
-
-The hooks are those of PEP 517 and PEP 660. A wheel is a zip of the package's files with a folder that describes them. The source
+"""Builds the package for pip, with the standard library alone, so that it is installed without a network. It has the
+hooks of PEP 517 and PEP 660. A wheel is a zip of the package's files with a folder that describes them. The source
 folder stays as it is.
 """
 

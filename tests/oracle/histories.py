@@ -1,5 +1,5 @@
-"""Judges what clients saw of a memory whose segments have one writer each: is there one order of all updates and scans that
-explains it, and keeps the order of those that came one after the other?
+"""Judges what clients saw of a memory whose segments have one writer each: is there one order of all updates and scans
+that explains it, and keeps the order of those that followed each other?
 
 It is written from the definition alone and knows nothing of the server. The rules are those of J. Anderson's shrinking lemma
 for composite registers (1993), which are together the same as such an order:
@@ -48,8 +48,8 @@ class Wrong(Exception):
 
 
 def judge(start, updates, scans):
-    """`start` has the pair of number and value of each segment before all updates. The updates of a segment have the numbers
-    behind it, one after the other. Raises `Wrong` where nothing explains what was seen."""
+    """`start` has the pair of number and value of each segment before all updates. The updates of a segment have the
+    numbers after it, without gaps. Raises `Wrong` if no order explains what was seen."""
     writers = [[] for _ in start]
     for update in sorted(updates, key=lambda it: it.number):
         mine = writers[update.segment]

@@ -46,7 +46,7 @@ def report(stored):
 
 
 def row(how, call, fill):
-    """One line: the opening ended at this call, if there is such a one, and a crash with each fill came behind it."""
+    """One line: the opening ended at this call, if there is one, and a crash with each fill followed."""
     cells = []
     for crash in FILLS:
         gate = after_fault(call, fill)
@@ -63,7 +63,7 @@ def drawn(place):
 
 
 def noise_row(seed):
-    """Every call that looks at the header reads from the place 0 on, and draws from the seed on."""
+    """Every call that checks the header reads from the place 0 on, and draws from the seed on."""
     if drawn((seed + HEADER_GATE) % 2**64) == 0xA5:
         opened, found, formatted = "WrongFile", "header wrong", "AlreadyFormatted"
     else:

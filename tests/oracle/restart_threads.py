@@ -1,8 +1,8 @@
 #!/usr/bin/env python3
 """Works out what `try_faults restart-threads` must print, from the disk model and the order of a store's calls alone.
 
-A body is written behind a closed gate and synced before its gate is written, so of a file all that has to be known is which
-number stands in each slot, the gates, and which gates' places are open. What the threads do changes none of it.
+A body is written while its gate is closed, and synced before its gate is written. So all that has to be known of a file
+is the number in each slot, the gates, and which gates are pending. The threads change none of that.
 """
 
 FILLS = (None, 0x00, 0xA5)
@@ -28,7 +28,7 @@ class Fault(Exception):
 
 
 class File:
-    """The gates of three slots, those that were written since the last sync, and the number behind each."""
+    """The gates of three slots, those that were written since the last sync, and the number in each slot."""
 
     def __init__(self):
         self.gates, self.pending, self.numbers = [0xA5, 0, 0], set(), [0, None, None]

@@ -77,7 +77,7 @@ def header_front(index, count, mark=MARK):
 
 
 def slots_with(slots, *values):
-    """The blocks behind the header where these numbers and values are there, each in its slot."""
+    """The blocks after the header with these numbers and values, each in its slot."""
     data = bytearray(2 * BLOCK * slots)
     for number, value in values:
         at = 2 * BLOCK * (number % slots)
@@ -245,8 +245,8 @@ def fuse(passes):
 
 
 def is_new(call, calls, fill, crash):
-    """The rule in one sentence, beside the model: the new value stands where the opening write failed, or the sync
-    behind it, and the last of the two fills that isn't `keep` is a5, or where that sync failed and both are `keep`."""
+    """The rule in one sentence, beside the model: the new value is there if the opening write or the sync after it
+    failed and the last of the two fills that isn't `keep` is a5, or if that sync failed and both are `keep`."""
     last = [each for each in (fill, crash) if each != "keep"][-1:]
     if call <= calls - 2:
         return False

@@ -134,7 +134,7 @@ class Behind:
     request_queue_size = 128
 
     def handle_error(self, request, client_address):
-        """A client that went away is nobody's fault."""
+        """Ignores clients that closed their connection."""
 
     def __enter__(self):
         threading.Thread(target=self.serve_forever, kwargs={"poll_interval": 0.01}, daemon=True).start()
@@ -146,7 +146,7 @@ class Behind:
 
 
 class Server(Behind, socketserver.ThreadingTCPServer):
-    """The model behind a socket of this machine."""
+    """Serves the model at a port of this machine."""
 
     def __init__(self, model, port=0):
         self.model = model
@@ -158,7 +158,7 @@ class Server(Behind, socketserver.ThreadingTCPServer):
 
 
 class FileServer(Behind, socketserver.ThreadingUnixStreamServer):
-    """The model behind a Unix socket."""
+    """Serves the model at a Unix socket."""
 
     def __init__(self, model, path):
         self.model = model

@@ -1,10 +1,10 @@
-/* A job that goes on where it was, however it died.
+/* A job that continues where it was, however it died.
  *
  *     cc -std=c99 -O2 -I .. -o resuming_job resuming_job.c && ./resuming_job HOST PORT SEGMENT STEPS
  *
- * It adds up the squares of 1 to STEPS, one step after another, and keeps step and sum in its segment of a snapd server.
- * Kill it with `kill -9` at any time and start it again with the same words: it goes on with the step that was next. At
- * the end it prints the sum. HOST is `unix:PATH` and PORT 0 where the server listens on a Unix socket.
+ * It adds up the squares of 1 to STEPS, one step after another, and keeps step and sum in its segment of a snapd
+ * server. Kill it with `kill -9` at any time and start it again with the same arguments: it continues with the next
+ * step. At the end it prints the sum. HOST is `unix:PATH` and PORT 0 if the server listens on a Unix socket.
  */
 #define _POSIX_C_SOURCE 200809L
 #include "snapd_segment.h"

@@ -1,9 +1,9 @@
-"""A job that goes on where it was, however it died.
+"""A job that continues where it was, however it died.
 
     python3 resuming_job.py ADDRESS SEGMENT STEPS
 
 It adds up the squares of 1 to STEPS, one step after another, and keeps step and sum in its segment of a snapd server.
-Kill it with `kill -9` at any time and start it again with the same words: it goes on with the step that was next. At the
+Kill it with `kill -9` at any time and start it again with the same arguments: it continues with the next step. At the
 end it prints the sum.
 """
 

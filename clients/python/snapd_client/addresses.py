@@ -64,7 +64,7 @@ def _of_file(path: str) -> OfFile:
 
 
 def known(address: Union[OfHost, OfFile]) -> Optional[Places]:
-    """The places of an address that needs no look-up: of a file, or of a host's number. Else `None`."""
+    """The places of an address that needs no look-up: a socket's path or a numeric host. Else `None`."""
     if isinstance(address, OfFile):
         return [(socket.AF_UNIX, address.path)]
     try:
@@ -74,10 +74,11 @@ def known(address: Union[OfHost, OfFile]) -> Optional[Places]:
 
 
 def look_up(address: OfHost, tell: Callable[[Union[Places, Exception]], None]) -> None:
-    """Tells the places of a host, one or more, or why there is none.
+    """Calls `tell` with the places of a host, one or more, or the reason why there is none.
 
-    The system's look-up can't be given a time or be called off. So it is made in a thread of its own, which nobody waits for longer
-    than he likes to; but for one who can have no thread, as at the end of a process, it takes as long as it takes.
+    The system's look-up has no timeout and can't be cancelled. So it is made in a thread of its own, and the caller
+    waits for as long as it likes; but if no thread can be started, as at the end of a process, it takes as long as it
+    takes.
     """
 
     def work() -> None:

@@ -49,7 +49,7 @@ async def _within(waited: "asyncio.Future[Answer]", end: float) -> Answer:
     finally:
         timer.cancel()
         if waited.done() and not waited.cancelled():
-            # Where the task is cancelled as the time runs out nobody looks at it, of which the loop would complain.
+            # If the task is cancelled as the time runs out nothing else reads it, and the loop would complain.
             waited.exception()
 
 
@@ -81,7 +81,7 @@ class _Turns:
             raise
 
     def give(self) -> None:
-        """To the next who waits and hasn't given up."""
+        """Gives the turn to the next task that waits and hasn't given up."""
         while self._waiting:
             turn = self._waiting.popleft()
             if not turn.done():
@@ -93,10 +93,10 @@ class _Turns:
 class Client(Caller):
     """Asks a snapd server, one request at a time, as `snapd_client.Client` does.
 
-    Calls may come from several tasks of one loop: each waits for its turn, in the order in which they came, and its timeout
-    begins with its turn. A task that is cancelled while it waits for its turn leaves the call that is under way alone. One that is
-    cancelled in its own call ends the connection, so that nobody takes its reply for his, and the next call makes a new one; an
-    update may have been stored all the same.
+    Calls may come from several tasks of one loop: each waits for its turn, in the order in which they came, and its
+    timeout begins with its turn. A task that is cancelled while it waits for its turn doesn't affect the call that is
+    under way. One that is cancelled in its own call ends the connection, so that no other task gets its reply, and the
+    next call makes a new one; an update may have been stored all the same.
 
     Loops after one another may use one client, as `asyncio.run` makes them; a call while one of another loop is under way is a
     `RuntimeError`. The loop has `add_reader`, as all have but the one of Windows that is called proactor.
@@ -132,8 +132,8 @@ class Client(Caller):
         return Segment(self, segment)
 
     async def wait(self, numbers: Mapping[int, int], timeout: float) -> Dict[int, int]:
-        """Waits until each segment's number has come to the one that is given for it, or passed it, and returns those that it saw.
-        Other tasks make their calls between its looks."""
+        """Waits until each segment's number has reached the one that is given for it, or passed it, and returns the
+        numbers that it saw. Other tasks make their calls between its polls."""
         wanted = messages.wanted(numbers)
         if not timeout > 0:
             raise ValueError("the timeout of a wait is above 0")
@@ -194,7 +194,7 @@ class Client(Caller):
                 told.set_result(found)
 
         def hand_over(found: Union[Places, Exception]) -> None:
-            # A loop that has ended meanwhile takes nothing, and nobody waits there.
+            # A loop that has ended in the meantime takes nothing, and has no task that waits.
             with contextlib.suppress(RuntimeError):
                 loop.call_soon_threadsafe(tell, found)
 
@@ -268,8 +268,8 @@ class Segment:
     async def put(self, value: Bytes) -> int:
         """Stores `value` as the next number, and returns that once it is on the server's disk.
 
-        Where it is refused, or has no answer, the object stands as that of `snapd_client` does. Where the task is cancelled in it
-        the value may have been stored, as after `NotAnswered`: the number stays.
+        After a refusal, or without an answer, the object's state is as in `snapd_client`. If the task is cancelled in
+        it the value may have been stored, as after `NotAnswered`: the number stays.
         """
         held = messages.value_of(value)
         return await self._client._in_turn(lambda: self._numbered.put(held))

@@ -81,7 +81,7 @@ class Caller(abc.ABC):
         self._frames = messages.Frames()
         _callers.add(self)
 
-    # ---- what a client waits for; each end is a time of `time.monotonic`, behind which `socket.timeout` comes ----
+    # ---- what a client waits for; each end is a time of `time.monotonic`, after which `socket.timeout` is raised ----
 
     @abc.abstractmethod
     async def _sleep(self, seconds: float) -> None: ...
@@ -102,12 +102,12 @@ class Caller(abc.ABC):
 
     @abc.abstractmethod
     async def _look(self, least: Mapping[int, int], end: float) -> Dict[int, Standing]:
-        """Where these segments stand, by a call of its own."""
+        """The numbers and fences of these segments, by a call of its own."""
 
     # ---- one call ----
 
     async def _answer(self, question: Question[Answer], until: float = math.inf) -> Answer:
-        """Asks, and goes on until then at most."""
+        """Asks, until this time at most."""
         try:
             answer = question.answer(await self._exchange(question.frame, until))
         except BaseException:
@@ -154,7 +154,7 @@ class Caller(abc.ABC):
     # ---- connections ----
 
     async def _connected(self, end: float) -> socket.socket:
-        """The connection that stands, or a new one where none does or the server has closed it."""
+        """The open connection, or a new one if there is none or the server has closed it."""
         if self._socket is not None and self._is_closed(self._socket):
             self._drop()
         if self._socket is None:
@@ -190,7 +190,7 @@ class Caller(abc.ABC):
         return connection
 
     async def _join_queue(self, connection: socket.socket, place: Place, end: float) -> None:
-        """Connects to a Unix socket. Where its queue is full the system says so at once, and lets nobody wait."""
+        """Connects to a Unix socket. If its queue is full the system reports that at once and doesn't wait."""
         while True:
             try:
                 return await self._join(connection, place, end)
@@ -198,7 +198,7 @@ class Caller(abc.ABC):
                 await self._sleep(min(QUEUE, left_until(end)))
 
     def _is_closed(self, connection: socket.socket) -> bool:
-        """Whether the server has ended it. `BadReply` where bytes came that nobody asked for."""
+        """Whether the server has ended it. `BadReply` if bytes came without a request."""
         if self._frames.held:
             raise BadReply("bytes came that nobody asked for")
         connection.setblocking(False)
@@ -218,5 +218,5 @@ class Caller(abc.ABC):
         self._frames = messages.Frames()
 
     def _begin_anew(self) -> None:
-        """Lets go of what a forked process has inherited."""
+        """Drops what a forked process has inherited."""
         self._drop()

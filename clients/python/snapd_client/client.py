@@ -21,10 +21,10 @@ Answer = TypeVar("Answer")
 class Client(Caller):
     """Asks a snapd server, one request at a time.
 
-    The first call connects. A call whose connection fails, ends or says nothing for `timeout` seconds is tried again on
-    a new one, up to `tries` connections in all, with a pause of `pause` seconds in between that doubles each time. It
-    sends the same bytes each time: an update under one number is stored once, however often it comes. The timeout is of a
-    whole try, with the look-up of a name and all of its addresses, which share what is left of it.
+    The first call connects. A call whose connection fails, ends or is silent for `timeout` seconds is tried again on a
+    new one, up to `tries` connections in all, with a pause of `pause` seconds in between that doubles each time. It
+    sends the same bytes each time: an update under one number is stored once, however often it is sent. The timeout is
+    of a whole try, with the look-up of a name and all of its addresses, which share what is left of it.
 
     Calls may come from several threads; they wait for each other. A process that is forked off makes a connection of its
     own at its first call, also where it was forked during another thread's call.
@@ -73,16 +73,17 @@ class Client(Caller):
         return Segment(self, segment)
 
     def wait(self, numbers: Mapping[int, int], timeout: float) -> Dict[int, int]:
-        """Waits until each segment's number has come to the one that is given for it, or passed it: `wait({0: 17}, timeout=30)`.
+        """Waits until each segment's number has reached the one that is given for it, or passed it: `wait({0: 17},
+        timeout=30)`.
 
-        It returns the numbers that it saw, by segment. It asks for the status, rests for 1 ms, asks again, and rests twice as long
-        each time, up to 100 ms; near the end for half of the time that is left. Other threads make their calls in between. The
-        clock is one that nobody sets.
+        It returns the numbers that it saw, by segment. It asks for the status, rests for 1 ms, asks again, and rests
+        twice as long each time, up to 100 ms; near the end for half of the remaining time. Other threads make their
+        calls in between. The clock is monotonic.
 
-        `WaitTimedOut` after `timeout` seconds (`math.inf` is for ever), which says which segments lag and by how much. `NoSegment`
-        at once where the server hasn't one of them, `BadReply` where a number falls, and `NotAnswered` where a look has no answer
-        after `tries` tries. Before a byte is sent come `TypeError` and `ValueError`, as of a scan, and `ValueError` where the
-        timeout isn't above 0.
+        `WaitTimedOut` after `timeout` seconds (`math.inf` is for ever), which says which segments lag and by how much.
+        `NoSegment` at once if the server hasn't one of them, `BadReply` if a number falls, and `NotAnswered` if a poll
+        has no answer after `tries` tries. Before a byte is sent it raises `TypeError` and `ValueError`, as a scan does,
+        and `ValueError` if the timeout isn't above 0.
         """
         wanted = messages.wanted(numbers)
         if not timeout > 0:
@@ -166,11 +167,11 @@ class Client(Caller):
 
 
 class Segment:
-    """One segment of a client, with its number: that of the value which it stored or read last.
+    """One segment of a client, with the number of the value that it stored or read last.
 
-    The first call learns the number from the server. A `put` goes behind that value and no other one, so it is refused where
-    another job has stored one in between; another object of the same segment is such a job. Calls may come from several threads;
-    they wait for each other.
+    The first call learns the number from the server. A `put` stores the value after that one and no other, so it is
+    refused if another job has stored one in between; another object of the same segment is such a job. Calls may come
+    from several threads; they wait for each other.
     """
 
     def __init__(self, client: Client, segment: int) -> None:
@@ -188,12 +189,12 @@ class Segment:
     def put(self, value: Bytes) -> int:
         """Stores `value` as the next number, and returns that once it is on the server's disk.
 
-        A `Refused` is never tried again: nothing was stored, the number stays, and the next `put` takes the same one. After
-        `Conflict` or `OutOfStep` another job has written this segment, and each `put` is refused alike until a `get` has read
-        what is there; one after that goes behind it.
+        A `Refused` is never tried again: nothing was stored, the number stays, and the next `put` takes the same one.
+        After `Conflict` or `OutOfStep` another job has written this segment, and each `put` is refused alike until a
+        `get` has read the current value; the next one is stored after that.
 
-        After `NotAnswered` and `BadReply` the value may have been stored; the number stays. `put` it again and it is stored
-        once. Another value instead is refused as `Conflict` where the first one was stored, and a `get` tells.
+        After `NotAnswered` and `BadReply` the value may have been stored; the number stays. `put` it again and it is
+        stored once. Another value instead is refused as `Conflict` if the first one was stored; a `get` shows which.
 
         Before a byte is sent comes `TypeError` where the value isn't bytes-like, and `ValueError` where it has above 65,990 bytes.
         """

@@ -22,8 +22,8 @@ class TimedOut(NotAnswered):
 class WaitTimedOut(SnapdError):
     """Not every segment came to its number within the time of a `wait`.
 
-    `numbers` are those that were seen last, by segment, and `lagging` says by how much each segment lags that does. Both are empty
-    where no look was answered in time. `__cause__` is why the last look had no answer, where it had none.
+    `numbers` are the last ones seen, by segment, and `lagging` says by how much each segment lags that does. Both are
+    empty if no poll was answered in time. `__cause__` is the reason why the last poll had no answer, if it had none.
     """
 
     def __init__(self, timeout: float, wanted: Mapping[int, int], seen: Mapping[int, Tuple[int, bool]]) -> None:
@@ -44,10 +44,11 @@ class WaitTimedOut(SnapdError):
 
 
 class BadReply(SnapdError):
-    """What came isn't an answer to the request, or says that another number was stored than was sent, or tells other segments
-    than were named, or has a segment at a smaller number than it was at before. It isn't tried again.
+    """What came isn't an answer to the request, or says that another number was stored than was sent, or has other
+    segments than were named, or has a segment at a smaller number than before. It isn't tried again.
 
-    Something else than a snapd may be at the other end. An update may have been stored all the same: check the address, and scan.
+    Another program than snapd may be at the other end. An update may have been stored all the same: check the address,
+    and scan.
     """
 
 
@@ -171,7 +172,7 @@ class AlreadyFormatted(Refused):
 class DeviceFailed(Refused):
     """The disk failed while this update was stored. `detail` is the segment's number, as before.
 
-    Nobody was shown the update. After the next start of the server its value may be there or not: send it again then,
+    No scan has shown the update. After the next start of the server its value may be there or not: send it again then,
     with the same number and value, and it is stored once.
     """
 

@@ -24,7 +24,7 @@ class Entry(NamedTuple):
 
 
 class Standing(NamedTuple):
-    """Where one segment stands, by a status."""
+    """The number and fence of one segment, by a status."""
 
     number: int
     fenced: bool
@@ -111,7 +111,7 @@ def scan_some(segments: Iterable[int]) -> bytes:
 
 
 def status() -> bytes:
-    """The frame that asks where the segments stand."""
+    """The frame of a status request."""
     return frame(bytes([STATUS]))
 
 

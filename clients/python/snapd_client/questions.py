@@ -32,7 +32,7 @@ def _is(kind: Type[Wanted], message: Reply) -> Wanted:
 
 
 def _never_falls(numbers: Mapping[int, int], least: Mapping[int, int]) -> None:
-    """A number that is smaller than it was is another server's, or that of a file from before."""
+    """A number that is smaller than before is of another server, or of an older file."""
     for segment, number in numbers.items():
         if number < least.get(segment, 0):
             raise BadReply(f"the reply has segment {segment} at number {number}, and it was at {least[segment]} before")
@@ -70,13 +70,14 @@ def scan_some(segments: Iterable[int], least: Mapping[int, int] = NONE_KNOWN) ->
 
 
 def status() -> Question[Tuple[Standing, ...]]:
-    """It answers where all segments stand."""
+    """Its answer is the number and fence of each segment."""
     return Question(messages.status(), lambda message: _is(Standings, message).standings)
 
 
 def standings(least: Mapping[int, int]) -> Question[Dict[int, Standing]]:
-    """It answers where these segments stand, each at the number that is given for it or above. A status is asked, which names
-    no segment; where the server hasn't one of them, the answer is the refusal that a request which names it gets."""
+    """Its answer is the number and fence of each of these segments, with the number that is given for it or above. It
+    asks for a status, which names no segment; if the server hasn't one of them, the answer is the refusal of a request
+    that names it."""
 
     def read(message: Reply) -> Union[Dict[int, Standing], Refused]:
         found = _is(Standings, message).standings

@@ -8,7 +8,7 @@ from .calls import Caller, OutOfTime
 from .errors import WaitTimedOut
 from .messages import Standing
 
-# The first and the longest pause between two looks of a wait, in seconds.
+# The first and the longest pause between two polls of a wait, in seconds.
 FIRST_PAUSE, LONGEST_PAUSE = 0.001, 0.1
 
 
@@ -34,7 +34,7 @@ class Numbered:
         return self.number
 
     async def get(self) -> bytes:
-        """The value, with whose number it goes on."""
+        """The value. The next put follows its number."""
         least = {self.segment: self.number or 0}
         entry = (await self._caller._answer(questions.scan_some([self.segment], least)))[self.segment]
         self.number = entry.number
@@ -42,10 +42,10 @@ class Numbered:
 
 
 async def reached(caller: Caller, wanted: Mapping[int, int], timeout: float) -> Dict[int, int]:
-    """The numbers of these segments once each has come to the wanted one or passed it.
+    """The numbers of these segments once each has reached the wanted one or passed it.
 
-    Between two looks it rests for a millisecond at first, then twice as long each time, and a tenth of a second at most; but for
-    half of the time that is left where that is less, so that the last look comes shortly before the end.
+    Between two polls it rests for a millisecond at first, then twice as long each time, and a tenth of a second at
+    most; but for half of the remaining time if that is less, so that the last poll comes shortly before the end.
     """
     end, pause = time.monotonic() + timeout, FIRST_PAUSE
     seen: Dict[int, Standing] = {}

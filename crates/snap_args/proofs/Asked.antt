@@ -1,4 +1,4 @@
--- The command that a parse met, as the grammar has it.
+-- The command that the parser found, in terms of the grammar.
 use Rattle.std.proofs.Common.{◌≡◌, ◌∙◌, ◌↔◌, IsTrue, List, None, Option, Some, [], ℕ, ap, arith, codes, inl, inr, option_map, refl, subst, sym, true}
 use Rattle.std.proofs.Common.{unwrap_or}
 use Rattle.std.proofs.Math.Path.{fun_ext}
@@ -48,12 +48,12 @@ command_met words app is m sub has name named rowed =
       is = ap (λ (a : App). subcommand_of a words) (sym is) ∙ sym found ∙ here;
     }
 
--- a word that was found is the command's
+-- an argument that the parser found is the command's
 pub word_is : {words : List Text} {name : Text} {found : Found} → HasCommand words name found
     → (what : Text) → first_value found what ≡ word_of words what
 word_is {words} {name} {found} has what = rw has.is (first_value-rows found what)
 
--- all of them
+-- so are all arguments of one name
 pub words_are : {words : List Text} {name : Text} {found : Found} → HasCommand words name found
     → (what : Text) → all_values found what ≡ words_of words what
 words_are {words} {name} {found} has what =
@@ -64,14 +64,14 @@ pub named : {words : List Text} {name : Text} {found : Found} → HasCommand wor
     → (want : Text) → name ≡ want → IsNamed words want
 named {words} {name} {found} its want is = (rows_of found, rw is at its.is)
 
--- the words are those of this command with this file
+-- the arguments are those of this command with this file
 pub asked : {words : List Text} {name : Text} {found : Found} → HasCommand words name found
     → (want file : Text) → name ≡ want → Some file ≡ first_value found (codes "file")
     → IsCommand (subcommand_of grammar_of words) want file
 asked {words} {name} {found} its want file is got =
     (rows_of found, rw is at its.is, sym (got ∙ first_value-rows found (codes "file")))
 
--- the words are those of this command with these files
+-- the arguments are those of this command with these two files
 pub asked_pair : {words : List Text} {name : Text} {found : Found} → HasCommand words name found
     → (want old new : Text) → name ≡ want → Some old ≡ first_value found (codes "old")
     → Some new ≡ first_value found (codes "new")
@@ -83,26 +83,26 @@ asked_pair {words} {name} {found} its want old new is got_old got_new = (
   sym (got_new ∙ first_value-rows found (codes "new")),
 )
 
--- what holds of the words that were found holds of the command's
+-- a property of the arguments that the parser found holds of the command's
 pub by_words : {words : List Text} {name : Text} {found : Found} → HasCommand words name found
     → (P : (Text → Option Text) → (Text → List Text) → Type 0)
     → P (first_value found) (all_values found) → P (word_of words) (words_of words)
 by_words {words} {name} {found} its P holds = subst (P (word_of words)) (fun_ext (words_are its))
     (subst (λ (of : Text → Option Text). P of (all_values found)) (fun_ext (word_is its)) holds)
 
--- a number that was found is that of the command's word
+-- a number that the parser found is that of the command's argument
 pub number_is : {words : List Text} {name : Text} {found : Found} → HasCommand words name found
     → (what : Text) (n : ℕ) → IsNumberOf (first_value found what) n
     → IsNumberOf (word_of words what) n
 number_is its what n is = by_words its (λ of all. IsNumberOf (of what) n) is
 
--- the same of one that may be left out
+-- so is an optional number
 pub large_number_is : {words : List Text} {name : Text} {found : Found}
     → HasCommand words name found → (what : Text) (n : Option ℕ)
     → IsLargeNumberOf (first_value found what) n → IsLargeNumberOf (word_of words what) n
 large_number_is its what n is = by_words its (λ of all. IsLargeNumberOf (of what) n) is
 
--- what is to be shown of a file that was found is what the command's words ask for
+-- the order of `check` that the parser found is the one that the arguments ask for
 pub check_is : (words : List Text) {name : Text} {found : Found} → HasCommand words name found
     → (path : Text) → name ≡ codes "check" → Some path ≡ first_value found (codes "file")
     → (order : FileOrder) → IsCheckOf path (first_value found) order → IsFileAskedBy words order
@@ -125,7 +125,7 @@ check_numbers words its path (Check file is_json) its_own = tt
 check_numbers words its path (Slot file slot) its_own = number_is its (codes "slot") slot its_own.1
 check_numbers words its path order its_own = absurd its_own
 
--- of an index and a count
+-- an index and a count that the parser found are those of the command's arguments
 pub place_is : {words : List Text} {name : Text} {found : Found} → HasCommand words name found
     → (i n : ℕ) → IsNumberOf (first_value found (codes "index")) i
     → IsNumberOf (first_value found (codes "count")) n
@@ -133,7 +133,7 @@ pub place_is : {words : List Text} {name : Text} {found : Found} → HasCommand 
 place_is its i n index count =
     (number_is its (codes "index") i index, number_is its (codes "count") n count)
 
--- a word that the command takes, and that isn't there
+-- an argument that the command takes is missing
 pub missing : {words : List Text} {command : Text} {found : Found} → HasCommand words command found
     → (what : Text) → HasWord command what → (name : Text)
     → (name ≡ what) × (word_of words what ≡ None) → IsMissing words name
@@ -144,7 +144,7 @@ pub simple_and_free : is_simple_and_free grammar_of ≡ true
 unfolding clap_on_literals
 simple_and_free = refl
 
--- what a parse answered is a fault of the words
+-- the parser's error is a fault of the arguments
 pub parse_fault : (words : List Text) (error : Error) (why : WordFault) → IsParseFault error why
     → HasKind (fault_of grammar_of words) error → IsFaultOf words why
 parse_fault words error Memory is kind = tt
@@ -153,13 +153,13 @@ parse_fault words error (Help e) is (inr among) = rw is.0 (among, is.1)
 parse_fault words error (Words e) is (inr among) = rw is.0 (among, is.1)
 parse_fault words error why is (inr among) = absurd is
 
--- where memory was wanting it is no fault of the words
+-- an error for lack of memory is no fault of the arguments
 pub parse_later : (error : Error) (why : WordFault) → IsParseFault error why
     → kind_of error ≡ OutOfMemory → IsLaterFault why
 parse_later error Memory is wanting = tt
 parse_later error why is wanting = absurd (grind arith)
 
--- a command of another name is none of them
+-- another name is no command's
 pub no_command : (words : List Text) (command : Text) (its : List Row)
     → subcommand_of grammar_of words ≡ Some (command, its) → (IsCommandName command → ⊥)
     → IsFaultOf words NoCommand

@@ -1,4 +1,5 @@
--- What is wrong with the parts that were found is wrong with the words.
+-- A fault of the arguments that the parser found is one of the command line: lemmas by argument and
+-- by command.
 use Rattle.std.proofs.Common.{◌≡◌, ◌≢◌, ◌⊎◌, ◌∙◌, List, None, ap, arith, codes, inl, inr, refl, subst, sym}
 use Rattle.std.proofs.lemmas.Grind.{common_steps}
 use Rattle.clap.specs.Words.{Text, first_value}
@@ -13,14 +14,14 @@ use Rattle.snap_args.specs.declared.fault.WordFault.{WordFault}
 use Rattle.snap_args.specs.declared.fault.WordFault.TheVariants.{Count, Index, Memory, Missing, NoFiles, Number, Request, Scanners, Segment, Slot, SlotAlone, Tries}
 use Rattle.snap_args.proofs.Asked.{by_words, missing, named, word_is}
 
--- a fault of a path that the command takes
+-- a missing path
 path_fault : {words : List Text} {name : Text} {found : Found} → HasCommand words name found
     → (what : Text) → HasWord name what → (why : WordFault)
     → IsPathFault (word_of words what) what why → IsFaultOf words why
 path_fault its what takes (Missing n) is = missing its what takes n.now is
 path_fault its what takes why is = absurd is
 
--- of a number that it takes
+-- a number
 number_fault : {words : List Text} {name : Text} {found : Found} → HasCommand words name found
     → (what : Text) → HasWord name what → (why : WordFault)
     → IsNumberFault (word_of words what) what why → IsFaultOf words why
@@ -29,14 +30,14 @@ number_fault {words} its what takes (Number n) is =
 number_fault its what takes (Missing n) is = missing its what takes n.now is
 number_fault its what takes why is = absurd is
 
--- of a count that it takes
+-- a count
 count_fault : {words : List Text} {name : Text} {found : Found} → HasCommand words name found
     → HasWord name (codes "count") → (why : WordFault)
     → IsCountFault (word_of words (codes "count")) why → IsFaultOf words why
 count_fault its takes (Count n) is = is
 count_fault its takes why is = number_fault its (codes "count") takes why is
 
--- of a place that it takes
+-- a place
 place_fault : {words : List Text} {name : Text} {found : Found} → HasCommand words name found
     → ((what : Text) → (what ≡ codes "index") ⊎ (what ≡ codes "count") → HasWord name what)
     → (why : WordFault)
@@ -47,7 +48,7 @@ place_fault its takes why (inl is) =
     number_fault its (codes "index") (takes _ (inl refl)) why is
 place_fault its takes why (inr is) = count_fault its (takes _ (inr refl)) why is
 
--- of the words of a server, but for its files
+-- the arguments of `serve` except the files
 service_fault : {words : List Text} {name : Text} {found : Found} → HasCommand words name found
     → name ≡ codes "serve" → (why : WordFault) → IsServiceFault (word_of words) (words_of words) why
     → IsFaultOf words why
@@ -57,10 +58,10 @@ service_fault its named why (inl is) =
     path_fault its (codes "address") (inl (named, inl refl)) why is
 service_fault its named why (inr (inl is)) =
     number_fault its (codes "scanners") (inl (named, inr refl)) why is
--- any other is that of the words as it stands, or none
+-- any other fault is the same statement on both sides, or impossible
 service_fault its named why (inr is) = grind (arith, is)
 
--- of one that has no folder
+-- the arguments of `serve` without a folder
 serving_fault : {words : List Text} {name : Text} {found : Found} → HasCommand words name found
     → name ≡ codes "serve" → word_of words (codes "dir") ≡ None → (why : WordFault)
     → IsServingFault (word_of words) (words_of words) why → IsFaultOf words why
@@ -68,14 +69,14 @@ serving_fault its called no_folder why (inr is) = service_fault its called why i
 serving_fault its called no_folder NoFiles (inl is) = (named its _ called, is, no_folder)
 serving_fault its called no_folder why (inl is) = grind (arith, is)
 
--- of one that has one
+-- the arguments of `serve` with a folder
 folder_fault : {words : List Text} {name : Text} {found : Found} → HasCommand words name found
     → name ≡ codes "serve" → word_of words (codes "dir") ≢ None → (why : WordFault)
     → IsFolderFault (word_of words) (words_of words) why → IsFaultOf words why
 folder_fault its called folder why (inr is) = service_fault its called why is
 folder_fault its called folder why (inl is) = rw is.0 (is.1, folder)
 
--- of the words of a folder that is to be made
+-- the arguments of `init`
 founding_fault : {words : List Text} {name : Text} {found : Found} → HasCommand words name found
     → name ≡ codes "init" → (why : WordFault) → IsFoundingFault (word_of words) why
     → IsFaultOf words why
@@ -84,27 +85,27 @@ founding_fault its called why (inl is) =
 founding_fault its called why (inr is) =
     count_fault its (inr (inr (inl (called, inr refl)))) why is
 
--- of the words of a folder that is to be looked at
+-- the arguments of `doctor`
 examination_fault : {words : List Text} {name : Text} {found : Found} → HasCommand words name found
     → name ≡ codes "doctor" → (why : WordFault) → IsExaminationFault (word_of words) why
     → IsFaultOf words why
 examination_fault its called why is =
     path_fault its (codes "folder") (inr (inr (inr (inl (called, refl))))) why is
 
--- of the words for how long a server is tried, and an answer is waited for
+-- `--wait` and `--timeout`
 patience_fault : (words : List Text) (why : WordFault) → IsPatienceFault (word_of words) why
     → IsFaultOf words why
 patience_fault words why (inl is) = rw is.0 (refl, is.1)
 patience_fault words why (inr is) = rw is.0 (refl, is.1)
 
--- of the words for a slot
+-- a slot
 slot_fault : (words : List Text) (why : WordFault) → IsSlotFault (word_of words) why
     → IsFaultOf words why
 slot_fault words Slot is = is
 slot_fault words SlotAlone is = is
 slot_fault words why is = absurd is
 
--- of the words of a dump
+-- the arguments of `dump`
 dumping_fault : {words : List Text} {name : Text} {found : Found} → HasCommand words name found
     → name ≡ codes "dump" → (why : WordFault) → IsDumpingFault (word_of words) why
     → IsFaultOf words why
@@ -115,7 +116,7 @@ dumping_fault its called why (inr (inl is)) =
     number_fault its (codes "tries") (inr (inr (inr (inr (inl (inl (called, inr refl))))))) why is
 dumping_fault {words} its called why (inr (inr is)) = patience_fault words why is
 
--- of the words of a folder that is to be made of a dump
+-- the arguments of `load`
 loading_fault : {words : List Text} {name : Text} {found : Found} → HasCommand words name found
     → name ≡ codes "load" → (why : WordFault) → IsLoadingFault (word_of words) why
     → IsFaultOf words why
@@ -126,19 +127,19 @@ loading_fault its called why (inr (inl is)) =
 loading_fault its called why (inr (inr is)) =
     count_fault its (inr (inr (inr (inr (inl (inr (called, inr (inr refl)))))))) why is
 
--- of the words for the segments of a watch
+-- the segments of `watch`
 segments_fault : (words : List Text) (why : WordFault)
     → IsSegmentsFault (words_of words (codes "segments")) why → IsFaultOf words why
 segments_fault words Segment is = is
 segments_fault words Memory is = tt
 segments_fault words why is = absurd is
 
--- of its word for the time between two looks
+-- the time between two polls of `watch`
 every_fault : (words : List Text) (why : WordFault)
     → IsEveryFault (word_of words (codes "every")) why → IsFaultOf words why
 every_fault words why is = rw is.0 (refl, is.1)
 
--- of the words of a watch
+-- the arguments of `watch`
 watching_fault : {words : List Text} {name : Text} {found : Found} → HasCommand words name found
     → name ≡ codes "watch" → (why : WordFault)
     → IsWatchingFault (word_of words) (words_of words) why → IsFaultOf words why
@@ -147,7 +148,7 @@ watching_fault its called why (inl is) =
 watching_fault {words} its called why (inr (inl is)) = segments_fault words why is
 watching_fault {words} its called why (inr (inr is)) = every_fault words why is
 
--- of a request's words
+-- a request
 request_fault : (words : List Text) (why : WordFault)
     → IsRequestFault (words_of words (codes "request")) (word_of words (codes "value"))
     (word_of words (codes "after")) why → IsFaultOf words why
@@ -155,14 +156,14 @@ request_fault words (Request why) is = is
 request_fault words Memory is = tt
 request_fault words why is = absurd is
 
--- of the words for how long an answer is waited for, and how it is printed
+-- the times and the layout of a call
 answer_fault : (words : List Text) (why : WordFault)
     → IsAnswerFault (word_of words) (words_of words) why → IsFaultOf words why
 answer_fault words why (inl is) = patience_fault words why is
 answer_fault words why (inr (inl is)) = rw is.0 (refl, is.1, is.2)
 answer_fault words why (inr (inr is)) = rw is.0 is.1
 
--- of a call's words
+-- the arguments of `call`
 calling_fault : {words : List Text} {name : Text} {found : Found} → HasCommand words name found
     → name ≡ codes "call" → (why : WordFault)
     → IsCallingFault (word_of words) (words_of words) why → IsFaultOf words why
@@ -181,7 +182,7 @@ migrate_takes : (name what : Text) → name ≡ codes "migrate"
     ⊎ ((what ≡ codes "index") ⊎ (what ≡ codes "count")) → HasWord name what
 migrate_takes name what named which = grind (arith, common_steps)
 
--- of a migration's words
+-- the arguments of `migrate`
 migration_fault : {words : List Text} {name : Text} {found : Found} → HasCommand words name found
     → name ≡ codes "migrate" → (why : WordFault) → IsMigrationFault (word_of words) why
     → IsFaultOf words why
@@ -192,7 +193,7 @@ migration_fault its named why (inr (inl is)) =
 migration_fault its named why (inr (inr is)) =
     path_fault its (codes "new") (migrate_takes _ _ named (inl (inr refl))) why is
 
--- The same of what was found, by the command's name.
+-- The same lemmas about what the parser found, for each name of a command.
 pub serve_fault : {name : Text} (found : Found) → name ≡ codes "serve" → (why : WordFault)
     → first_value found (codes "dir") ≡ None
     → IsServingFault (first_value found) (all_values found) why

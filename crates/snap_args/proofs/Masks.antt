@@ -1,4 +1,4 @@
--- The words of masks.
+-- Masks as text.
 use Rattle.std.proofs.Common.{◌≡◌, ◌≢◌, ◌⊎◌, ℕ, ◌<◌, ◌^◌, List, [], ◌∷◌, length, get_or, arith, inl, inr, subst, sym}
 use Rattle.std.proofs.lemmas.Int.Digits.{digits_value-lt}
 use Rattle.std.proofs.lemmas.Str.Parse.{without_leading_plus_none}
@@ -10,13 +10,13 @@ no_plus : (word : List ℕ) → get_or word 0 0 ≡ 43 → IsNumeral 16 word →
 no_plus [] e is = omega arith
 no_plus (c ∷ cs) e is = absurd (grind (arith, e))
 
--- a word of another length, or behind a plus sign, is no mask
+-- a text of another length, or with a plus sign, is no mask
 pub no_mask : (word : List ℕ) → (length word ≢ 4) ⊎ (get_or word 0 0 ≡ 43) → (bits : ℕ)
     → IsMask word bits → ⊥
 no_mask word (inl long) bits is = long is.0
 no_mask word (inr plus) bits is = no_plus word plus is.1
 
--- what is read of four bytes without a sign is their mask
+-- the number read from four digits without a sign is their mask
 pub mask_read : (word : List ℕ) (bits : ℕ) → length word ≡ 4 → get_or word 0 0 ≢ 43
     → IsNumeral 16 (without_leading_plus word) → bits ≡ digits_value 16 (without_leading_plus word)
     → IsMask word bits

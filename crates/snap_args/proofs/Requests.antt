@@ -1,4 +1,4 @@
--- The words of a scan of some segments, and of an update.
+-- Faults of requests.
 use Rattle.std.proofs.Common.{◌≡◌, ◌≢◌, List, [], ◌∷◌, length, map, get_or, ap, arith, Bor, Option, inl, inr}
 use Rattle.clap.specs.Words.{Text}
 use Rattle.std.proofs.Common.{◌⊎◌, Some, codes, refl, slice_get, subst, sym}
@@ -8,7 +8,7 @@ use Rattle.snap_args.specs.declared.fault.RequestFault.TheVariants.{Form, Mask, 
 use Rattle.snap_args.specs.declared.fault.WordFault.{WordFault}
 use Rattle.snap_args.specs.declared.fault.WordFault.TheVariants as word
 
--- a fault of a scan of some segments is one of the request
+-- a fault of a scan of some segments is one of its request
 pub part_fault : (words : List Text) (value after : Option Text) (mask : Text)
     → words ≡ codes "part" ∷ mask ∷ [] → (why : WordFault) → IsPartFault mask why
     → IsRequestFault words value after why
@@ -16,14 +16,14 @@ part_fault words v a m e (word.Request Mask) is = (m, e, is)
 part_fault words v a m e (word.Request NoSegment) is = (m, e, is)
 part_fault words v a m e why is = absurd is
 
--- of a get
+-- so is one of a get
 pub get_fault : (words : List Text) (value after : Option Text) (segment : Text)
     → words ≡ codes "get" ∷ segment ∷ [] → (why : WordFault) → IsGetFault segment why
     → IsRequestFault words value after why
 get_fault words v a s e (word.Request GetSegment) is = (s, e, is)
 get_fault words v a s e why is = absurd is
 
--- of a put
+-- so is one of a put
 pub put_fault : (words : List Text) (value after : Option Text) (segment : Text)
     → words ≡ codes "put" ∷ segment ∷ [] → (why : WordFault) → IsPutFault segment value after why
     → IsRequestFault words value after why
@@ -33,14 +33,14 @@ put_fault words v a s e (word.Request After) is = (s, e, is)
 put_fault words v a s e (word.Request (TooLong len)) is = inr (s, e, is)
 put_fault words v a s e why is = absurd is
 
--- two words, of which the first is this name
+-- two arguments, of which the first is this name
 pub two_words : (words : List (Bor Text)) (d : Bor Text) (name : Text) → length words ≡ 2
     → (get_or words 0 d).now ≡ name
     → map (λ w. w.now) words ≡ name ∷ (get_or words 1 d).now ∷ []
 two_words (a ∷ b ∷ []) d name long e = ap (λ (first : Text). first ∷ b.now ∷ []) e
 two_words words d name long e = absurd (omega arith)
 
--- a fault of an update is one of the request
+-- a fault of an update is one of its request
 pub update_fault : (words : List Text) (segment number value : Text)
     → words ≡ codes "update" ∷ segment ∷ number ∷ value ∷ [] → (given after : Option Text)
     → (why : WordFault) → IsUpdateFault segment number value why
@@ -67,7 +67,7 @@ one_segment name (i ∷ []) (inr is) none one =
     none.get i (ap (λ (first : Text). first ∷ i ∷ []) is)
 one_segment name (a ∷ b ∷ rest) which none one = absurd (omega (arith, one))
 
--- words of no form, of which the first is the name of a put or of a get
+-- arguments of no form that begin with `put` or `get` don't name one segment
 pub no_segment : (words : List (Bor Text)) (name : Bor Text) → slice_get words 0 ≡ Some name
     → (name.now ≡ codes "put") ⊎ (name.now ≡ codes "get") → IsOfNoForm (map (λ w. w.now) words)
     → HasNoSegment (map (λ w. w.now) words)
@@ -79,7 +79,7 @@ no_segment (a ∷ rest) name first which none =
     subst (λ (w : Bor Text). (w.now ≡ codes "put") ⊎ (w.now ≡ codes "get")) (sym same) which in
     (a.now, map (λ w. w.now) rest, refl, is, one_segment a.now (map (λ w. w.now) rest) is none)
 
--- four words, of which the first is the name of an update
+-- four arguments, of which the first is `update`
 pub four_words : (words : List (Bor Text)) (d : Bor Text) → length words ≡ 4
     → (get_or words 0 d).now ≡ codes "update"
     → map (λ w. w.now) words ≡ codes "update" ∷ (get_or words 1 d).now ∷ (get_or words 2 d).now

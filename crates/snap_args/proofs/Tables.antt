@@ -1,4 +1,4 @@
--- What a table makes of a command, and a command of a program.
+-- How a table of arguments builds a command, and commands build the program.
 use Rattle.std.proofs.Common.{◌≡◌, ◌∙◌, ◌+◌, ◌<◌, ℕ, IfOk, List, Result, ap, drop, false, get_or, length, sym}
 use Rattle.std.proofs.lemmas.List.{at_drop_more}
 use Rattle.std.proofs.lemmas.Result.{IfOk-weaker}
@@ -9,7 +9,7 @@ use Rattle.clap.specs.declared.builder.Command.TheViews.{out-Command}
 use Rattle.snap_args.specs.Tables.{app_with, rule_in}
 use Rattle.snap_args.specs.declared.grammar.Word.{Word}
 
--- a command with one more of the words
+-- a command with one more argument of the table
 pub next_word : (app after : App) (words : List Word) (i : ℕ) (d : Word) (rule : Rule)
     → i < length words → rule ≡ rule_in (get_or words i d) → after ≡ with_rule app rule
     → app_with after (drop (i + 1) words) ≡ app_with app (drop i words)

@@ -1,4 +1,4 @@
--- Which order and which fault goes with the words of a command.
+-- The faults of each command's arguments.
 use Rattle.std.specs.Prelude.{◌≡◌, ◌≢◌, ◌⊎◌, ◌+◌, ◌<◌, List, [], false, length, Option, Some, None, codes}
 use Rattle.clap.specs.Words.{IsAmong, Row, Text, fault_of, kind_of, subcommand_of}
 use Rattle.clap.specs.declared.error.Error.{Error}
@@ -25,121 +25,121 @@ use Rattle.snap_args.specs.Words.{word_of, words_of}
 use Rattle.snap_args.specs.declared.fault.WordFault.{WordFault}
 use Rattle.snap_args.specs.declared.fault.WordFault.TheVariants as fault
 
--- what is wrong with this word for a path: there is none
+-- the path is missing
 abbrev pub IsPathFault : Option Text → Text → WordFault → Type 0
 IsPathFault word what (fault.Missing name) = (name.now ≡ what) × (word ≡ None)
 IsPathFault word what why = ⊥
 
--- what is wrong with the words of a migration
+-- a fault of `migrate`
 abbrev pub IsMigrationFault : (of : Text → Option Text) → WordFault → Type 0
 IsMigrationFault of why = IsPlaceFault (of (codes "index")) (of (codes "count")) why
     ⊎ (IsPathFault (of (codes "old")) (codes "old") why
     ⊎ IsPathFault (of (codes "new")) (codes "new") why)
 
--- what is wrong with the words for a folder that is to be made
+-- a fault of `init`
 abbrev pub IsFoundingFault : (of : Text → Option Text) → WordFault → Type 0
 IsFoundingFault of why = IsPathFault (of (codes "folder")) (codes "folder") why
     ⊎ IsCountFault (of (codes "count")) why
 
--- what is wrong with the words for a folder that is to be looked at
+-- a fault of `doctor`
 abbrev pub IsExaminationFault : (of : Text → Option Text) → WordFault → Type 0
 IsExaminationFault of why = IsPathFault (of (codes "folder")) (codes "folder") why
 
--- a slot is named and its value not asked for, or the other way round, or as JSON
+-- a slot is given without `--value`, `--value` without a slot, or both with `--json`
 abbrev pub IsSlotAlone : (slot value json : Option Text) → Type 0
 IsSlotAlone slot value json = ((slot ≡ None) × IsGiven value)
     ⊎ ((slot ≢ None) × ((IsGiven value → ⊥) ⊎ IsGiven json))
 
--- what is wrong with the words for a slot
+-- a fault of `check`
 abbrev pub IsSlotFault : (of : Text → Option Text) → WordFault → Type 0
 IsSlotFault of fault.Slot = IsNoNumberBelow SLOT_COUNT (of (codes "slot"))
 IsSlotFault of fault.SlotAlone =
     IsSlotAlone (of (codes "slot")) (of (codes "value")) (of (codes "json"))
 IsSlotFault of why = ⊥
 
--- what is wrong with these words for files: there are none, or more than a server may have
+-- a fault of a server's files: there are none, or more than it may have
 abbrev pub IsFilesFault : List Text → WordFault → Type 0
 IsFilesFault files fault.NoFiles = files ≡ []
 IsFilesFault files (fault.Files n) = (length files ≡ n) × (MAX_COUNT < n)
 IsFilesFault files fault.Memory = Unit {0}
 IsFilesFault files why = ⊥
 
--- what is wrong with the words for what a server is to let in and to log
+-- a fault of a server's limits or log level
 abbrev pub IsLimitsFault : (of : Text → Option Text) → WordFault → Type 0
 IsLimitsFault of why = IsClientsFault (of (codes "clients-max")) why
     ⊎ (IsIdleFault (of (codes "idle")) why ⊎ IsLevelFault (of (codes "log")) why)
 
--- what is wrong with these further addresses: they are more than a server may have beside its first
+-- a fault of a server's further addresses: with the first one they are more than it may have
 abbrev pub IsAddressesFault : List Text → WordFault → Type 0
 IsAddressesFault further (fault.Addresses n) = (length further + 1 ≡ n) × (MAX_ADDRESSES < n)
 IsAddressesFault further fault.Memory = Unit {0}
 IsAddressesFault further why = ⊥
 
--- what is wrong with the words for how a server is reached behind its first address
+-- a fault of a server's further addresses or socket mode
 abbrev pub IsReachFault : (of : Text → Option Text) (all : Text → List Text) → WordFault → Type 0
 IsReachFault of all why = IsAddressesFault (all (codes "listen")) why
     ⊎ IsModeFault (of (codes "socket-mode")) why
 
--- what is wrong with the words of a server, but for its files
+-- a fault of `serve` except in its files
 abbrev pub IsServiceFault : (of : Text → Option Text) (all : Text → List Text) → WordFault → Type 0
 IsServiceFault of all why = IsPathFault (of (codes "address")) (codes "address") why
     ⊎ (IsScannersFault (of (codes "scanners")) why
     ⊎ (IsReachFault of all why
     ⊎ (IsConnectionsFault (of (codes "connections")) why ⊎ IsLimitsFault of why)))
 
--- what is wrong with the words of a server that has no folder
+-- a fault of `serve` without a folder
 abbrev pub IsServingFault : (of : Text → Option Text) (all : Text → List Text) → WordFault → Type 0
 IsServingFault of all why = IsFilesFault (all (codes "files")) why ⊎ IsServiceFault of all why
 
--- what is wrong with the words of a server that has one
+-- a fault of `serve` with a folder
 abbrev pub IsFolderFault : (of : Text → Option Text) (all : Text → List Text) → WordFault → Type 0
 IsFolderFault of all why =
     ((why ≡ fault.FilesAndFolder) × (all (codes "files") ≢ [])) ⊎ IsServiceFault of all why
 
--- a way to print the answer is given, and what these words ask lists no segments
+-- a layout is given, and the reply to the request lists no segments
 abbrev pub IsUnlisted : (text json : Option Text) → List Text → (value after : Option Text) → Type 0
 IsUnlisted text json words value after = (IsGiven text ⊎ IsGiven json)
     × ((q : Question) × IsQuestionOf words value after q × (lists_segments q ≡ false))
 
--- what is wrong with the words for how long a server is tried, and an answer is waited for
+-- a fault of `--wait` or `--timeout`
 abbrev pub IsPatienceFault : (of : Text → Option Text) → WordFault → Type 0
 IsPatienceFault of why =
     IsWaitFault (of (codes "wait")) why ⊎ IsTimeoutFault (of (codes "timeout")) why
 
--- what is wrong with the words for how long an answer is waited for, and how it is printed
+-- a fault of a call's times or layout
 abbrev pub IsAnswerFault : (of : Text → Option Text) (all : Text → List Text) → WordFault → Type 0
 IsAnswerFault of all why = IsPatienceFault of why
     ⊎ (IsLayoutFault (of (codes "text")) (of (codes "json")) why
     ⊎ ((why ≡ fault.NoLayout) × IsUnlisted (of (codes "text")) (of (codes "json"))
     (all (codes "request")) (of (codes "value")) (of (codes "after"))))
 
--- what is wrong with the words of a call
+-- a fault of `call`
 abbrev pub IsCallingFault : (of : Text → Option Text) (all : Text → List Text) → WordFault → Type 0
 IsCallingFault of all why = IsPathFault (of (codes "address")) (codes "address") why
     ⊎ (IsTriesFault (of (codes "tries")) why
     ⊎ (IsRequestFault (all (codes "request")) (of (codes "value")) (of (codes "after")) why
     ⊎ IsAnswerFault of all why))
 
--- what is wrong with the words of a watch
+-- a fault of `watch`
 abbrev pub IsWatchingFault : (of : Text → Option Text) (all : Text → List Text) → WordFault → Type 0
 IsWatchingFault of all why = IsPathFault (of (codes "address")) (codes "address") why
     ⊎ (IsSegmentsFault (all (codes "segments")) why ⊎ IsEveryFault (of (codes "every")) why)
 
--- what is wrong with the words of a dump
+-- a fault of `dump`
 abbrev pub IsDumpingFault : (of : Text → Option Text) → WordFault → Type 0
 IsDumpingFault of why = IsPathFault (of (codes "holder")) (codes "holder") why
     ⊎ (IsTriesFault (of (codes "tries")) why ⊎ IsPatienceFault of why)
 
--- what is wrong with the words for a folder that is to be made of a dump
+-- a fault of `load`
 abbrev pub IsLoadingFault : (of : Text → Option Text) → WordFault → Type 0
 IsLoadingFault of why = IsPathFault (of (codes "folder")) (codes "folder") why
     ⊎ (IsPathFault (of (codes "dump")) (codes "dump") why ⊎ IsCountFault (of (codes "count")) why)
 
--- the kinds of what is asked for in place of an order
+-- the kinds of parser errors that print help or the version
 abbrev pub IsRequest : ErrorKind → Type 0
 IsRequest kind = (kind ≡ DisplayHelp) ⊎ (kind ≡ DisplayVersion)
 
--- what a parse that failed is taken for
+-- the fault for an error of the parser
 abbrev pub IsParseFault : Error → WordFault → Type 0
 IsParseFault error (fault.Help e) = (e ≡ error) × IsRequest (kind_of error)
 IsParseFault error (fault.Words e) =
@@ -155,12 +155,12 @@ IsCommandName name =
     ⊎ ((name ≡ codes "watch") ⊎ ((name ≡ codes "dump") ⊎ ((name ≡ codes "load")
     ⊎ (name ≡ codes "script"))))))))))))
 
--- the words for files that the command takes
+-- the names of the command's arguments for files
 abbrev pub HasFile : Text → Text → Type 0
 HasFile command what = ((command ≡ codes "migrate") × ((what ≡ codes "old") ⊎ (what ≡ codes "new")))
     ⊎ ((command ≢ codes "migrate") × (what ≡ codes "file"))
 
--- the command, which is about one segment, takes this word behind its name
+-- the command is about one segment, and takes this argument
 abbrev pub HasSegmentWord : Text → Text → Type 0
 HasSegmentWord command what = (command ≢ codes "script") × (command ≢ codes "serve")
     × (command ≢ codes "call") × (command ≢ codes "init") × (command ≢ codes "doctor")
@@ -168,14 +168,14 @@ HasSegmentWord command what = (command ≢ codes "script") × (command ≢ codes
     × (HasFile command what
     ⊎ ((command ≢ codes "check") × ((what ≡ codes "index") ⊎ (what ≡ codes "count"))))
 
--- the command, which is about a dump, takes this word behind its name
+-- the command is about a dump, and takes this argument
 abbrev pub HasDumpWord : Text → Text → Type 0
 HasDumpWord command what =
     ((command ≡ codes "dump") × ((what ≡ codes "holder") ⊎ (what ≡ codes "tries")))
     ⊎ ((command ≡ codes "load") × ((what ≡ codes "folder") ⊎ ((what ≡ codes "dump")
     ⊎ (what ≡ codes "count"))))
 
--- the command takes this word behind its name
+-- the command takes this argument
 abbrev pub HasWord : Text → Text → Type 0
 HasWord command what =
     ((command ≡ codes "serve") × ((what ≡ codes "address") ⊎ (what ≡ codes "scanners")))
@@ -185,14 +185,13 @@ HasWord command what =
     ⊎ (HasDumpWord command what ⊎ (((command ≡ codes "watch") × (what ≡ codes "address"))
     ⊎ HasSegmentWord command what)))))
 
--- the command takes this word, and none was found
+-- the command takes this argument, and it is missing
 abbrev pub IsMissing : List Text → Text → Type 0
 IsMissing words what = (command : Text) × (rows : List Row)
     × (subcommand_of grammar_of words ≡ Some (command, rows)) × HasWord command what
     × (word_of words what ≡ None)
 
--- What is wrong with the words: what the grammar answers in place of a command, and of a command's
--- place what is wrong with it.
+-- A fault of the command line: the grammar's error, or a fault of the command's arguments.
 abbrev pub IsFaultOf : List Text → WordFault → Type 0
 IsFaultOf words (fault.Help error) = IsAmong (kind_of error) (fault_of grammar_of words)
     × IsRequest (kind_of error)
@@ -240,8 +239,7 @@ IsFaultOf words fault.NoCommand =
 IsFaultOf words fault.NotText = ⊥
 IsFaultOf words fault.Memory = Unit {0}
 
--- a fault that words of the grammar may have: their numbers are outside the limits, or memory is
--- wanting
+-- a fault of a command line that matches the grammar: numbers outside their limits, or no memory
 abbrev pub IsLaterFault : WordFault → Type 0
 IsLaterFault (fault.Count count) = Unit {0}
 IsLaterFault (fault.Index index count) = Unit {0}
@@ -271,7 +269,7 @@ IsLaterFault fault.NoCommand = Unit {0}
 IsLaterFault fault.Memory = Unit {0}
 IsLaterFault why = ⊥
 
--- an index and a count are those of their words
+-- an order's index and count are the numbers of their arguments
 abbrev pub AreFileNumbersOf : List Text → FileOrder → Type 0
 AreFileNumbersOf words (Format file i n) = IsNumberOf (word_of words (codes "index")) i
     × IsNumberOf (word_of words (codes "count")) n
@@ -282,13 +280,13 @@ AreFileNumbersOf words (Get file i n) = IsNumberOf (word_of words (codes "index"
 AreFileNumbersOf words (Check file is_json) = Unit {0}
 AreFileNumbersOf words (Slot file slot) = IsNumberOf (word_of words (codes "slot")) slot
 
--- the numbers of a call are those of their words
+-- a call's numbers are those of its arguments
 pub record AreCallingNumbersOf (words : List Text) (c : Calling) : Type 0 where
   pub tries : IsNumberOf (word_of words (codes "tries")) c.tries
   pub wait : IsLargeNumberOf (word_of words (codes "wait")) c.wait
   pub timeout : IsLargeNumberOf (word_of words (codes "timeout")) c.timeout
 
--- and those of a dump
+-- a dump's numbers are those of its arguments
 pub record AreDumpingNumbersOf (words : List Text) (d : Dumping) : Type 0 where
   pub tries : IsNumberOf (word_of words (codes "tries")) d.tries
   pub wait : IsLargeNumberOf (word_of words (codes "wait")) d.wait

@@ -1,4 +1,4 @@
--- Which order goes with which words.
+-- Which arguments ask for which order.
 use Rattle.std.specs.Prelude.{◌≡◌, ◌≢◌, ◌↔◌, IsTrue, List, [], map, Option, Some, None, codes}
 use Rattle.clap.specs.Words.{Row, Text, first_of, subcommand_of}
 use Rattle.snap_order.specs.declared.order.Order.{Order}
@@ -19,12 +19,12 @@ use Rattle.snap_args.specs.Requests.{IsQuestionOf}
 use Rattle.snap_args.specs.Services.{IsServiceOf}
 use Rattle.snap_args.specs.Words.{word_of, words_of}
 
--- the command's name and the words of its rules
+-- the parser found this command with this file
 abbrev pub IsCommand : Option (Text × List Row) → Text → Text → Type 0
 IsCommand found name file = (rows : List Row) × (found ≡ Some (name, rows))
     × (first_of (codes "file") rows ≡ Some file)
 
--- the command's name and the words of its rules, with an old file and a new one
+-- the parser found this command with an old file and a new one
 abbrev pub IsPair : Option (Text × List Row) → Text → (old new : Text) → Type 0
 IsPair found name old new = (rows : List Row) × (found ≡ Some (name, rows))
     × (first_of (codes "old") rows ≡ Some old) × (first_of (codes "new") rows ≡ Some new)
@@ -33,13 +33,13 @@ IsPair found name old new = (rows : List Row) × (found ≡ Some (name, rows))
 abbrev pub IsNamed : List Text → Text → Type 0
 IsNamed words name = (rows : List Row) × (subcommand_of grammar_of words ≡ Some (name, rows))
 
--- a command of this name is none of those that have more than one file, or none
+-- the name is none of the commands that are handled elsewhere
 abbrev pub IsOtherCommand : Text → Type 0
 IsOtherCommand name = (name ≢ codes "script") × (name ≢ codes "serve") × (name ≢ codes "call")
     × (name ≢ codes "migrate") × (name ≢ codes "init") × (name ≢ codes "doctor")
     × (name ≢ codes "dump") × (name ≢ codes "load") × (name ≢ codes "watch")
 
--- the words are those of this order: its command, and its file
+-- the arguments ask for this order: its command and its file
 abbrev pub IsFileAskedBy : List Text → FileOrder → Type 0
 IsFileAskedBy words (Format file index count) =
     IsCommand (subcommand_of grammar_of words) (codes "format") file.now
@@ -55,7 +55,7 @@ IsFileAskedBy words (Slot file slot) =
     IsCommand (subcommand_of grammar_of words) (codes "check") file.now
     × IsNumberOf (word_of words (codes "slot")) slot × IsGiven (word_of words (codes "value"))
 
--- the words ask to show this of this file: all of it, or the value of a slot
+-- the arguments of `check` ask for this: the whole file, or the value of a slot
 abbrev pub IsCheckOf : Text → (of : Text → Option Text) → FileOrder → Type 0
 IsCheckOf path of (Check file is_json) = (file.now ≡ path)
     × (IsTrue is_json ↔ IsGiven (of (codes "json"))) × (of (codes "slot") ≡ None)
@@ -63,33 +63,33 @@ IsCheckOf path of (Slot file slot) = (file.now ≡ path) × IsNumberOf (of (code
     × IsGiven (of (codes "value"))
 IsCheckOf path of order = ⊥
 
--- the words are those of the making of this folder
+-- the arguments ask to make this folder
 pub record IsFoundingOf (words : List Text) (f : Founding) : Type 0 where
   pub command : IsNamed words (codes "init")
   pub folder : word_of words (codes "folder") ≡ Some f.folder.now
   pub missing_empty : IsTrue f.is_missing_empty ↔ IsGiven (word_of words (codes "missing-empty"))
 
--- the words are those of a look at this folder
+-- the arguments ask for a report on this folder
 pub record IsExaminationOf (words : List Text) (e : Examination) : Type 0 where
   pub command : IsNamed words (codes "doctor")
   pub folder : word_of words (codes "folder") ≡ Some e.folder.now
   pub measured : IsTrue e.is_measured ↔ IsGiven (word_of words (codes "measure"))
 
--- the words are those of this server, with these files and no folder
+-- the arguments ask for this server, with these files and no folder
 pub record IsServerOf (words : List Text) (s : Serving) : Type 0 where
   pub command : IsNamed words (codes "serve")
   pub files : words_of words (codes "files") ≡ map (λ f. f.now) s.files.items
   pub no_folder : word_of words (codes "dir") ≡ None
   pub service : IsServiceOf (word_of words) (words_of words) s
 
--- the words are those of this server, with this folder and no files
+-- the arguments ask for this server, with this folder and no files
 pub record IsFolderServerOf (words : List Text) (path : Text) (s : Serving) : Type 0 where
   pub command : IsNamed words (codes "serve")
   pub folder : word_of words (codes "dir") ≡ Some path
   pub no_files : words_of words (codes "files") ≡ []
   pub service : IsServiceOf (word_of words) (words_of words) s
 
--- the words are those of a call of the server at this address, with this question and this layout
+-- the arguments ask for this call: its address, request and layout
 pub record IsCallOf (words : List Text) (c : Calling) : Type 0 where
   pub command : IsNamed words (codes "call")
   pub address : word_of words (codes "address") ≡ Some c.address.now
@@ -97,19 +97,19 @@ pub record IsCallOf (words : List Text) (c : Calling) : Type 0 where
       (word_of words (codes "after")) c.question
   pub layout : IsLayoutOf (word_of words (codes "text")) (word_of words (codes "json")) c.layout
 
--- the words are those of a watch of these segments of the server at this address
+-- the arguments ask for this watch: its address, segments and layout
 pub record IsWatchOf (words : List Text) (w : Watching) : Type 0 where
   pub command : IsNamed words (codes "watch")
   pub address : word_of words (codes "address") ≡ Some w.address.now
   pub segments : AreSegmentsOf (words_of words (codes "segments")) w.segments.items
   pub json : IsTrue w.is_json ↔ IsGiven (word_of words (codes "json"))
 
--- the words are those of this dump
+-- the arguments ask for this dump
 pub record IsDumpOf (words : List Text) (d : Dumping) : Type 0 where
   pub command : IsNamed words (codes "dump")
   pub holder : IsHolderOf (word_of words (codes "holder")) d.holder
 
--- the words are those of the making of this folder, of this dump
+-- the arguments ask to make this folder of this dump
 pub record IsLoadOf (words : List Text) (l : Loading) : Type 0 where
   pub command : IsNamed words (codes "load")
   pub folder : word_of words (codes "folder") ≡ Some l.folder.now

@@ -1,4 +1,4 @@
--- Which request goes with which words.
+-- Which arguments ask for which request.
 use Rattle.std.specs.Prelude.{◌≡◌, ◌≢◌, ◌⊎◌, ◌<◌, ℕ, List, [], ◌∷◌, length, Option, Some, None, codes}
 use Rattle.clap.specs.Words.{Text}
 use Rattle.snap_hex.specs.Text.{IsHex}
@@ -17,31 +17,31 @@ use Rattle.snap_args.specs.declared.fault.RequestFault.TheVariants as fault
 use Rattle.snap_args.specs.declared.fault.WordFault.{WordFault}
 use Rattle.snap_args.specs.declared.fault.WordFault.TheVariants as word_fault
 
--- the words are an update's, and this holds of its segment, number and value
+-- they are an update's, and P holds of its segment, number and value
 abbrev pub OfUpdate : List Text → (Text → Text → Text → Type 0) → Type 0
 OfUpdate words P = (segment : Text) × (number : Text) × (value : Text)
     × (words ≡ codes "update" ∷ segment ∷ number ∷ value ∷ []) × P segment number value
 
--- the update that these words say
+-- the update with these arguments
 abbrev pub IsUpdateOf : (segment number value : Text) → Request → Type 0
 IsUpdateOf segment number value (Update i k bytes) =
     IsNumberOf (Some segment) i × IsNumberOf (Some number) k × IsHex value bytes
 IsUpdateOf segment number value request = ⊥
 
--- the words are this name and one more, and this holds of that one
+-- they are this name and one more, and P holds of that
 abbrev pub OfTwo : (name : Text) → List Text → (Text → Type 0) → Type 0
 OfTwo name words P = (word : Text) × (words ≡ name ∷ word ∷ []) × P word
 
--- the words are those of a scan of some segments, and this holds of its mask
+-- they are those of a scan of some segments, and P holds of its mask
 abbrev pub OfPart : List Text → (Text → Type 0) → Type 0
 OfPart words P = OfTwo (codes "part") words P
 
--- the scan of the segments that the mask names
+-- the scan of the segments in the mask
 abbrev pub IsPartOf : (mask : Text) → Request → Type 0
 IsPartOf mask (Part set) = IsMask mask set.bits
 IsPartOf mask request = ⊥
 
--- the request that the words are
+-- the request of these arguments
 abbrev pub IsRequestOf : List Text → Request → Type 0
 IsRequestOf words (Update i k bytes) =
     OfUpdate words (λ segment number value. IsUpdateOf segment number value (Update i k bytes))
@@ -49,13 +49,13 @@ IsRequestOf words Scan = words ≡ codes "scan" ∷ []
 IsRequestOf words Status = words ≡ codes "status" ∷ []
 IsRequestOf words (Part set) = OfPart words (λ mask. IsPartOf mask (Part set))
 
--- where a put's value comes from: these bytes, where there is a word for it, and else standard input
+-- the source of a put's value: its option if that is given, and else standard input
 abbrev pub IsSourceOf : Option Text → Source → Type 0
 IsSourceOf None source.Input = Unit {0}
 IsSourceOf (Some word) (source.Words bytes) = bytes ≡ word
 IsSourceOf word s = ⊥
 
--- the put that the word for a segment and the options say
+-- the put with this segment and these options
 pub record IsPutOf (i : Text) (text k : Option Text) (p : Putting) : Type 0 where
   pub segment : IsNumberOf (Some i) p.segment
   pub value : IsSourceOf text p.value
@@ -65,7 +65,7 @@ pub record IsPutOf (i : Text) (text k : Option Text) (p : Putting) : Type 0 wher
 abbrev pub HasNoOption : (value after : Option Text) → Type 0
 HasNoOption value after = (value ≡ None) × (after ≡ None)
 
--- What the words ask of a server. The options of a put are for it alone.
+-- The question of these arguments. A put's options are allowed for a put only.
 abbrev pub IsQuestionOf : List Text → (value after : Option Text) → Question → Type 0
 IsQuestionOf words value after (question.Request r) = IsRequestOf words r × HasNoOption value after
 IsQuestionOf words value after question.Health =
@@ -75,7 +75,7 @@ IsQuestionOf words value after (question.Get i) =
 IsQuestionOf words value after (question.Put p) =
     OfTwo (codes "put") words (λ segment. IsPutOf segment value after p)
 
--- what is wrong with the words of an update
+-- a fault of an update
 abbrev pub IsNoUpdate : (segment number value : Text) → RequestFault → Type 0
 IsNoUpdate segment number value fault.Segment = IsNoNumber (Some segment)
 IsNoUpdate segment number value fault.Number = IsNoLargeNumber (Some number)
@@ -84,30 +84,30 @@ IsNoUpdate segment number value (fault.TooLong len) =
     (bytes : List ℕ) × IsHex value bytes × (length bytes ≡ len) × (MAX_UPDATE_VALUE < len)
 IsNoUpdate segment number value why = ⊥
 
--- what is wrong with the mask of a scan of some segments: it is none, or it names no segment
+-- a fault of a scan of some segments: the mask is none, or is zero
 abbrev pub IsNoPart : (mask : Text) → RequestFault → Type 0
 IsNoPart mask fault.Mask = (bits : ℕ) → IsMask mask bits → ⊥
 IsNoPart mask fault.NoSegment = IsMask mask 0
 IsNoPart mask why = ⊥
 
--- what is wrong with the word for a value: it doesn't fit an update
+-- the value doesn't fit an update
 abbrev pub IsLongValue : Option Text → (len : ℕ) → Type 0
 IsLongValue None len = ⊥
 IsLongValue (Some word) len = (length word ≡ len) × (MAX_UPDATE_VALUE < len)
 
--- what is wrong with the words of a put
+-- a fault of a put
 abbrev pub IsNoPut : (segment : Text) (value after : Option Text) → RequestFault → Type 0
 IsNoPut segment value after fault.PutSegment = IsNoNumber (Some segment)
 IsNoPut segment value after fault.After = IsNoBehind after
 IsNoPut segment value after (fault.TooLong len) = IsLongValue value len
 IsNoPut segment value after why = ⊥
 
--- the first word is that of a put or of a get, and there isn't one word behind it
+-- they begin with `put` or `get`, without exactly one more
 abbrev pub HasNoSegment : List Text → Type 0
 HasNoSegment words = (name : Text) × (rest : List Text) × (words ≡ name ∷ rest)
     × ((name ≡ codes "put") ⊎ (name ≡ codes "get")) × (length rest ≢ 1)
 
--- the words are of no form of a request
+-- they have the form of no request
 pub record IsOfNoForm (words : List Text) : Type 0 where
   pub scan : words ≢ codes "scan" ∷ []
   pub status : words ≢ codes "status" ∷ []
@@ -117,8 +117,8 @@ pub record IsOfNoForm (words : List Text) : Type 0 where
   pub put : (i : Text) → words ≢ codes "put" ∷ i ∷ []
   pub get : (i : Text) → words ≢ codes "get" ∷ i ∷ []
 
--- Why the words are no request: they are of no form, or those of one that is wrong, or have an option that
--- is for a put alone.
+-- Why the arguments are no request: they have no form of one, a fault in one, or an option for puts
+-- only.
 abbrev pub IsNoRequest : List Text → (value after : Option Text) → RequestFault → Type 0
 IsNoRequest words value after fault.Form = IsOfNoForm words
 IsNoRequest words value after fault.Mask = OfPart words (λ mask. IsNoPart mask fault.Mask)
@@ -138,7 +138,7 @@ IsNoRequest words value after (fault.TooLong len) =
 IsNoRequest words value after why =
     OfUpdate words (λ segment number value. IsNoUpdate segment number value why)
 
--- the same, or memory was wanting
+-- a fault of a request, or memory ran out
 abbrev pub IsUpdateFault : (segment number value : Text) → WordFault → Type 0
 IsUpdateFault segment number value (word_fault.Request why) = IsNoUpdate segment number value why
 IsUpdateFault segment number value word_fault.Memory = Unit {0}

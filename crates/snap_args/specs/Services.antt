@@ -1,4 +1,4 @@
--- Which server goes with which words, but for its files.
+-- Which arguments ask for which server, except for its files.
 use Rattle.std.specs.Prelude.{◌≡◌, List, ◌∷◌, Option, Some, None, codes, map, option_map}
 use Rattle.clap.specs.Words.{Text}
 use Rattle.snap_order.specs.declared.order.Serving.{Serving}
@@ -9,7 +9,7 @@ abbrev pub AreAddressesOf : (first : Option Text) (further : List Text) → List
 AreAddressesOf None further addresses = ⊥
 AreAddressesOf (Some first) further addresses = addresses ≡ first ∷ further
 
--- the server's addresses, its numbers, the level of its log and where it answers HTTP are those of these words
+-- the server's addresses, numbers, log level and address for HTTP are those of these arguments
 pub record IsServiceOf (of : Text → Option Text) (all : Text → List Text) (s : Serving)
     : Type 0 where
   pub addresses : AreAddressesOf (of (codes "address")) (all (codes "listen"))

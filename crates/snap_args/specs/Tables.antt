@@ -1,4 +1,4 @@
--- What the tables of the commands and of their words say.
+-- The grammar that the tables of arguments describe.
 use Rattle.std.specs.Prelude.{List, [], ◌∷◌, Some, pos}
 use Rattle.clap.specs.Words.{App, Rule, Text, new_app, with_rule}
 use Rattle.clap.specs.declared.builder.ArgAction.TheVariants.{Append}
@@ -8,7 +8,7 @@ use Rattle.snap_args.specs.declared.grammar.Word.{Word}
 use Rattle.snap_args.specs.declared.grammar.Kind.{Kind}
 use Rattle.snap_args.specs.declared.grammar.Kind.TheVariants as kind
 
--- the rule of a kind of words, under this name
+-- the rule of an argument of this kind and name
 abbrev pub rule_of_kind : Kind → Text → Rule
 rule_of_kind (kind.Own needed action) name =
     record (word_rule name) { required = needed; action = Some action }
@@ -19,15 +19,15 @@ rule_of_kind (kind.Choice default) name = choice_rule name default.now
 rule_of_kind (kind.Number default) name = number_rule name default.now
 rule_of_kind (kind.Parsed p) name = record (text_rule name) { parser = Some p }
 
--- the rule of a word
+-- the rule of an argument
 abbrev pub rule_in : Word → Rule
 rule_in word = rule_of_kind word.kind word.name.now
 
--- a command with these words too
+-- a command with these arguments added
 abbrev pub app_with : App → List Word → App
 app_with app [] = app
 app_with app (word ∷ words) = app_with (with_rule app (rule_in word)) words
 
--- a command of this name with these words
+-- a command of this name with these arguments
 abbrev pub command_with : Text → List Word → App
 command_with name words = app_with (new_app name) words

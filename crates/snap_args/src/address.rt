@@ -1,4 +1,5 @@
-//! What an address lacks, and whom it lets in, by its text alone: before anything is opened.
+//! Checks the text of an address before anything is opened: what it lacks, and whether it lets
+//! everybody in.
 
 use snap_order::socket_path;
 use std::net::{IpAddr, Ipv6Addr, SocketAddr};
@@ -7,7 +8,7 @@ use thiserror::Error;
 /// The longest path of a Unix socket, in bytes.
 const MAX_SOCKET_PATH: usize = 107;
 
-/// What an address lacks. Its text says it, and what to give.
+/// What an address lacks. Its message also says what to give.
 #[derive(Clone, Copy, Debug, PartialEq, Eq, Error)]
 pub enum Lack {
     #[error("an address is HOST:PORT or unix:PATH, and the host is missing: give for example 127.0.0.1:7070")]
@@ -22,7 +23,7 @@ pub enum Lack {
     ShortPath { len: usize },
 }
 
-/// What an address of a Unix socket with this path lacks.
+/// What the path of a Unix socket's address lacks.
 fn lack_of_path(path: &str) -> Option<Lack> {
     match path.len() {
         0 => Some(Lack::Path),
@@ -31,8 +32,8 @@ fn lack_of_path(path: &str) -> Option<Lack> {
     }
 }
 
-/// What the address lacks, of a host and a port, or of a path. `None` where it has all: whether they are
-/// right is the system's to say.
+/// What the address lacks: a host, a port or a path. `None` if it has all; whether they are valid,
+/// the system decides.
 pub fn lack_of(address: &str) -> Option<Lack> {
     if let Some(path) = socket_path(address) {
         return lack_of_path(path);
@@ -56,14 +57,14 @@ pub fn lack_of(address: &str) -> Option<Lack> {
     }
 }
 
-/// Whether this is an IPv6 address and nothing else. One whose beginning, up to its last colon, is
-/// an address too goes to the system, which takes the rest for a port.
+/// Whether the whole address is an IPv6 address, without a port. If its part before the last colon
+/// is one too, the system decides, which takes the rest for a port.
 fn is_bare(address: &str, host: &str) -> bool {
     address.parse::<Ipv6Addr>().is_ok() && host.parse::<Ipv6Addr>().is_err()
 }
 
-/// Whether the address stands for all of the machine's, so that whoever reaches the machine may
-/// connect: its host is `0.0.0.0`, in any form that the system reads, or `::`.
+/// Whether a server at this address accepts connections from all networks of the machine: the host
+/// is `0.0.0.0`, in any form that the system reads, or `::`.
 pub fn is_everywhere(address: &str) -> bool {
     if socket_path(address).is_some() {
         return false;
@@ -80,7 +81,7 @@ pub fn is_everywhere(address: &str) -> bool {
     }
 }
 
-/// Whether this is a zero as the system reads it in an address: `0`, `00` or `0x0`.
+/// Whether this part of an address is zero, as the system reads it: `0`, `00` or `0x0`.
 fn is_zero(number: &str) -> bool {
     let digits = number.strip_prefix("0x").unwrap_or(number);
     !digits.is_empty() && digits.bytes().all(|byte| byte == b'0')

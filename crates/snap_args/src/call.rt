@@ -1,4 +1,4 @@
-//! The words of `call`.
+//! The arguments of `call`.
 ghost use Rattle.std.specs.Prelude.{◌≡◌, ◌↔◌, IfErr, IfOk, IsTrue, Some, codes};
 ghost use Rattle.clap.specs.Words.{first_value, found_of};
 ghost use Rattle.snap_order.specs.Order.{IsCallable};
@@ -16,7 +16,7 @@ use clap::ArgMatches;
 use snap_order::{Calling, Layout, MAX_TIMEOUT};
 use std::alloc::Global;
 
-/// A server's address, what is asked of it, and the tries.
+/// Parses the arguments of `call`.
 pub(crate) fn calling<'a>(alloc: Global, matches: &ArgMatches<'a>) -> Result<Calling<'a>, WordFault>
     ensures limits { IfOk result IsCallable }
     ensures address { IfOk result
@@ -57,7 +57,7 @@ pub(crate) fn calling<'a>(alloc: Global, matches: &ArgMatches<'a>) -> Result<Cal
     })
 }
 
-/// How the answer is printed.
+/// The layout of the printed reply.
 fn layout_of(matches: &ArgMatches<'_>) -> Result<Layout, WordFault>
     ensures layout { IfOk result (IsLayoutOf (first_value (found_of matches.now) (codes "text"))
         (first_value (found_of matches.now) (codes "json"))) }
@@ -72,7 +72,7 @@ fn layout_of(matches: &ArgMatches<'_>) -> Result<Layout, WordFault>
     }
 }
 
-/// The flag is given.
+/// Whether the flag was given.
 pub(crate) fn is_given(matches: &ArgMatches<'_>, name: &'static str) -> bool
     ensures { IsTrue result ↔ IsGiven (first_value (found_of matches.now) name.now) }
 {

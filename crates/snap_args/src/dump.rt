@@ -1,4 +1,4 @@
-//! The words of `dump` and `load`.
+//! The arguments of `dump` and `load`.
 ghost use Rattle.std.specs.Prelude.{◌≡◌, ◌↔◌, IfErr, IfOk, IfSome, IsTrue, Some, codes};
 ghost use Rattle.clap.specs.Words.{first_value, found_of};
 ghost use Rattle.snap_order.specs.Limits.{MAX_COUNT};
@@ -12,7 +12,7 @@ use crate::numbers::{count_of, limit_of, tries_of};
 use clap::ArgMatches;
 use snap_order::{Dumping, Holder, Loading, MAX_TIMEOUT};
 
-/// Whose values are to be dumped, and the tries of a server.
+/// Parses the arguments of `dump`.
 pub(crate) fn dumping<'a>(matches: &ArgMatches<'a>) -> Result<Dumping<'a>, WordFault>
     ensures limits { IfOk result IsDumpable }
     ensures holder { IfOk result
@@ -39,7 +39,7 @@ pub(crate) fn dumping<'a>(matches: &ArgMatches<'a>) -> Result<Dumping<'a>, WordF
     })
 }
 
-/// Who holds the values that this word names.
+/// The server or folder that this argument names.
 fn holder_of<'a>(word: &'a str) -> Holder<'a>
     ensures { IsHolderOf (Some word.now) result }
 {
@@ -50,8 +50,9 @@ fn holder_of<'a>(word: &'a str) -> Holder<'a>
     }
 }
 
-/// The word is a server's address, and no folder's path: it begins with `unix:`, or it has no slash and ends
-/// in a colon and a port. So a folder whose name looks like an address is given as `./NAME`.
+/// Whether the argument is a server's address rather than a folder's path: it begins with `unix:`,
+/// or it has no slash and ends in a colon and a port. So a folder whose name looks like an address
+/// has to be given as `./NAME`.
 fn is_address_word(word: &str) -> bool
     ensures { IsTrue result ↔ IsAddressWord word.now }
 {
@@ -59,7 +60,7 @@ fn is_address_word(word: &str) -> bool
     bytes.starts_with(b"unix:") || (!bytes.contains(&b'/') && ends_in_port(bytes))
 }
 
-/// Behind a colon there is a port.
+/// Whether it ends in a colon and a port.
 fn ends_in_port(word: &[u8]) -> bool
     ensures { result ≡ ends_in_port word.now }
 {
@@ -71,14 +72,14 @@ fn ends_in_port(word: &[u8]) -> bool
     false
 }
 
-/// One digit or more, and nothing else.
+/// Whether there are only digits, and at least one.
 fn is_port(bytes: &[u8]) -> bool
     ensures { result ≡ is_port bytes.now }
 {
     !bytes.is_empty() && are_digits(bytes)
 }
 
-/// Nothing but digits.
+/// Whether there are only digits.
 fn are_digits(bytes: &[u8]) -> bool
     ensures { result ≡ are_digits bytes.now }
 {
@@ -90,7 +91,7 @@ fn are_digits(bytes: &[u8]) -> bool
     true
 }
 
-/// The folder that is to be made, the dump, and how many segments there are to be.
+/// Parses the arguments of `load`.
 pub(crate) fn loading<'a>(matches: &ArgMatches<'a>) -> Result<Loading<'a>, WordFault>
     ensures limits { IfOk result IsLoadable }
     ensures folder { IfOk result
@@ -115,7 +116,7 @@ pub(crate) fn loading<'a>(matches: &ArgMatches<'a>) -> Result<Loading<'a>, WordF
     })
 }
 
-/// How many segments there are to be, where that is said.
+/// The number of segments, if it was given.
 fn free_count_of(matches: &ArgMatches<'_>) -> Result<Option<u8>, WordFault>
     ensures limits { IfOk result (λ count. IfSome count (IsOneTo MAX_COUNT)) }
     ensures number { IfOk result

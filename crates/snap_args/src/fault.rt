@@ -1,4 +1,4 @@
-//! Why words are no order.
+//! Reasons why the arguments can't be parsed.
 use snap_order::{
     MAX_ADDRESSES, MAX_CLIENTS, MAX_COUNT, MAX_EVERY, MAX_IDLE, MAX_SCANNERS, MAX_TIMEOUT,
     MAX_TRIES, MAX_UPDATE_VALUE,
@@ -7,33 +7,34 @@ use std::alloc::AllocError;
 use std::fmt::{self, Display, Formatter, Write};
 use thiserror::Error;
 
-/// Where to read on.
+/// The end of each message.
 const MORE: &str = "\n\nFor more information, try '--help'.";
 
-/// Why words are no request. Its text says it in a sentence that begins in lower case.
+/// The reason why a call's arguments are no request. Its message is a sentence that begins in lower
+/// case.
 #[derive(Clone, Copy, Debug, PartialEq, Eq, Error)]
 pub enum RequestFault {
-    /// They are of no request's form.
+    /// They have the form of no request.
     Form,
     /// The mask of a scan of some segments is not four hexadecimal digits.
     Mask,
-    /// The mask of a scan of some segments names none.
+    /// The mask of a scan of some segments is zero.
     NoSegment,
-    /// There isn't one word behind that of a put or a get.
+    /// A put or a get doesn't name exactly one segment.
     OneSegment,
-    /// A get's segment is none of those that a server may have.
+    /// A get's segment isn't a number from 0 to 15.
     GetSegment,
-    /// A put's segment is no number from 0 to 255.
+    /// A put's segment isn't a number from 0 to 255.
     PutSegment,
-    /// The number behind which a put's value is stored is none, or has no next one.
+    /// The number after which a put's value is stored isn't a number, or has no next one.
     After,
-    /// An option of a put stands with another request.
+    /// An option of a put was given with another request.
     NotPut,
-    /// An update's segment is no number from 0 to 255.
+    /// An update's segment isn't a number from 0 to 255.
     Segment,
-    /// An update's number is no number of 64 bits.
+    /// An update's number isn't a number of 64 bits.
     Number,
-    /// An update's value is no text of bytes.
+    /// An update's value isn't hexadecimal.
     Value,
     /// The value of an update or a put doesn't fit a request.
     TooLong { len: usize },
@@ -52,7 +53,7 @@ impl Display for RequestFault {
 }
 
 impl RequestFault {
-    /// The text of any other fault than a value that is too long.
+    /// The message of every fault but a value that is too long.
     fn reason(&self) -> &'static str {
         match self {
             RequestFault::Mask => "the part's mask is not four hexadecimal digits",
@@ -78,67 +79,67 @@ impl RequestFault {
     }
 }
 
-/// Why words are no order. Its text is what standard error gets behind `snapd: `; that of `Help`
-/// is for standard output.
+/// The reason why the arguments can't be parsed. Its message goes to standard error after
+/// `snapd: `; that of `Help` goes to standard output.
 #[derive(Debug, Drop, Error)]
 pub enum WordFault {
-    /// They ask for help or for the version.
+    /// Help or the version was asked for.
     Help(clap::Error),
-    /// They aren't of the commands' grammar.
+    /// The arguments don't match the grammar of the commands.
     Words(clap::Error),
-    /// The count is none, or above the most that there may be.
+    /// The count is 0, or more than the limit.
     Count { count: u8 },
-    /// The index isn't below the count.
+    /// The index isn't less than the count.
     Index { index: u8, count: u8 },
-    /// A server's files are more than it may have.
+    /// A server was given more files than it may have.
     Files { count: usize },
-    /// A server has no files, and no folder.
+    /// A server was given neither files nor a folder.
     NoFiles,
-    /// A server has both files and a folder.
+    /// A server was given both files and a folder.
     FilesAndFolder,
-    /// A server's scanners are none, or more than it may have.
+    /// The number of scanners is 0, or more than the limit.
     Scanners { scanners: u8 },
-    /// The word for a server's connections is no number of 64 bits.
+    /// The number of a server's connections isn't a number of 64 bits.
     Connections,
-    /// The word for the most connections at once is no number that a server may have.
+    /// The limit of open connections is no number within its own limits.
     Clients,
-    /// The word for how long a connection may be idle is no number that a server may have.
+    /// The idle timeout is no number within its limits.
     Idle,
-    /// A server's addresses are more than it may have.
+    /// A server was given more addresses than it may have.
     Addresses { count: usize },
-    /// The word for the mode of a socket's file is none.
+    /// The mode of a socket's file isn't octal, or has other bits than permissions.
     Mode,
-    /// The word for the log is none of its levels.
+    /// The level of the log isn't the name of one.
     Level,
-    /// The tries are none, or more than there may be.
+    /// The number of tries is 0, or more than the limit.
     Tries { tries: u8 },
-    /// The word for the slot of a file is none of its slots.
+    /// The slot isn't a number from 0 to 2.
     Slot,
-    /// A slot is named and its value not asked for, or the other way round, or as JSON.
+    /// A slot was given without `--value`, `--value` without a slot, or both with `--json`.
     SlotAlone,
-    /// The word for how long a call connects again is no number of seconds that it may have.
+    /// The seconds of `--wait` are no number within their limits.
     Wait,
-    /// The word for how long an answer is waited for is no number of seconds that a call may have.
+    /// The seconds of `--timeout` are no number within their limits.
     Timeout,
-    /// A word for a segment to show is no number that a segment may have.
+    /// A segment to show isn't a number from 0 to 15.
     Segment,
-    /// The word for the time between two looks is no number of milliseconds that a watch may have.
+    /// The time between two polls is no number of milliseconds within its limits.
     Every,
-    /// An answer can't be printed in both ways.
+    /// Both `--text` and `--json` were given.
     TwoLayouts,
-    /// What is asked has no answer that can be printed so.
+    /// `--text` or `--json` was given with a request that has no such output.
     NoLayout,
-    /// The words for a request are none.
+    /// The arguments of `call` are no request.
     Request(RequestFault),
-    /// The word for this is no number from 0 to 255.
+    /// This argument isn't a number from 0 to 255.
     Number { what: &'static str },
-    /// There is no word for this.
+    /// This argument is missing.
     Missing { what: &'static str },
-    /// No command is named.
+    /// No command was given.
     NoCommand,
-    /// A word isn't text.
+    /// An argument isn't UTF-8 text.
     NotText,
-    /// A growth of memory was refused.
+    /// Memory ran out.
     Memory,
 }
 
@@ -157,7 +158,7 @@ impl Display for WordFault {
 }
 
 impl WordFault {
-    /// Writes what is wrong with words of the grammar.
+    /// Writes the reason of a fault in arguments that match the grammar.
     fn write_reason<W: Write>(&self, f: &mut Formatter<W>) -> fmt::Result {
         match self {
             WordFault::Request(why) => return why.fmt(f),
@@ -179,7 +180,8 @@ impl WordFault {
         f.write_str(self.reason())
     }
 
-    /// A number that is outside its limits: what it counts, and the most that there may be.
+    /// A number that was parsed and is outside its limits: what it counts, itself, and the largest
+    /// one allowed.
     fn outside(&self) -> Option<(&'static str, usize, usize)> {
         match self {
             WordFault::Count { count } => Some((
@@ -203,7 +205,8 @@ impl WordFault {
         }
     }
 
-    /// What a word is no number of, and the most that it may be.
+    /// A number that couldn't be parsed within its limits: what it counts, and the largest one
+    /// allowed.
     fn no_number(&self) -> Option<(&'static str, u32)> {
         match self {
             WordFault::Clients => Some(("most clients", MAX_CLIENTS)),
@@ -215,7 +218,7 @@ impl WordFault {
         }
     }
 
-    /// The text of any other fault.
+    /// The reason of every other fault.
     fn reason(&self) -> &'static str {
         match self {
             WordFault::NoFiles => "no FILE and no --dir is given",

@@ -1,4 +1,5 @@
-//! The commands and their words, as the parser of words reads them: each command by a table of its words.
+//! The commands and their arguments as the parser takes them, with a table of arguments for each
+//! command.
 ghost use Rattle.std.specs.Prelude.{◌≡◌, IfOk, codes, false};
 ghost use Rattle.clap.specs.Words.{App, app_of, new_app, rule_of, with_subcommand};
 ghost use Rattle.snap_args.specs.Grammar.{called, checked, dumped, examined, filed};
@@ -22,7 +23,7 @@ pub const VERSION: &str = "0.2.0";
 const VERSION_AND_BUILD: &str = "0.2.0
 it isn't known how this was built                                                                   ";
 
-/// A word of a command: what it is, its name, what help calls its value, and its help.
+/// An argument of a command: its kind and name, the name of its value in the help, and its help.
 #[derive(Clone, Copy)]
 struct Word<'a> {
     kind: Kind<'a>,
@@ -31,44 +32,44 @@ struct Word<'a> {
     help: &'a str,
 }
 
-/// What a word of a command is.
+/// The kind of an argument.
 #[derive(Clone, Copy)]
 enum Kind<'a> {
-    /// A word of its own, as a file's path.
+    /// A positional argument, such as a file's path.
     Own { is_needed: bool, action: ArgAction },
     /// An option without a value.
     Flag,
-    /// An option for a text, which may be left out.
+    /// An optional option with a text.
     Text,
-    /// The same, and it may be given again and again.
+    /// An optional option with a text, which may be repeated.
     Texts,
-    /// An option for a text, with its default.
+    /// An option with a text, and its default.
     Choice(&'a str),
-    /// An option for a number from 0 to 255, with its default.
+    /// An option with a number from 0 to 255, and its default.
     Number(&'a str),
-    /// An option for what this takes, which may be left out.
+    /// An optional option whose value this parser takes.
     Parsed(ValueParser<'a>),
 }
 
-/// A word that has to be there.
+/// A required positional argument.
 const NEEDED: Kind<'static> = Kind::Own {
     is_needed: true,
     action: ArgAction::Set,
 };
 
-/// Words of which there is one or more.
+/// A positional argument that is given once or more.
 const NEEDED_MANY: Kind<'static> = Kind::Own {
     is_needed: true,
     action: ArgAction::Append,
 };
 
-/// Words of which there may be none.
+/// A positional argument that may be given any number of times, or not at all.
 const MANY: Kind<'static> = Kind::Own {
     is_needed: false,
     action: ArgAction::Append,
 };
 
-/// The commands of the program with their words.
+/// The program with all its commands and their arguments.
 pub(crate) fn grammar<'a>(alloc: Global) -> Result<Command<'a>, AllocError>
     ensures { IfOk result (λ command. app_of command ≡ grammar_of) }
 {
@@ -93,7 +94,7 @@ pub(crate) fn grammar<'a>(alloc: Global) -> Result<Command<'a>, AllocError>
     with_command(alloc, all, "script", about, SCRIPT_HELP, &[])
 }
 
-/// The program with its commands about one segment's file.
+/// The program with the commands on one segment's file.
 fn segment_commands<'a>(alloc: Global) -> Result<Command<'a>, AllocError>
     ensures { IfOk result (λ all. app_of all ≡ with_subcommand (with_subcommand
         (with_subcommand (with_subcommand program_of
@@ -120,7 +121,7 @@ fn segment_commands<'a>(alloc: Global) -> Result<Command<'a>, AllocError>
     with_command(alloc, all, "check", about, CHECK_HELP, &check_words())
 }
 
-/// The program with no command yet.
+/// The program without commands.
 fn program<'a>(alloc: Global) -> Command<'a>
     ensures { app_of result ≡ program_of }
 {
@@ -132,7 +133,8 @@ fn program<'a>(alloc: Global) -> Command<'a>
         .subcommand_required(true)
 }
 
-/// The program and one more command, of this name and with these texts and words, where all were made.
+/// Adds a command with this name, these texts and arguments. Fails if memory runs out, or if
+/// `program` has failed.
 fn with_command<'a>(
     alloc: Global,
     program: Result<Command<'a>, AllocError>,
@@ -152,7 +154,7 @@ fn with_command<'a>(
     program?.subcommand(command)
 }
 
-/// The word as the parser takes it.
+/// The parser's form of an argument.
 fn arg_of<'a>(alloc: Global, word: &Word<'a>) -> Arg<'a>
     ensures rule { rule_of result ≡ rule_in word.now }
     ensures local { result.global ≡ false }
@@ -180,7 +182,7 @@ fn arg_of<'a>(alloc: Global, word: &Word<'a>) -> Arg<'a>
     }
 }
 
-/// The words of a command on a segment's file: the file, and the segment's place.
+/// The arguments of a command on a segment's file: the file, and the segment's place.
 fn place_words<'a>() -> [Word<'a>; 3]
     ensures { (app : App) → app_with app result ≡ placed (filed app) }
 {

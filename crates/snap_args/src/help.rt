@@ -1,4 +1,4 @@
-//! The texts of help.
+//! The help texts.
 
 pub(crate) const PROGRAM_HELP: &str = "\
 Example:

@@ -1,8 +1,8 @@
-//! Reads the words that the program `snapd` was started with.
+//! Parses the command line of `snapd`.
 //!
-//! [`order`] answers what they ask for, or why they ask for nothing of the kind. The words are read
-//! by `clap`; `specs/Grammar.antt` has the grammar, and says which order or fault goes with which
-//! words. [`lack_of`] and [`is_everywhere`] look at the text of an address.
+//! [`order`] returns the parsed order, or the reason why there is none. `clap` parses the
+//! arguments; `specs/Grammar.antt` has the grammar, and says which order or fault follows from
+//! which arguments. [`lack_of`] and [`is_everywhere`] check the text of an address.
 #![tactic(auto)]
 
 mod address;

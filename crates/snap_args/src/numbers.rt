@@ -1,4 +1,4 @@
-//! The numbers among the words of a command, within their limits.
+//! The numbers among the arguments of a command, within their limits.
 ghost use Rattle.std.specs.Prelude.{◌≡◌, ◌+◌, ◌^◌, ◌<◌, ◌≤◌, ℕ, IfErr, IfOk, IfSome, MatchOption, Some};
 ghost use Rattle.std.specs.Prelude.{codes};
 ghost use Rattle.clap.specs.Words.{first_value, found_of};
@@ -33,7 +33,7 @@ pub(crate) fn place(matches: &ArgMatches<'_>) -> Result<(u8, u8), WordFault>
     Ok((index, count))
 }
 
-/// How many segments there are, 1 to 16.
+/// The number of segments, 1 to 16.
 pub(crate) fn count_of(matches: &ArgMatches<'_>) -> Result<u8, WordFault>
     ensures limits { IfOk result (IsOneTo MAX_COUNT) }
     ensures number { IfOk result
@@ -48,7 +48,7 @@ pub(crate) fn count_of(matches: &ArgMatches<'_>) -> Result<u8, WordFault>
     Ok(count)
 }
 
-/// The number that stands for this, from 0 to 255.
+/// The number given for `what`, from 0 to 255.
 fn number_of(matches: &ArgMatches<'_>, what: &'static str) -> Result<u8, WordFault>
     ensures number { IfOk result (IsNumberOf (first_value (found_of matches.now) what.now)) }
     ensures fault { IfErr result
@@ -63,7 +63,7 @@ fn number_of(matches: &ArgMatches<'_>, what: &'static str) -> Result<u8, WordFau
     }
 }
 
-/// How many scanners a server is to have, 1 to 16.
+/// The number of scanners of a server, 1 to 16.
 pub(crate) fn scanners_of(matches: &ArgMatches<'_>) -> Result<u8, WordFault>
     ensures some { IfOk result (λ n. 1 ≤ n) }
     ensures few { IfOk result (λ n. n ≤ MAX_SCANNERS) }
@@ -79,7 +79,7 @@ pub(crate) fn scanners_of(matches: &ArgMatches<'_>) -> Result<u8, WordFault>
     Ok(scanners)
 }
 
-/// How many connections a call may make, 1 to 10.
+/// The most connections for a request, 1 to 10.
 pub(crate) fn tries_of(matches: &ArgMatches<'_>) -> Result<u8, WordFault>
     ensures some { IfOk result (λ n. 1 ≤ n) }
     ensures few { IfOk result (λ n. n ≤ MAX_TRIES) }
@@ -95,7 +95,7 @@ pub(crate) fn tries_of(matches: &ArgMatches<'_>) -> Result<u8, WordFault>
     Ok(tries)
 }
 
-/// After how many connections a server ends, where that is said.
+/// The number of connections after which a server stops, if it was given.
 pub(crate) fn connections_of(matches: &ArgMatches<'_>) -> Result<Option<u64>, WordFault>
     ensures number { IfOk result
         (IsLargeNumberOf (first_value (found_of matches.now) (codes "connections"))) }
@@ -111,7 +111,7 @@ pub(crate) fn connections_of(matches: &ArgMatches<'_>) -> Result<Option<u64>, Wo
     }
 }
 
-/// The number that an option says, 1 to `most`, where it is given. With another word it is this fault.
+/// The number of an option, 1 to `most`, if it was given. Any other value is this fault.
 pub(crate) fn limit_of(
     matches: &ArgMatches<'_>,
     what: &'static str,
@@ -132,7 +132,7 @@ pub(crate) fn limit_of(
     }
 }
 
-/// The number behind which a value is stored, where that is said: it has a next one.
+/// The number after which a value is stored, if it was given. It is less than `u64::MAX`.
 pub(crate) fn after_of(matches: &ArgMatches<'_>) -> Result<Option<u64>, WordFault>
     ensures limits { IfOk result (λ after. IfSome after (λ k. k + 1 < 2 ^ 64)) }
     ensures number { IfOk result
@@ -149,7 +149,7 @@ pub(crate) fn after_of(matches: &ArgMatches<'_>) -> Result<Option<u64>, WordFaul
     }
 }
 
-/// The number that the word is, where that is 1 to `most`.
+/// The number that the text is, if it is 1 to `most`.
 fn number_to(word: &str, most: u32) -> Option<u32>
     ensures { MatchOption result (IsNoNumberTo most (Some word.now))
         (λ n. IsNumberOf (Some word.now) n × IsOneTo most n) }
@@ -177,7 +177,8 @@ pub(crate) fn mode_of(matches: &ArgMatches<'_>) -> Result<u16, WordFault>
     }
 }
 
-/// The mode that octal digits write.
+/// The mode that the text is, in octal. `None` if it isn't octal, or has other bits than
+/// [`MODE_BITS`].
 fn mode_in(word: &str) -> Option<u16>
     ensures { MatchOption result ((mode : ℕ) → IsMode word.now mode → ⊥) (IsMode word.now) }
 {
@@ -187,10 +188,10 @@ fn mode_in(word: &str) -> Option<u16>
     }
 }
 
-/// How many digits a mask has.
+/// The number of digits of a mask.
 const MASK_LEN: usize = 4;
 
-/// The number that four hexadecimal digits of either case write. No sign stands before them.
+/// The number that the text is, if it is exactly four hexadecimal digits, of either case.
 pub(crate) fn mask_of(word: &str) -> Option<u16>
     ensures { MatchOption result ((bits : ℕ) → IsMask word.now bits → ⊥) (IsMask word.now) }
 {

@@ -1,4 +1,4 @@
-//! The words of a request.
+//! The arguments that make up a request.
 ghost use Rattle.std.specs.Prelude.{◌≢◌, ◌<◌, ◌≤◌, ◌∷◌, [], IfErr, IfOk, None, Some, codes, length, map};
 ghost use Rattle.clap.specs.Words.{Text, first_value, found_of};
 ghost use Rattle.snap_order.specs.Messages.{IsAskable, max_payload, payload};
@@ -21,7 +21,7 @@ use snap_hex::read_hex;
 use snap_order::{MAX_COUNT, MAX_UPDATE_VALUE, Putting, Question, Request, SegmentSet, Source};
 use std::alloc::Global;
 
-/// What is asked of a server, within the limits.
+/// Parses the request of a call, within the limits.
 pub(crate) fn question_of(alloc: Global, matches: &ArgMatches<'_>) -> Result<Question, WordFault>
     ensures question { IfOk result (IsQuestionOf
         (all_values (found_of matches.now) (codes "request"))
@@ -41,7 +41,7 @@ pub(crate) fn question_of(alloc: Global, matches: &ArgMatches<'_>) -> Result<Que
     }
 }
 
-/// What the words ask, with the options of a put.
+/// Parses these arguments as a request, with the options of a put.
 fn question(alloc: Global, words: &[&str], matches: &ArgMatches<'_>) -> Result<Question, WordFault>
     ensures question { IfOk result (IsQuestionOf (map (λ w. w.now) words.now)
         (first_value (found_of matches.now) (codes "value"))
@@ -63,7 +63,7 @@ fn question(alloc: Global, words: &[&str], matches: &ArgMatches<'_>) -> Result<Q
     plain_question(alloc, words)
 }
 
-/// What the words ask that aren't a put's and have no option of one.
+/// Parses these arguments as a request other than a put, without its options.
 fn plain_question(alloc: Global, words: &[&str]) -> Result<Question, WordFault>
     requires other { (i : Text) → map (λ w. w.now) words.now ≢ codes "put" ∷ i ∷ [] }
     ensures question { IfOk result (IsQuestionOf (map (λ w. w.now) words.now) None None) }
@@ -96,7 +96,7 @@ fn plain_question(alloc: Global, words: &[&str]) -> Result<Question, WordFault>
     Err(WordFault::Request(form_fault(words)))
 }
 
-/// Why words are no request that are of no form.
+/// The fault of arguments that have the form of no request.
 fn form_fault(words: &[&str]) -> RequestFault
     requires other { IsOfNoForm (map (λ w. w.now) words.now) }
     ensures { IsNoRequest (map (λ w. w.now) words.now) None None result }
@@ -110,7 +110,7 @@ fn form_fault(words: &[&str]) -> RequestFault
     RequestFault::Form
 }
 
-/// The segment that this word says, which a server may have.
+/// Parses the segment of a get, which is less than 16.
 fn segment_to_get(word: &str) -> Result<u8, WordFault>
     ensures segment { IfOk result (IsNumberOf (Some word.now)) }
     ensures below { IfOk result (λ i. i < MAX_COUNT) }
@@ -122,7 +122,7 @@ fn segment_to_get(word: &str) -> Result<u8, WordFault>
     }
 }
 
-/// The put of this segment, with its options.
+/// Parses a put of this segment, with its options.
 fn put(alloc: Global, segment: &str, matches: &ArgMatches<'_>) -> Result<Putting, WordFault>
     ensures put { IfOk result (IsPutOf segment.now
         (first_value (found_of matches.now) (codes "value"))
@@ -144,7 +144,7 @@ fn put(alloc: Global, segment: &str, matches: &ArgMatches<'_>) -> Result<Putting
     })
 }
 
-/// Where a put's value comes from.
+/// The source of a put's value.
 fn source_of(alloc: Global, matches: &ArgMatches<'_>) -> Result<Source, WordFault>
     ensures source { IfOk result
         (IsSourceOf (first_value (found_of matches.now) (codes "value"))) }
@@ -163,7 +163,7 @@ fn source_of(alloc: Global, matches: &ArgMatches<'_>) -> Result<Source, WordFaul
     Ok(Source::Words(bytes))
 }
 
-/// The scan of the segments that this word names.
+/// Parses the scan of the segments in this mask.
 fn part(mask: &str) -> Result<Request, WordFault>
     ensures part { IfOk result (IsPartOf mask.now) }
     ensures fits { IfOk result (λ r. length (payload r) ≤ max_payload) }
@@ -179,7 +179,7 @@ fn part(mask: &str) -> Result<Request, WordFault>
     Ok(Request::Part(SegmentSet { bits }))
 }
 
-/// The update of these words.
+/// Parses an update.
 fn update(alloc: Global, segment: &str, number: &str, value: &str) -> Result<Request, WordFault>
     ensures update { IfOk result (IsUpdateOf segment.now number.now value.now) }
     ensures fits { IfOk result (λ r. length (payload r) ≤ max_payload) }

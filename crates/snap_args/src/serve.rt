@@ -1,4 +1,4 @@
-//! The words of `serve`.
+//! The arguments of `serve`.
 ghost use Rattle.std.specs.Prelude.{◌≡◌, ◌⊎◌, [], ◌∷◌, IfErr, IfOk, codes, length, map};
 ghost use Rattle.clap.specs.Words.{first_value, found_of};
 ghost use Rattle.snap_order.specs.Order.{IsOneTo, IsServable, KeepsLimits};
@@ -15,7 +15,7 @@ use clap::ArgMatches;
 use snap_order::{Level, MAX_ADDRESSES, MAX_CLIENTS, MAX_COUNT, MAX_IDLE, Serving};
 use std::alloc::{AllocError, Global};
 
-/// A server with the files that the words name, in order of segment.
+/// Parses the arguments of a server with files, which are in order of segment.
 pub(crate) fn serving<'a>(alloc: Global, matches: &ArgMatches<'a>) -> Result<Serving<'a>, WordFault>
     ensures limits { IfOk result IsServable }
     ensures files { IfOk result (λ s. map (λ f. f.now) s.files.items
@@ -39,7 +39,7 @@ pub(crate) fn serving<'a>(alloc: Global, matches: &ArgMatches<'a>) -> Result<Ser
     service_of(alloc, matches, files)
 }
 
-/// A server with the files of a folder, and so none that the words name.
+/// Parses the arguments of a server with a folder, where no files may be given.
 pub(crate) fn folder_serving<'a>(
     alloc: Global,
     matches: &ArgMatches<'a>,
@@ -61,7 +61,7 @@ pub(crate) fn folder_serving<'a>(
     service_of(alloc, matches, Vec::new(alloc))
 }
 
-/// A server with these files: its addresses, its numbers and the level of its log.
+/// Parses the other arguments of a server, for these files.
 fn service_of<'a>(
     alloc: Global,
     matches: &ArgMatches<'a>,
@@ -95,7 +95,7 @@ fn service_of<'a>(
     })
 }
 
-/// Where a server listens, in order.
+/// The addresses at which a server listens, in order.
 fn addresses_of<'a>(alloc: Global, matches: &ArgMatches<'a>) -> Result<Vec<&'a str>, WordFault>
     ensures limits { IfOk result (λ all. IsOneTo MAX_ADDRESSES (length all.items)) }
     ensures addresses { IfOk result (λ all.
@@ -116,7 +116,7 @@ fn addresses_of<'a>(alloc: Global, matches: &ArgMatches<'a>) -> Result<Vec<&'a s
     Ok(behind(alloc, address, further)?)
 }
 
-/// One text, and others behind it.
+/// The text `first`, followed by the others.
 fn behind<'a>(alloc: Global, first: &'a str, others: &[&'a str]) -> Result<Vec<&'a str>, AllocError>
     ensures { IfOk result (λ all. all.items ≡ first.entry ∷ others.entry.now) }
 {

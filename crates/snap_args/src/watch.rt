@@ -1,4 +1,4 @@
-//! The words of `watch`.
+//! The arguments of `watch`.
 ghost use Rattle.std.specs.Prelude.{◌≡◌, ◌↔◌, ◌<◌, All, IfErr, IfOk, IsTrue, MatchOption, Some, codes};
 ghost use Rattle.std.specs.Prelude.{map};
 ghost use Rattle.clap.specs.Words.{first_value, found_of};
@@ -16,7 +16,7 @@ use clap::ArgMatches;
 use snap_order::{MAX_COUNT, MAX_EVERY, Watching};
 use std::alloc::Global;
 
-/// A server's address, what is shown of it, how often it is asked, and how changes are printed.
+/// Parses the arguments of `watch`.
 pub(crate) fn watching<'a>(
     alloc: Global,
     matches: &ArgMatches<'a>,
@@ -47,7 +47,7 @@ pub(crate) fn watching<'a>(
     })
 }
 
-/// The segments that these words say, in order.
+/// Parses the segments to show, in order.
 fn segments_of(alloc: Global, words: &[&str]) -> Result<Vec<u8>, WordFault>
     ensures limits { IfOk result (λ all. All (λ s. s < MAX_COUNT) all.items) }
     ensures segments { IfOk result (λ all. AreSegmentsOf (map (λ w. w.now) words.now) all.items) }
@@ -65,7 +65,7 @@ fn segments_of(alloc: Global, words: &[&str]) -> Result<Vec<u8>, WordFault>
     Ok(segments)
 }
 
-/// The segment that the word says, which a server may have.
+/// Parses a segment, which is less than 16.
 fn segment_in(word: &str) -> Option<u8>
     ensures { MatchOption result (IsNoNumberBelow MAX_COUNT (Some word.now))
         (λ n. IsNumberOf (Some word.now) n × (n < MAX_COUNT)) }

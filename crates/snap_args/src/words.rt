@@ -1,4 +1,4 @@
-//! Reads the words of the program.
+//! Parses the arguments of the program.
 ghost use Rattle.std.specs.Prelude.{◌≡◌, ◌↔◌, IfErr, IfOk, IsTrue, Some, codes, map};
 ghost use Rattle.std.specs.Prelude.{true};
 ghost use Rattle.clap.specs.Words.{first_value, found_of, takes};
@@ -25,11 +25,11 @@ use snap_order::{Examination, FileOrder, Founding, Migration, Order, SLOT_COUNT}
 use std::alloc::Global;
 use std::convert::AsStr;
 
-/// Reads the words of the program, of which the first is its name.
+/// Parses the arguments of the program, of which the first is its name.
 ///
-/// Where it answers Ok the order's words were given: its index and count are the numbers of their
-/// words, the count from 1 to 16 and the index below it. Each fault says what is wrong in the
-/// words, so good ones are refused for want of memory alone.
+/// The order is exactly what the arguments ask for, with all numbers within their limits. Every
+/// fault but [`WordFault::Memory`] is one of the arguments, so valid ones fail only if memory runs
+/// out. `Help` and `Words` are only for arguments that don't match the grammar.
 pub fn order<'a, S: AsStr>(alloc: Global, words: &'a [S]) -> Result<Order<'a>, WordFault>
     ensures limits { IfOk result IsWithinLimits }
     ensures asked { IfOk result (IsAskedBy (map S.text words.entry.now)) }
@@ -51,7 +51,7 @@ pub fn order<'a, S: AsStr>(alloc: Global, words: &'a [S]) -> Result<Order<'a>, W
     order_of(alloc, command, matches)
 }
 
-/// What this command with its words asks for, whatever else the program's words are.
+/// Parses the arguments of this command.
 fn order_of<'a>(
     alloc: Global,
     command: &str,
@@ -96,7 +96,7 @@ fn order_of<'a>(
     Ok(Order::File(file_order(command, matches)?))
 }
 
-/// What the words of `serve` ask for: a server with the files that they name, or with a folder's.
+/// Parses the arguments of `serve`: a server with files, or with a folder.
 fn server_order<'a>(
     alloc: Global,
     command: &str,
@@ -119,7 +119,7 @@ fn server_order<'a>(
     Ok(Order::ServeFolder { folder, serving })
 }
 
-/// What a command about one segment's file asks for.
+/// Parses the arguments of `format`, `put`, `get` or `check`.
 fn file_order<'a>(command: &str, matches: &ArgMatches<'a>) -> Result<FileOrder<'a>, WordFault>
     requires other { IsOtherCommand command.now }
     ensures limits { IfOk result IsFileWithinLimits }
@@ -147,7 +147,7 @@ fn file_order<'a>(command: &str, matches: &ArgMatches<'a>) -> Result<FileOrder<'
     Ok(order)
 }
 
-/// What is to be shown of this file.
+/// Parses the arguments of `check`.
 fn checking<'a>(file: &'a str, matches: &ArgMatches<'a>) -> Result<FileOrder<'a>, WordFault>
     ensures limits { IfOk result IsFileWithinLimits }
     ensures asked { IfOk result (IsCheckOf file.now (first_value (found_of matches.now))) }
@@ -170,14 +170,14 @@ fn checking<'a>(file: &'a str, matches: &ArgMatches<'a>) -> Result<FileOrder<'a>
     }
 }
 
-/// The command has this name.
+/// Whether the command has this name.
 pub(crate) fn is(command: &str, name: &'static str) -> bool
     ensures { IsTrue result ↔ (command.now ≡ name.now) }
 {
     command == name
 }
 
-/// The folder that is to be made, and how many segments it is to have.
+/// Parses the arguments of `init`.
 fn founding<'a>(matches: &ArgMatches<'a>) -> Result<Founding<'a>, WordFault>
     ensures count { IfOk result (λ f. IsOneTo MAX_COUNT f.count) }
     ensures folder { IfOk result
@@ -200,7 +200,7 @@ fn founding<'a>(matches: &ArgMatches<'a>) -> Result<Founding<'a>, WordFault>
     })
 }
 
-/// The folder that is to be looked at, and whether its disk is measured.
+/// Parses the arguments of `doctor`.
 fn examination<'a>(matches: &ArgMatches<'a>) -> Result<Examination<'a>, WordFault>
     ensures folder { IfOk result
         (λ e. Some e.folder.now ≡ first_value (found_of matches.now) (codes "folder")) }
@@ -218,7 +218,7 @@ fn examination<'a>(matches: &ArgMatches<'a>) -> Result<Examination<'a>, WordFaul
     })
 }
 
-/// The files of a migration, and the place of their segment.
+/// Parses the arguments of `migrate`.
 fn migration<'a>(matches: &ArgMatches<'a>) -> Result<Migration<'a>, WordFault>
     ensures place { IfOk result (λ m. IsPlace m.index m.count) }
     ensures old { IfOk result
@@ -246,7 +246,7 @@ fn migration<'a>(matches: &ArgMatches<'a>) -> Result<Migration<'a>, WordFault>
     })
 }
 
-/// What a parse answered in place of matches.
+/// The fault for an error of the parser.
 fn fault_of(error: clap::Error) -> WordFault
     ensures fault { IsParseFault error result }
 {

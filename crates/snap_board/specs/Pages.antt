@@ -1,4 +1,4 @@
--- What a board answers.
+-- The answers of a board.
 use Rattle.std.specs.Prelude.{◌≡◌, ◌⊎◌, ◌||◌, ℕ, List, Option, Some, None, Bool, MatchBool, bytes_eq, codes, option_and_then, if◌then◌else◌}
 use Rattle.std.specs.List.{list_all, list_any}
 use Rattle.http.specs.declared.request.Request as http
@@ -21,7 +21,7 @@ use Rattle.snap_json.specs.Documents.{health_text, list_text, status_tokens, val
 abbrev pub HasContent : ℕ → List ℕ → Response → Type 0
 HasContent status content r = (r.status ≡ status) × (r.body.items ≡ content)
 
--- which request a page has the service answer, if any
+-- the request to the service that a page needs, if any
 abbrev pub asked_of : Page → Option Request
 asked_of pages.Home = None
 asked_of pages.Style = None
@@ -35,13 +35,13 @@ asked_of pages.Status = Some requests.Status
 asked_of pages.Stats = Some requests.Status
 asked_of pages.History = None
 
--- what a page tells of these values
+-- the page shows these values
 abbrev pub ShowsValues : Page → List SegmentValue → Response → Type 0
 ShowsValues pages.Scan values r = HasContent 200 (list_text (each_from value_tokens 0 values)) r
 ShowsValues page values r = ⊥
 
--- What a page tells of these statuses: the health is told by 503 too, where a segment is fenced, and the readiness, where each is.
--- What was counted is told without a clause.
+-- The page shows these statuses. The status is 503 for the health if a segment is fenced, and for
+-- the readiness if each is. The texts of the metrics have no clause.
 abbrev pub ShowsStatuses : Page → List SegmentStatus → Response → Type 0
 ShowsStatuses pages.Metrics statuses r = r.status ≡ 200
 ShowsStatuses pages.Health statuses r =
@@ -51,28 +51,28 @@ ShowsStatuses pages.Status statuses r = HasContent 200 (list_text (each_from sta
 ShowsStatuses pages.Stats statuses r = r.status ≡ 200
 ShowsStatuses page statuses r = ⊥
 
--- what a page shows of the reply to what it asks
+-- the page shows the reply to its request
 abbrev pub ShowsReply : Page → Reply → Response → Type 0
 ShowsReply page (replies.Snapshot values) r = ShowsValues page values.items r
 ShowsReply page (replies.Status statuses) r = ShowsStatuses page statuses.items r
 ShowsReply page reply r = ⊥
 
--- the service was asked so, once at most
+-- the service got at most this request, once
 abbrev pub MayAsk : {S : Type 0} → (S → Request → Reply → S → Type 0) → Option Request → S → S → Type 0
 MayAsk gives None old new = new ≡ old
 MayAsk gives (Some q) old new = (new ≡ old) ⊎ ((reply : Reply) × gives old q reply new)
 
--- a page shows the reply to what it asks, or is the same each time
+-- a page shows the reply to its request, or is a constant file
 abbrev pub Shows : {S : Type 0} → (S → Request → Reply → S → Type 0) → Page → Option Request → S → Response → S → Type 0
 Shows gives page None old r new = (new ≡ old) × (r.status ≡ 200)
 Shows gives page (Some q) old r new = (reply : Reply) × gives old q reply new × ShowsReply page reply r
 
--- It shows the page; or the answer is 503, since the service gave no such reply or memory was wanting.
+-- The answer is the page; or it is 503, since the service gave no such reply or memory ran out.
 abbrev pub AnswersPage : {S : Type 0} → (S → Request → Reply → S → Type 0) → Page → S → Response → S → Type 0
 AnswersPage gives page old r new =
     Shows gives page (asked_of page) old r new ⊎ ((r.status ≡ 503) × MayAsk gives (asked_of page) old new)
 
--- with a path that has no page
+-- the answer for a path, which may have no page
 abbrev pub AnswersPath : {S : Type 0} → (S → Request → Reply → S → Type 0) → Option Page → S → Response → S → Type 0
 AnswersPath gives None old r new = (new ≡ old) × ((r.status ≡ 404) ⊎ (r.status ≡ 503))
 AnswersPath gives (Some page) old r new = AnswersPage gives page old r new
@@ -81,17 +81,17 @@ AnswersPath gives (Some page) old r new = AnswersPage gives page old r new
 abbrev pub is_read : List ℕ → Bool
 is_read method = bytes_eq method (codes "GET") || bytes_eq method (codes "HEAD")
 
--- which page a request names, if any
+-- the page that a request names, if any
 abbrev pub named : http.Request (List ℕ) → Option Page
 named request = page_of (uri_path (head_of request).uri)
 
--- what a request is answered
+-- the answer to a request
 abbrev pub Answers : {S : Type 0} → (S → Request → Reply → S → Type 0) → S → http.Request (List ℕ) → Response → S → Type 0
 Answers gives old request r new = MatchBool (is_read (head_of request).method)
     (AnswersPath gives (named request) old r new)
     ((new ≡ old) × ((r.status ≡ 405) ⊎ (r.status ≡ 503)))
 
--- what a request may ask the service
+-- the request to the service that an HTTP request may cause
 abbrev pub MayAskFor : {S : Type 0} → (S → Request → Reply → S → Type 0) → S → http.Request (List ℕ) → S → Type 0
 MayAskFor gives old request new = MatchBool (is_read (head_of request).method)
     (MayAsk gives (option_and_then asked_of (named request)) old new) (new ≡ old)

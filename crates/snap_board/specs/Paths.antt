@@ -1,4 +1,4 @@
--- Which page stands at which path.
+-- The page at each path.
 use Rattle.std.specs.Prelude.{ℕ, List, Option, Some, None, codes, bytes_eq, if◌then◌else◌}
 use Rattle.snap_board.specs.declared.page.Page.{Page}
 use Rattle.snap_board.specs.declared.page.Page.TheVariants.{Home, Style, Script, Metrics, Health, Live, Ready, Scan, Status, Stats, History}

@@ -1,8 +1,8 @@
-//! Numbers in decimal digits, with no float.
+//! Numbers in decimal digits, without floating point.
 
 use std::fmt;
 
-/// What a number counts: wholes, or parts of a second.
+/// The unit of a number: one, or a part of a second.
 #[derive(Clone, Copy)]
 pub(crate) enum Unit {
     Whole,
@@ -11,11 +11,11 @@ pub(crate) enum Unit {
     Nanosecond,
 }
 
-/// So many of a unit.
+/// A number of units.
 #[derive(Clone, Copy)]
 pub(crate) struct Amount(pub u64, pub Unit);
 
-/// As a decimal fraction of the whole, as `0.000016`.
+/// Prints it in wholes or in seconds, as a decimal fraction such as `0.000016`.
 impl fmt::Display for Amount {
     fn fmt<W: fmt::Write>(&self, f: &mut fmt::Formatter<W>) -> fmt::Result {
         let Amount(count, unit) = *self;

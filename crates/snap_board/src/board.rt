@@ -26,29 +26,29 @@ use snap_json::{health_document, scan_document, status_document};
 use snap_session::Service;
 use std::alloc::{AllocError, Global};
 
-/// What is said where no page is.
+/// The content of the answer for an unknown path.
 const PATHS: &[u8] =
     b"Nothing is here. There is: / /metrics /health /livez /readyz /scan /status /stats /history\n";
 
-/// What is said of a method that might change something.
+/// The content of the answer to a method that might change something.
 const METHODS: &[u8] = b"Only GET and HEAD are answered.\n";
 
-/// What is said where all is well.
+/// The content of an answer without a fault.
 const WELL: &[u8] = b"ok\n";
 
-/// What is said where no segment takes an update.
+/// The content of the answer if no segment takes an update.
 const ALL_FENCED: &[u8] = b"each segment is fenced\n";
 
-/// What is said where the service gave no answer.
+/// The content of the answer if the service gave none.
 const NO_ANSWER: &[u8] = b"no answer\n";
 
-/// What a page may load and do: its own style and script, and ask its own server.
+/// The page's content security policy: it may load its own style and script, and connect to its own server.
 const POLICY: &str =
     "default-src 'none'; style-src 'self'; script-src 'self'; connect-src 'self'; img-src data:; base-uri 'none'; form-action 'none'; frame-ancestors 'none'";
 
-/// Answers HTTP requests of what a service tells, and of what is told of it. It asks the service for scans and statuses
-/// alone, under the key 0, and one for a request at most. Where it has no memory for an answer, the answer is 503 with no
-/// content, which takes none.
+/// Answers HTTP requests about a server. It asks the service for scans and statuses alone, under
+/// the key 0, and at most once per request. If memory for an answer runs out, the answer is 503
+/// without content, which takes no memory.
 #[derive(Drop)]
 pub struct Board<S: Service + Drop, X: Surroundings + Drop> {
     pub alloc: Global,
@@ -57,7 +57,7 @@ pub struct Board<S: Service + Drop, X: Surroundings + Drop> {
 }
 
 impl<S: Service + Drop, X: Surroundings + Drop> Board<S, X> {
-    /// A board of this service and what is around it.
+    /// A board of this service and these surroundings.
     pub fn new(alloc: Global, service: S, surroundings: X) -> Board<S, X>
         ensures service { result.service ≡ service }
         ensures surroundings { result.surroundings ≡ surroundings }
@@ -90,7 +90,7 @@ impl<S: Service + Drop, X: Surroundings + Drop> Board<S, X> {
         }
     }
 
-    /// Shows a page.
+    /// Answers with a page.
     fn show(&mut self, page: Page, response: &mut Response) -> Result<(), AllocError>
         requires { response.old.body.items ≡ [] }
         ensures answers { OnOk result (pages.AnswersPage S.gives page self.old.service response.new self.new.service) }
@@ -110,7 +110,7 @@ impl<S: Service + Drop, X: Surroundings + Drop> Board<S, X> {
         }
     }
 
-    /// Shows a scan.
+    /// Answers with a scan.
     fn show_scan(&mut self, response: &mut Response) -> Result<(), AllocError>
         requires { response.old.body.items ≡ [] }
         ensures answers { OnOk result (pages.AnswersPage S.gives Page.Scan
@@ -128,7 +128,7 @@ impl<S: Service + Drop, X: Surroundings + Drop> Board<S, X> {
         }
     }
 
-    /// Shows a page that tells of the segments' statuses.
+    /// Answers with a page that needs the segments' statuses.
     fn show_statuses(&mut self, page: Page, response: &mut Response) -> Result<(), AllocError>
         requires begun { response.old.body.items ≡ [] }
         requires tells { pages.asked_of page ≡ Some requests.Status }
@@ -142,7 +142,7 @@ impl<S: Service + Drop, X: Surroundings + Drop> Board<S, X> {
         }
     }
 
-    /// Tells what a page has of these statuses.
+    /// Answers with a page, by these statuses.
     fn tell(
         &self,
         page: Page,
@@ -163,7 +163,7 @@ impl<S: Service + Drop, X: Surroundings + Drop> Board<S, X> {
         }
     }
 
-    /// Tells what was counted, for Prometheus.
+    /// Answers with the metrics, for Prometheus.
     fn tell_metrics(
         &self,
         statuses: &[SegmentStatus],
@@ -180,7 +180,7 @@ impl<S: Service + Drop, X: Surroundings + Drop> Board<S, X> {
         fill_with(response, StatusCode::OK, Kind::Metrics, text.into_bytes())
     }
 
-    /// Tells what was counted, as a document.
+    /// Answers with the metrics, as a JSON document.
     fn tell_figures(
         &self,
         statuses: &[SegmentStatus],
@@ -197,7 +197,7 @@ impl<S: Service + Drop, X: Surroundings + Drop> Board<S, X> {
         fill_with(response, StatusCode::OK, Kind::Json, text)
     }
 
-    /// Shows what was counted in the last three minutes.
+    /// Answers with the history of three minutes.
     fn show_history(&self, response: &mut Response) -> Result<(), AllocError>
         requires { response.old.body.items ≡ [] }
         ensures { OnOk result (response.new.status ≡ 200) }
@@ -206,7 +206,7 @@ impl<S: Service + Drop, X: Surroundings + Drop> Board<S, X> {
         fill_with(response, StatusCode::OK, Kind::Json, text)
     }
 
-    /// Says when the answer is made, where a clock tells and there is memory for it.
+    /// Adds the date of the answer, if the clock can be read and memory for it doesn't run out.
     fn put_date(&self, response: &mut Response)
         ensures { response.new.body ≡ response.old.body }
     {
@@ -223,7 +223,7 @@ impl<S: Service + Drop, X: Surroundings + Drop> Board<S, X> {
     }
 }
 
-/// What is known of a server, with these statuses.
+/// All facts about a server, with these statuses.
 fn facts_of<'a, X: Surroundings>(
     reading: &'a Reading,
     surroundings: &'a X,
@@ -241,7 +241,7 @@ fn facts_of<'a, X: Surroundings>(
     }
 }
 
-/// Tells the number and the fence of each segment.
+/// Answers with the number and the fence of each segment.
 fn tell_statuses(
     alloc: Global,
     statuses: &[SegmentStatus],
@@ -254,7 +254,7 @@ fn tell_statuses(
     fill_with(response, StatusCode::OK, Kind::Json, text)
 }
 
-/// Tells whether no segment is fenced, by the status too: 503 where one is.
+/// Answers with the segments' health: the status is 503 if one is fenced.
 fn tell_health(
     alloc: Global,
     statuses: &[SegmentStatus],
@@ -286,7 +286,7 @@ fn is_any_fenced(statuses: &[SegmentStatus]) -> bool
     statuses.iter().any(|status| status.is_fenced)
 }
 
-/// Tells by the status whether some segment takes updates: 503 where each is fenced.
+/// Answers whether any segment takes updates: the status is 503 if each is fenced.
 fn tell_readiness(statuses: &[SegmentStatus], response: &mut Response) -> Result<(), AllocError>
     requires { response.old.body.items ≡ [] }
     ensures { OnOk result (response.new.status
@@ -312,7 +312,7 @@ fn are_all_fenced(statuses: &[SegmentStatus]) -> bool
     statuses.iter().all(|status| status.is_fenced)
 }
 
-/// Shows the page for people.
+/// Answers with the page for people.
 fn show_home(response: &mut Response) -> Result<(), AllocError>
     requires { response.old.body.items ≡ [] }
     ensures { OnOk result (response.new.status ≡ 200) }
@@ -328,7 +328,7 @@ fn show_home(response: &mut Response) -> Result<(), AllocError>
     )
 }
 
-/// Shows what is the same each time.
+/// Answers with a constant file.
 fn show_file(response: &mut Response, kind: Kind, content: &'static [u8]) -> Result<(), AllocError>
     requires { response.old.body.items ≡ [] }
     ensures { OnOk result (response.new.status ≡ 200) }
@@ -336,7 +336,7 @@ fn show_file(response: &mut Response, kind: Kind, content: &'static [u8]) -> Res
     fill(response, StatusCode::OK, kind, Bytes::from_static(content))
 }
 
-/// Says which refusal the service answered, or that it gave no answer.
+/// Answers with the service's refusal, or that it gave no answer.
 fn refuse(alloc: Global, response: &mut Response, reply: &Option<Reply>) -> Result<(), AllocError>
     requires { response.old.body.items ≡ [] }
     ensures { OnOk result (response.new.status ≡ 503) }
@@ -365,7 +365,7 @@ fn refuse_method(response: &mut Response) -> Result<(), AllocError>
     response.add_header(header::ALLOW, HeaderValue::from_static("GET, HEAD"))
 }
 
-/// Says which paths there are.
+/// Answers with the paths that there are.
 fn refuse_path(response: &mut Response) -> Result<(), AllocError>
     requires { response.old.body.items ≡ [] }
     ensures { OnOk result (response.new.status ≡ 404) }

@@ -1,4 +1,4 @@
-//! Parts of documents.
+//! Parts of JSON documents.
 
 use json::Writer;
 use std::alloc::{AllocError, Global};
@@ -10,7 +10,7 @@ pub(crate) fn begin(alloc: Global) -> Result<Writer, AllocError> {
     Ok(writer)
 }
 
-/// Ends a document, and the line that it is.
+/// Ends a document, which is one line.
 pub(crate) fn end(mut writer: Writer) -> Result<Vec<u8>, AllocError> {
     writer.end_object()?;
     let mut text = writer.into_inner();
@@ -18,7 +18,7 @@ pub(crate) fn end(mut writer: Writer) -> Result<Vec<u8>, AllocError> {
     Ok(text)
 }
 
-/// Writes a member that is a number, or `null` where that isn't known.
+/// Writes a number as a member, or `null` if it isn't known.
 pub(crate) fn put_number(
     writer: &mut Writer,
     name: &str,
@@ -31,7 +31,7 @@ pub(crate) fn put_number(
     }
 }
 
-/// Writes a member that is a text, or `null` where that isn't known.
+/// Writes a text as a member, or `null` if it isn't known.
 pub(crate) fn put_text(
     writer: &mut Writer,
     name: &str,
@@ -44,7 +44,7 @@ pub(crate) fn put_text(
     }
 }
 
-/// Writes members that are numbers.
+/// Writes numbers as members.
 pub(crate) fn put_counts(writer: &mut Writer, counts: &[(&str, u64)]) -> Result<(), AllocError> {
     for (name, count) in counts {
         writer.key(name)?;
@@ -53,7 +53,7 @@ pub(crate) fn put_counts(writer: &mut Writer, counts: &[(&str, u64)]) -> Result<
     Ok(())
 }
 
-/// Writes a member that is an object of numbers.
+/// Writes an object of numbers as a member.
 pub(crate) fn put_object(
     writer: &mut Writer,
     name: &str,

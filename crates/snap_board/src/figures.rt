@@ -1,5 +1,5 @@
-//! What was counted, as a document for programs and for the page. No clause states this text: tests_http and tests/test_http.py
-//! have it to the byte.
+//! The metrics as a JSON document, for programs and for the page. No clause states this text:
+//! tests_http and tests/test_http.py compare it to the byte.
 
 use crate::document::{
     begin, begin_list, begin_object, end, put_counts, put_number, put_object, put_text,
@@ -11,9 +11,9 @@ use json::Writer;
 use snap_figures::{BOUNDS, Distribution, SegmentReading, Tally};
 use std::alloc::{AllocError, Global};
 
-/// All that was counted and is known beside the values, as one JSON document on one line. What isn't known is `null`. Of
-/// times it has how many took no longer than each bound and longer than the one before, and at last how many took longer
-/// than all.
+/// All metrics and facts as one JSON document on one line. What isn't known is `null`. A histogram
+/// has for each bound the number of times up to it and above the bound before, and at last the
+/// number above all bounds.
 pub(crate) fn figures_document(alloc: Global, facts: &Facts) -> Result<Vec<u8>, AllocError> {
     let mut writer = begin(alloc)?;
     put_server(&mut writer, facts)?;
@@ -23,7 +23,7 @@ pub(crate) fn figures_document(alloc: Global, facts: &Facts) -> Result<Vec<u8>, 
     end(writer)
 }
 
-/// Writes what is known of the server.
+/// Writes the facts about the server.
 fn put_server(writer: &mut Writer, facts: &Facts) -> Result<(), AllocError> {
     put_text(writer, "version", Some(facts.version))?;
     put_number(writer, "uptime_milliseconds", facts.uptime)?;
@@ -46,7 +46,7 @@ fn put_addresses(writer: &mut Writer, addresses: &[String]) -> Result<(), AllocE
     writer.end_array()
 }
 
-/// Writes what was counted of requests.
+/// Writes the counts of requests.
 fn put_tally(writer: &mut Writer, tally: &Tally) -> Result<(), AllocError> {
     put_object(writer, "requests", &kinds(tally))?;
     put_counts(
@@ -60,7 +60,7 @@ fn put_tally(writer: &mut Writer, tally: &Tally) -> Result<(), AllocError> {
     put_refusals(writer, &tally.refusals)
 }
 
-/// Writes how often each refusal came.
+/// Writes the count of each refusal.
 fn put_refusals(writer: &mut Writer, counts: &[u64]) -> Result<(), AllocError> {
     begin_list(writer, "refusals")?;
     for (place, count) in counts.iter().enumerate() {
@@ -116,7 +116,7 @@ fn put_segment(
     writer.end_object()
 }
 
-/// Writes which segment it is, and how it stands.
+/// Writes a segment's index, name and status.
 fn put_standing(writer: &mut Writer, facts: &Facts, index: usize) -> Result<(), AllocError> {
     let file = facts.files.get(index).copied();
     let name = match file {
@@ -145,7 +145,7 @@ fn put_all_times(writer: &mut Writer, segment: &SegmentReading) -> Result<(), Al
     Ok(())
 }
 
-/// Writes how long something took.
+/// Writes a histogram.
 fn put_times(writer: &mut Writer, name: &str, times: &Distribution) -> Result<(), AllocError> {
     begin_object(writer, name)?;
     begin_list(writer, "counts")?;

@@ -1,4 +1,4 @@
-//! What was counted in the last three minutes.
+//! The history of the last three minutes.
 
 use crate::document::{begin, begin_list, end, put_counts};
 use crate::facts::millis_of;
@@ -8,16 +8,17 @@ use std::alloc::{AllocError, Global};
 use std::array;
 use std::time::Duration;
 
-/// How many samples are kept: one for each second of three minutes, and the one that these begin at.
+/// How many samples are kept: one for each second of three minutes, and the one before them.
 const SAMPLES: u64 = 181;
 
-/// What was counted up to one moment since the server's start.
+/// The counts from the server's start up to one moment.
 #[derive(Drop)]
 struct Sample {
     /// In milliseconds.
     uptime: Counter,
     scans: Counter,
-    /// How many stores of all segments took how long, as a [`Distribution`](snap_figures::Distribution) has them.
+    /// The histogram of the stores of all segments, as in a
+    /// [`Distribution`](snap_figures::Distribution).
     stores: [Counter; BOUNDS + 1],
 }
 
@@ -58,7 +59,7 @@ impl Sample {
     }
 }
 
-/// How many stores of all segments are counted at this place.
+/// The stores of all segments at this place of the histogram.
 fn stored_at(segments: &[SegmentReading], place: usize) -> u64 {
     let mut sum: u64 = 0;
     for segment in segments {
@@ -69,17 +70,17 @@ fn stored_at(segments: &[SegmentReading], place: usize) -> u64 {
     sum
 }
 
-/// Samples of what a server counted in the last three minutes, about one a second. One thread takes them, and any thread reads
-/// them, at any time and without a lock.
+/// Samples of a server's metrics in the last three minutes, about one a second. One thread takes
+/// them, and any thread reads them without a lock.
 #[derive(Drop)]
 pub struct History {
     samples: Vec<Sample>,
-    /// How many were taken since the start.
+    /// How many samples were taken since the start.
     taken: Counter,
 }
 
 impl History {
-    /// No sample yet. Where there is no memory for them none is ever kept.
+    /// An empty history. If memory for the samples runs out none is ever kept.
     pub fn new(alloc: Global) -> History {
         History {
             samples: match empty_samples(alloc) {
@@ -90,7 +91,8 @@ impl History {
         }
     }
 
-    /// Keeps what was counted up to now, so long after the server's start, in place of the oldest sample where there are 181.
+    /// Takes a sample at `uptime`, the time since the server's start. It replaces the oldest one if
+    /// there are 181.
     pub fn take(&self, reading: &Reading, uptime: Duration) {
         let taken = self.taken.get();
         if let Some(sample) = self.samples.get((taken % SAMPLES) as usize) {

@@ -1,6 +1,6 @@
-//! The page for people. Its style and its script stand beside it.
+//! The page for people. Its style and its script are in style.rt and script.rt.
 
-/// The page. It loads nothing from elsewhere, and the script fills it.
+/// The page. It loads nothing from other servers, and the script fills it.
 pub(crate) const HOME: &[u8] = br##"<!doctype html>
 <html lang="en">
 <head>

@@ -1,8 +1,9 @@
-//! What a browser and a monitor see of a server: the answer to each HTTP request, as a value.
+//! Answers HTTP requests about a server, for browsers and monitoring; each answer is a value.
 //!
-//! [`Board`] is an [`http_server::Service`]. It asks a [`snap_session::Service`] for scans and statuses, which changes no
-//! segment, and its [`Surroundings`] for what was counted, now and in the last three minutes, and for what the system tells. It has no socket, and waits for
-//! nobody: `snap_http` moves the bytes. docs/FORMATS.md, "HTTP", has each path with its status and its content.
+//! [`Board`] is an [`http_server::Service`]. It asks a [`snap_session::Service`] for scans and
+//! statuses, which change no segment, and its [`Surroundings`] for the server's metrics, their history
+//! of three minutes, and the system's figures. It has no socket and doesn't block: `snap_http` moves
+//! the bytes. docs/FORMATS.md, "HTTP", has each path with its status and its content.
 #![tactic(auto)]
 
 mod amount;

@@ -1,6 +1,6 @@
-//! The metrics.
+//! The metrics that Prometheus gets.
 
-/// What is measured: its name, its kind and a line of help.
+/// A metric: its name, its kind and a line of help.
 #[derive(Clone, Copy)]
 pub(crate) struct Metric {
     pub name: &'static str,

@@ -1,4 +1,5 @@
-//! What was counted, as text for Prometheus. No clause states this text: tests_http and tests/test_http.py have it to the byte.
+//! The metrics as text for Prometheus. No clause states this text: tests_http and
+//! tests/test_http.py compare it to the byte.
 
 use crate::amount::{Amount, Unit};
 use crate::facts::Facts;
@@ -12,7 +13,7 @@ use snap_disk::Refusal;
 use snap_figures::Tally;
 use std::alloc::{AllocError, Global};
 
-/// What was counted, in version 0.0.4 of the text format of Prometheus. What isn't known has no line.
+/// All metrics, in version 0.0.4 of the text format of Prometheus. What isn't known has no line.
 pub(crate) fn metrics_text(alloc: Global, facts: &Facts) -> Result<String, AllocError> {
     let mut out = String::new(alloc);
     put_server(&mut out, facts)?;
@@ -21,7 +22,7 @@ pub(crate) fn metrics_text(alloc: Global, facts: &Facts) -> Result<String, Alloc
     Ok(out)
 }
 
-/// Appends what is known of the whole server.
+/// Appends the facts about the server.
 fn put_server(out: &mut String, facts: &Facts) -> Result<(), AllocError> {
     put_version(out, &INFO, facts.version)?;
     put_singles(
@@ -35,7 +36,7 @@ fn put_server(out: &mut String, facts: &Facts) -> Result<(), AllocError> {
     )
 }
 
-/// Appends what was counted of requests.
+/// Appends the counts of requests.
 fn put_tally(out: &mut String, tally: &Tally) -> Result<(), AllocError> {
     put_requests(out, tally)?;
     put_refusals(out, &tally.refusals)?;
@@ -49,7 +50,7 @@ fn put_tally(out: &mut String, tally: &Tally) -> Result<(), AllocError> {
     )
 }
 
-/// How many requests there were of each kind.
+/// The count of requests of each kind.
 pub(crate) fn kinds(tally: &Tally) -> [(&'static str, u64); 4] {
     [
         ("update", tally.updates),
@@ -67,7 +68,7 @@ fn put_requests(out: &mut String, tally: &Tally) -> Result<(), AllocError> {
     Ok(())
 }
 
-/// Appends a line for each refusal, also where it never came.
+/// Appends a line for each refusal, also if its count is 0.
 fn put_refusals(out: &mut String, counts: &[u64]) -> Result<(), AllocError> {
     put_head(out, &REFUSED)?;
     for (place, count) in counts.iter().enumerate() {
@@ -90,7 +91,7 @@ pub(crate) fn refusal_at(place: usize) -> Option<Refusal> {
     Refusal::of_code(code)
 }
 
-/// Appends what was counted of each segment, and how it stands.
+/// Appends the metrics and the status of each segment.
 fn put_segments(out: &mut String, facts: &Facts) -> Result<(), AllocError> {
     for number in [Number::Updates, Number::Repeats] {
         put_each(out, number, facts)?;
@@ -104,7 +105,7 @@ fn put_segments(out: &mut String, facts: &Facts) -> Result<(), AllocError> {
     Ok(())
 }
 
-/// What is told of each segment by one number.
+/// A number that each segment has.
 #[derive(Clone, Copy)]
 enum Number {
     Updates,
@@ -125,7 +126,7 @@ impl Number {
         }
     }
 
-    /// The number of one segment, where it is known.
+    /// The number of one segment, if it is known.
     fn of(self, facts: &Facts, segment: usize) -> Option<Amount> {
         let reading = facts.reading.segments.get(segment);
         let status = facts.statuses.get(segment);

@@ -2,7 +2,7 @@
 ghost use Rattle.std.specs.Prelude.{◌≡◌};
 ghost use Rattle.snap_board.specs.Paths.{page_of};
 
-/// What stands at a path.
+/// The page at a path.
 #[derive(Clone, Copy, Debug, PartialEq, Eq)]
 pub enum Page {
     /// `/`: the page for people.
@@ -11,26 +11,26 @@ pub enum Page {
     Style,
     /// `/board.js`: its script.
     Script,
-    /// `/metrics`: what was counted, for Prometheus.
+    /// `/metrics`: the metrics, for Prometheus.
     Metrics,
     /// `/health`: whether a segment is fenced.
     Health,
-    /// `/livez`: that somebody answers.
+    /// `/livez`: whether the server answers.
     Live,
-    /// `/readyz`: whether some segment takes updates.
+    /// `/readyz`: whether any segment takes updates.
     Ready,
     /// `/scan`: the number and the value of each segment at one moment.
     Scan,
     /// `/status`: the number and the fence of each segment.
     Status,
-    /// `/stats`: what was counted, as a document.
+    /// `/stats`: the metrics, as a JSON document.
     Stats,
-    /// `/history`: what was counted in the last three minutes.
+    /// `/history`: the history of the last three minutes.
     History,
 }
 
 impl Page {
-    /// The page at this path, or `None` where there is none.
+    /// The page at this path, or `None` if there is none.
     pub fn of(path: &str) -> Option<Page>
         ensures { result ≡ page_of path.now }
     {

@@ -1,5 +1,5 @@
-//! What is told of the process and of the segments' names, for Prometheus. No clause states this text: tests_http has it to the
-//! byte.
+//! The metrics of the process and the segments' names, for Prometheus. No clause states this text:
+//! tests_http compares it to the byte.
 
 use crate::amount::Unit;
 use crate::facts::{Facts, name_of};
@@ -10,18 +10,18 @@ use crate::metric::{
 use crate::sample::{Escaped, put_head, put_singles, put_version};
 use std::alloc::{AllocError, Global};
 
-/// What a process takes of the system and of the server's bounds. What isn't known is `None`.
+/// The resources of a process, and the server's limits. `None` if one isn't known.
 #[derive(Clone, Copy, Debug)]
 pub struct Usage {
-    /// When it was started, in milliseconds since 1970.
+    /// The start of the process, in milliseconds since 1970.
     pub started: Option<u64>,
-    /// The time of processors that it took, in nanoseconds.
+    /// The processor time that it took, in nanoseconds.
     pub processors: Option<u64>,
-    /// The addresses of memory that it has, in bytes.
+    /// Its virtual memory, in bytes.
     pub addresses: Option<u64>,
     /// How many descriptors are open.
     pub descriptors: Option<u64>,
-    /// How many may be.
+    /// How many descriptors may be open.
     pub most_descriptors: Option<u64>,
     /// How many connections of clients may be open.
     pub most_clients: u64,
@@ -29,7 +29,7 @@ pub struct Usage {
     pub lost_lines: u64,
 }
 
-/// What is known of the process, and the name of each segment.
+/// The metrics of the process, and the name of each segment.
 pub(crate) fn process_text(
     alloc: Global,
     facts: &Facts,

@@ -1,4 +1,4 @@
-//! Responses: their status, their fields and their content.
+//! Responses: their status, their headers and their content.
 ghost use Rattle.std.specs.Prelude.{◌≡◌, [], OnOk, OnErr};
 ghost use Rattle.snap_board.specs.Pages.{HasContent};
 
@@ -7,7 +7,7 @@ use http::{HeaderName, HeaderValue, StatusCode, header};
 use http_server::Response;
 use std::alloc::AllocError;
 
-/// What a content is.
+/// The kind of a content.
 #[derive(Clone, Copy, Debug, PartialEq, Eq)]
 pub(crate) enum Kind {
     Html,
@@ -33,7 +33,7 @@ impl Kind {
     }
 }
 
-/// Fills a response with this content. No answer is kept by a browser, and none is taken for another kind.
+/// Fills a response with this content. The headers forbid browsers to cache it or to guess another kind.
 pub(crate) fn fill(
     response: &mut Response,
     status: StatusCode,
@@ -71,7 +71,7 @@ pub(crate) fn fill_with(
     fill(response, status, kind, content)
 }
 
-/// Makes the response one that says nothing but that there is no memory. It takes none.
+/// Makes the response an empty 503, since memory ran out. It takes no memory.
 pub(crate) fn give_up(response: &mut Response)
     ensures { HasContent 503 [] response.new }
 {

@@ -5,7 +5,8 @@ use crate::metric::Metric;
 use std::alloc::AllocError;
 use std::fmt;
 
-/// A text as it stands in a label: with a backslash before each backslash and quote, and with `\n` for the end of a line.
+/// A text as it is written in a label: with a backslash before each backslash and quote, and with
+/// `\n` for a line feed.
 #[derive(Clone, Copy)]
 pub(crate) struct Escaped<'a>(pub &'a str);
 
@@ -23,16 +24,16 @@ impl fmt::Display for Escaped<'_> {
     }
 }
 
-/// Appends what a metric is: two lines that stand before its samples.
+/// Appends the head of a metric: the two lines before its samples.
 pub(crate) fn put_head(out: &mut String, metric: &Metric) -> Result<(), AllocError> {
     let Metric { name, kind, help } = metric;
     write!(out, "# HELP {name} {help}\n# TYPE {name} {kind}\n")
 }
 
-/// A number of the whole server: its metric, how many it is where that is known, and of what.
+/// A number of the whole server: its metric, its value if it is known, and its unit.
 pub(crate) type Single = (Metric, Option<u64>, Unit);
 
-/// Appends each of these numbers that is known, with what it is.
+/// Appends each of these numbers that is known, with its head.
 pub(crate) fn put_singles(out: &mut String, singles: &[Single]) -> Result<(), AllocError> {
     for (metric, count, unit) in singles {
         if let Some(count) = *count {
@@ -43,7 +44,7 @@ pub(crate) fn put_singles(out: &mut String, singles: &[Single]) -> Result<(), Al
     Ok(())
 }
 
-/// Appends which program it is.
+/// Appends the version of the program.
 pub(crate) fn put_version(
     out: &mut String,
     metric: &Metric,

@@ -1,7 +1,8 @@
 //! The script of the page.
 
-/// It asks for `/scan` and `/stats` once a second while the page is seen, and for `/history` whenever it begins so, and puts what
-/// came into the page: each value by `textContent` alone, and numbers without loss, which JavaScript's own are not above 2^53.
+/// It polls `/scan` and `/stats` once a second while the page is visible, and `/history` whenever
+/// it begins to, and puts the results into the page: each value by `textContent` alone. Numbers
+/// lose no digit, as JavaScript's own would above 2^53.
 pub(crate) const SCRIPT: &[u8] = br##""use strict";
 const REST = 1000, RETRY = 3000, PATIENCE = 5000;   // milliseconds between polls, after a failed one, and for one
 const POINTS = 180;                                 // of a plot: three minutes

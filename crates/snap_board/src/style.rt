@@ -1,7 +1,7 @@
 //! The style of the page.
 
-/// One column of tables, in the system's letters, with digits that stand below one another; light or dark, as the reader
-/// has it.
+/// One column of tables, in the system's font, with digits of equal width; light or dark, as the
+/// reader's system has it.
 pub(crate) const STYLE: &[u8] = br##":root {
   --paper: #fbfbfa; --card: #ffffff; --ink: #1c1e21; --soft: #5c626a; --line: #dcdfe3;
   --good: #1b6e3c; --warn: #8a5200; --bad: #b3261e; --warn-paper: #fff4e0; --bad-paper: #fdecea; --curve: #2458b8; --second: #8a5200;

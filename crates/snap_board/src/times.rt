@@ -1,4 +1,4 @@
-//! How long something took, by segment.
+//! Histograms of times, by segment.
 ghost use Rattle.std.specs.Prelude.{◌<◌};
 ghost use Rattle.snap_figures.specs.declared.reading.TheConstants.{BOUNDS};
 
@@ -8,7 +8,7 @@ use crate::sample::put_head;
 use snap_figures::{BOUNDS, Distribution, FIRST_BOUND, SegmentReading};
 use std::alloc::AllocError;
 
-/// What took its time.
+/// The histograms of a segment.
 #[derive(Clone, Copy)]
 pub(crate) enum Times {
     Stores,
@@ -17,7 +17,7 @@ pub(crate) enum Times {
 }
 
 impl Times {
-    /// How long it took, of what was counted of a segment.
+    /// This histogram, out of a segment's metrics.
     fn of(self, segment: &SegmentReading) -> &Distribution {
         match self {
             Times::Stores => &segment.stores,
@@ -42,7 +42,7 @@ pub(crate) fn bound(place: usize) -> u64
     FIRST_BOUND << place
 }
 
-/// How many there were.
+/// The number of times.
 pub(crate) fn all(times: &Distribution) -> u64 {
     let mut sum: u64 = 0;
     for count in &times.counts {
@@ -51,7 +51,7 @@ pub(crate) fn all(times: &Distribution) -> u64 {
     sum
 }
 
-/// Appends how long it took, for each segment.
+/// Appends a histogram for each segment.
 pub(crate) fn put_times(
     out: &mut String,
     times: Times,
@@ -65,7 +65,7 @@ pub(crate) fn put_times(
     Ok(())
 }
 
-/// Appends how many took no longer than each bound, how long they took together, and how many there were.
+/// Appends for each bound the number of times up to it, then their sum and their number.
 fn put_distribution(
     out: &mut String,
     name: &str,

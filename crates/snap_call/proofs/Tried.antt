@@ -1,4 +1,4 @@
--- What tries leave of the connections, and what they answer.
+-- The connections and the answer after some tries.
 use Rattle.std.proofs.Common.{◌≡◌, ℕ, zero, suc, ◌+◌, ◌^◌, ◌<◌, List, All, Option, Result, Ok, Err, IfOk, inl, inr}
 use Rattle.std.proofs.Common.{Some, None, get_or, refl, arith, subst, sym}
 use Rattle.std.proofs.lemmas.List.Elements.{All-get_or}
@@ -55,7 +55,7 @@ module _ {F R W : Type 0} (calls : Mut F (Unit {0}) (Option (R × W))) (remainin
   up_to_leave (suc n) old new result may (inr (fault, mid, passes, one, rest)) =
       up_to_leave n mid new result (once_leaves old mid _ may one) rest
 
-  -- where a connection may always be asked for, it may be after the tries
+  -- a `connect` that can always be called can be called again after the tries
   pub tries_leave : (tries : Option ℕ) (old new : F) (result : Result Reply ClientFault) → always_mut calls old
       → TriesIn tries (λ f x f'. Called calls f tt x f') remaining contents q old result new
       → always_mut calls new
@@ -67,7 +67,7 @@ module _ {F R W : Type 0} (calls : Mut F (Unit {0}) (Option (R × W))) (remainin
   tries_leave None old new result may (n, mid, tried, inr (inr (many, same))) =
       subst (always_mut calls) (sym same) (up_to_leave n old mid result may tried)
 
--- a number that a status tells has a next one
+-- a segment's number in a valid status has a next one
 pub number_next : (statuses : List SegmentStatus) (i k : ℕ) → All IsStatus statuses
     → TellsNumber statuses i k → k + 1 < 2 ^ 64
 number_next statuses i k are (s, at, is) =

@@ -21,29 +21,28 @@ use Rattle.snap_stream.specs.Streams.{AppendsBeginning, Complains, refused_line}
 use Rattle.snap_stream.specs.refusal.Refusal.TheVariants as refusal
 use Rattle.snap_call.specs.Text.{Shows, is_any_fenced, stored_line}
 
--- it ends as refused, and standard error got a beginning of this line, and all of it where that is
--- told
+-- it ends as refused, and standard error got a beginning of this line, and all of it if `is_told`
 pub record SaysRefused (text : List ℕ) (ended : Exit) (errs errs' : Option (List ℕ))
     : Type 0 where
   pub status : ended.status ≡ status.Refused
   pub beginning : AppendsBeginning errs errs' text
   pub whole : ended.is_told ≡ true → Appends errs errs' text
 
--- the server refused it, which some line says
+-- the server refused, with a line on standard error
 abbrev pub IsRefused : Exit → (errs errs' : Option (List ℕ)) → Type 0
 IsRefused ended errs errs' = (text : List ℕ) × SaysRefused text ended errs errs'
 
--- memory was wanting
+-- it ends as refused because memory ran out
 abbrev pub WantsMemory : Exit → (errs errs' : Option (List ℕ)) → Type 0
 WantsMemory ended errs errs' = SaysRefused (refused_line refusal.NoMemory) ended errs errs'
 
--- how a call ends whose answer was printed: as refused where it asked for a fence and there is one
+-- the status after an answer was printed: as refused if a health call found a fenced segment
 abbrev pub answer_status : Question → Reply → Status
 answer_status Health (reply.Status statuses) =
     if is_any_fenced statuses.items then status.Refused else status.Done
 answer_status question reply = status.Done
 
--- the text was printed, nothing else was said, and it ends so
+-- the text was printed whole, without a complaint
 pub record IsPrinted (how : Status) (text : List ℕ) (ended : Exit)
     (out out' errs errs' : Option (List ℕ)) : Type 0 where
   pub status : ended.status ≡ how
@@ -51,7 +50,7 @@ pub record IsPrinted (how : Status) (text : List ℕ) (ended : Exit)
   pub whole : Appends out out' text
   pub silent : Keeps errs errs'
 
--- standard output failed behind a beginning of the text, which a complaint says
+-- standard output failed after a beginning of the text, with a complaint
 pub record IsCutShort (text : List ℕ) (ended : Exit) (out out' errs errs' : Option (List ℕ))
     : Type 0 where
   pub status : ended.status ≡ status.Failed
@@ -64,13 +63,13 @@ abbrev pub PrintsInPlace : (how : Status) → List ℕ → Exit → (out out' er
 PrintsInPlace how text ended out out' errs errs' =
     IsPrinted how text ended out out' errs errs' ⊎ IsCutShort text ended out out' errs errs'
 
--- a text of the reply's values was printed or cut short, or memory was wanting before the first byte
+-- a text of the reply was printed or cut short, or memory ran out before the first byte
 abbrev pub Prints : (how : Status) → Layout → Reply → Exit → (out out' errs errs' : Option (List ℕ)) → Type 0
 Prints how layout reply ended out out' errs errs' =
     ((text : List ℕ) × Shows layout reply text × PrintsInPlace how text ended out out' errs errs')
     ⊎ (WantsMemory ended errs errs' × Keeps out out')
 
--- there is no answer, which a complaint says
+-- there is no answer, with a complaint
 pub record GivesUp (ended : Exit) (errs errs' : Option (List ℕ)) : Type 0 where
   pub status : ended.status ≡ status.Failed
   pub said : Complains None ended.is_told errs errs'
@@ -80,14 +79,15 @@ abbrev pub IsOnlyValue : ℕ → List NamedValue → List ℕ → Type 0
 IsOnlyValue segment values x = (length values ≡ 1)
     × ((v : NamedValue) × (slice_get values 0 ≡ Some v) × (v.segment ≡ segment) × (v.value ≡ x))
 
--- the value of this segment was printed, byte for byte; a reply without it, or with another one, is no answer
+-- the value of this segment was printed, byte for byte; a reply without it, or with another one,
+-- counts as no answer
 abbrev pub EndsGot : ℕ → List NamedValue → Exit → (out out' errs errs' : Option (List ℕ)) → Type 0
 EndsGot segment values ended out out' errs errs' =
     ((x : List ℕ) × IsOnlyValue segment values x
     × PrintsInPlace status.Done x ended out out' errs errs')
     ⊎ (((x : List ℕ) → IsOnlyValue segment values x → ⊥) × GivesUp ended errs errs' × Keeps out out')
 
--- how a call ends whose answer is the reply to a read
+-- how a call ends after the reply to a read
 abbrev pub EndsRead : Layout → Question → Reply → Exit → (out out' errs errs' : Option (List ℕ))
     → Type 0
 EndsRead layout (Get segment) (reply.Part values) ended out out' errs errs' =
@@ -95,16 +95,17 @@ EndsRead layout (Get segment) (reply.Part values) ended out out' errs errs' =
 EndsRead layout question reply ended out out' errs errs' =
     Prints (answer_status question reply) layout reply ended out out' errs errs'
 
--- the reply to a read: nothing was done that it tells of
+-- the reply is one to a read
 abbrev pub IsRead : Reply → Type 0
 IsRead (reply.Snapshot values) = Unit {0}
 IsRead (reply.Part values) = Unit {0}
 IsRead (reply.Status statuses) = Unit {0}
 IsRead reply = ⊥
 
--- How a call ends that asked this, prints its answer so and is answered so: `out` and `out'` are what standard output held before and
--- after, `errs` and `errs'` what standard error did. Memory is wanting only for the text of a read, and where the
--- client itself found none. Behind the reply to an update, stored or refused, it never is.
+-- How a call with this question and layout ends after this answer: `out` and `out'` are the
+-- contents of standard output before and after, `errs` and `errs'` those of standard error. Memory
+-- can run out only for the text of a read and within the client, but never after the reply to an
+-- update, stored or refused.
 abbrev pub EndsAsked : Layout → Question → Result Reply ClientFault → Exit
     → (out out' errs errs' : Option (List ℕ)) → Type 0
 EndsAsked layout question (Ok (Refused why detail)) ended out out' errs errs' =
@@ -118,16 +119,17 @@ EndsAsked layout question (Err NoMemory) ended out out' errs errs' =
 EndsAsked layout question (Err fault) ended out out' errs errs' =
     GivesUp ended errs errs' × Keeps out out'
 
--- The most connections that a request has which is tried so often, or for so long where that is said: then as many as there are.
+-- The most connections of a request with this wait and these tries. `None` if it waits: then any
+-- number.
 abbrev pub most_tries : (wait : Option ℕ) → (tries : ℕ) → Option ℕ
 most_tries None tries = Some tries
 most_tries (Some seconds) tries = None
 
--- the same of an order's requests
+-- the most connections of a request of this order
 unfoldable pub tries_of : Calling → Option ℕ
 tries_of c = most_tries c.wait c.tries
 
--- A request was sent on up to so many connections, and the end is that of the answer.
+-- A request was sent on at most that many connections, and the answer decides the end.
 abbrev pub Asks : {F R C : Type 0} → Layout → (tries : Option ℕ) → (F → Option (R × C) → F → Type 0)
     → (R → Option (List ℕ)) → (C → Option (List ℕ)) → Question → F → Exit → F
     → (out out' errs errs' : Option (List ℕ)) → Type 0

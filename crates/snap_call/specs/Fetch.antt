@@ -1,4 +1,4 @@
--- What the values of a server are, and how the program ends without them.
+-- How the values of a server are fetched, and how the program ends without them.
 use Rattle.std.specs.Prelude.{◌≡◌, ℕ, List, Option, Result, Ok, Err}
 use Rattle.std.specs.declared.vec.Vec.{Vec}
 use Rattle.std.specs.declared.alloc.Global.{Global}
@@ -13,20 +13,20 @@ use Rattle.snap_order.specs.request.Request.TheVariants.{Scan}
 use Rattle.snap_order.specs.declared.status.Exit.{Exit}
 use Rattle.snap_call.specs.Ends.{GivesUp, IsRefused, WantsMemory}
 
--- how the program ends by an answer that has no values
+-- how the program ends after an answer without values
 abbrev pub EndsWithout : Result Reply ClientFault → Exit → (errs errs' : Option (List ℕ)) → Type 0
 EndsWithout (Ok (Refused why detail)) ended errs errs' = IsRefused ended errs errs'
 EndsWithout (Ok reply) ended errs errs' = GivesUp ended errs errs'
 EndsWithout (Err NoMemory) ended errs errs' = WantsMemory ended errs errs'
 EndsWithout (Err fault) ended errs errs' = GivesUp ended errs errs'
 
--- the values are those of the answer, and nothing was said; or it has none, and the program ends by it
+-- the values are those of the answer, without a complaint; or it has none, and the program ends
 abbrev pub EndsFetch : Result Reply ClientFault → Result (Vec SegmentValue Global) Exit
     → (errs errs' : Option (List ℕ)) → Type 0
 EndsFetch answer (Ok values) errs errs' = (answer ≡ Ok (Snapshot values)) × Keeps errs errs'
 EndsFetch answer (Err ended) errs errs' = EndsWithout answer ended errs errs'
 
--- a scan was sent on up to so many connections, and these are the values of the last answer
+-- a scan was sent on at most that many connections, and these are the values of the last answer
 abbrev pub Fetches : {F R C : Type 0} → (tries : Option ℕ) → (F → Option (R × C) → F → Type 0)
     → (R → Option (List ℕ)) → (C → Option (List ℕ)) → F → Result (Vec SegmentValue Global) Exit → F
     → (errs errs' : Option (List ℕ)) → Type 0

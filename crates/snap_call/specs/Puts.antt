@@ -1,4 +1,4 @@
--- What a call does that puts a value.
+-- What a put does.
 use Rattle.std.specs.Prelude.{◌≡◌, ◌⊎◌, ℕ, ◌+◌, ◌<◌, ◌≤◌, List, length, slice_get, Option, Some, None, IfSome}
 use Rattle.std.specs.Prelude.{Result, Ok}
 use Rattle.std.specs.Io.KnownBytes.{Keeps}
@@ -23,36 +23,38 @@ use Rattle.snap_call.specs.Ends.{Asks, EndsAsked, GivesUp, IsRefused, SaysRefuse
 use Rattle.snap_call.specs.declared.put.NoValue.{NoValue}
 use Rattle.snap_call.specs.declared.put.NoValue.TheVariants.{TooLong, Failed, NoMemory}
 
--- the value of a put: all that standard input had, which isn't longer than a value may be, or the bytes of
--- the words
+-- the value of a put: all bytes of standard input, if a value may have that many, or those of the
+-- argument
 abbrev pub HasValue : Source → (known : Option (List ℕ)) → List ℕ → Type 0
 HasValue source.Input known v = Had known v × (length v ≤ MAX_VALUE_LEN)
 HasValue (source.Words bytes) known v = v ≡ bytes
 
--- standard input has more than a value may have
+-- standard input has more bytes than a value may have
 abbrev pub IsTooLong : Source → (known : Option (List ℕ)) → Type 0
 IsTooLong source.Input known = IfSome known (λ xs. MAX_VALUE_LEN < length xs)
 IsTooLong (source.Words bytes) known = ⊥
 
--- why there may be no value: only what is read can be too long, or fail
+-- the possible reasons of no value, if standard input has these bytes: only input that is read can be too
+-- long or fail
 abbrev pub MayLack : Source → (known : Option (List ℕ)) → NoValue → Type 0
 MayLack s known TooLong = IsTooLong s known
 MayLack s known (Failed error) = s ≡ source.Input
 MayLack s known NoMemory = Unit {0}
 
--- how the call ends for it
+-- how the call ends for this reason
 abbrev pub SaysLack : NoValue → Exit → (errs errs' : Option (List ℕ)) → Type 0
 SaysLack TooLong ended errs errs' = SaysRefused (refused_line refusal.TooLong) ended errs errs'
 SaysLack (Failed error) ended errs errs' = GivesUp ended errs errs'
 SaysLack NoMemory ended errs errs' = WantsMemory ended errs errs'
 
--- the status tells this number of the segment
+-- the status has this number of the segment
 abbrev pub TellsNumber : List SegmentStatus → (segment number : ℕ) → Type 0
 TellsNumber statuses i k =
     (s : SegmentStatus) × (slice_get statuses i ≡ Some s) × (s.number ≡ k)
 
--- What follows what the server told of its segments: an update with the number behind the one that it told
--- of this segment, or the refusal of a segment that it doesn't have; where it told nothing, that.
+-- What follows the answer to the request for the numbers: an update with the next number of this
+-- segment, or the refusal of a segment that the server doesn't have. Any other answer ends the
+-- call.
 abbrev pub GoesOn : {F R C : Type 0} → (tries : Option ℕ) → (F → Option (R × C) → F → Type 0)
     → (R → Option (List ℕ)) → (C → Option (List ℕ)) → (segment : ℕ) → (v : List ℕ)
     → Result Reply ClientFault → F → Exit → F → (out out' errs errs' : Option (List ℕ)) → Type 0
@@ -64,7 +66,8 @@ GoesOn tries connects remaining contents i v (Ok (reply.Status statuses)) mid en
 GoesOn tries connects remaining contents i v told mid ended new out out' errs errs' =
     (new ≡ mid) × EndsAsked Lines (question.Request Status) told ended out out' errs errs'
 
--- the value is put behind the number that is given, or behind the one that the server tells in this call
+-- the value is stored after the number that is given, or after the one that the server returns in
+-- this call
 abbrev pub Stores : {F R C : Type 0} → (tries : Option ℕ) → (F → Option (R × C) → F → Type 0)
     → (R → Option (List ℕ)) → (C → Option (List ℕ)) → (after : Option ℕ) → (segment : ℕ)
     → (v : List ℕ) → F → Exit → F → (out out' errs errs' : Option (List ℕ)) → Type 0
@@ -76,7 +79,7 @@ Stores {F} tries connects remaining contents None i v old ended new out out' err
     × TriesIn tries connects remaining contents Status old told mid
     × GoesOn tries connects remaining contents i v told mid ended new out out' errs errs'
 
--- What a put does: `known` is what standard input has. Without a value no connection is made.
+-- What a put does, if standard input has the `known` bytes. Without a value no connection is made.
 abbrev pub Puts : {F R C : Type 0} → (tries : Option ℕ) → (F → Option (R × C) → F → Type 0)
     → (R → Option (List ℕ)) → (C → Option (List ℕ)) → Putting → (known : Option (List ℕ))
     → F → Exit → F → (out out' errs errs' : Option (List ℕ)) → Type 0
@@ -85,7 +88,7 @@ Puts tries connects remaining contents p known old ended new out out' errs errs'
     ⊎ ((v : List ℕ) × HasValue p.value known v × Stores tries connects remaining contents p.after
     p.segment v old ended new out out' errs errs')
 
--- what a call does that asks this, and prints the answer so: a put is one of more requests
+-- what a call with this question and layout does
 abbrev pub Does : {F R C : Type 0} → Layout → (tries : Option ℕ) → (F → Option (R × C) → F → Type 0)
     → (R → Option (List ℕ)) → (C → Option (List ℕ)) → Question → (known : Option (List ℕ))
     → F → Exit → F → (out out' errs errs' : Option (List ℕ)) → Type 0

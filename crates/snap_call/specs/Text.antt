@@ -1,4 +1,4 @@
--- What is printed of a stored number, and of the values of a reply in lines (docs/FORMATS.md).
+-- The lines of a stored number and of the values of a reply (docs/FORMATS.md).
 use Rattle.std.specs.Prelude.{◌≡◌, ℕ, Bool, List, [], ◌∷◌, ◌++◌, codes, flat_map}
 use Rattle.std.specs.List.{list_any}
 use Rattle.std.specs.Fmt.{decimal}
@@ -12,26 +12,26 @@ use Rattle.snap_json.specs.Each.{each_from}
 use Rattle.snap_order.specs.declared.order.Layout.{Layout}
 use Rattle.snap_order.specs.declared.order.Layout.TheVariants.{Lines}
 
--- a text with a line feed behind it
+-- a text with a line feed at its end
 abbrev pub line : List ℕ → List ℕ
 line text = text ++ (10 ∷ [])
 
 abbrev pub stored_line : ℕ → List ℕ
 stored_line k = line (codes "stored " ++ decimal k)
 
--- what a line says first of segment i
+-- the beginning of segment i's line
 abbrev pub segment_text : ℕ → ℕ → List ℕ
 segment_text i k = codes "segment " ++ (decimal i ++ (codes " number " ++ decimal k))
 
--- the number and the value of segment i
+-- the line of segment i's number and value
 abbrev pub value_text : (i k : ℕ) → List ℕ → List ℕ
 value_text i k bytes = line (segment_text i k ++ (codes " value " ++ hex_text bytes))
 
--- of the entry at place i of a snapshot, which is segment i's
+-- the line of the entry at place i of a snapshot
 abbrev pub value_line : ℕ → SegmentValue → List ℕ
 value_line i v = value_text i v.number v.value
 
--- of an entry that names its segment
+-- the line of an entry that names its segment
 abbrev pub named_line : NamedValue → List ℕ
 named_line v = value_text v.segment v.number v.value
 
@@ -41,7 +41,7 @@ ShowsValues (Snapshot values) text = text ≡ each_from value_line 0 values.item
 ShowsValues (Part values) text = text ≡ flat_map named_line values.items
 ShowsValues reply text = Unit {0}
 
--- it does where it is printed in lines; tests alone say what other texts have
+-- it does if the layout is lines; only tests say what other texts have
 abbrev pub Shows : Layout → Reply → List ℕ → Type 0
 Shows layout reply text = layout ≡ Lines → ShowsValues reply text
 

@@ -1,4 +1,4 @@
-//! The order `call`, done.
+//! Sends the request of a call and prints the reply.
 ghost use Rattle.std.specs.Prelude.{◌≡◌, ◌^◌, ◌<◌, ◌≤◌, ℕ, List, IfSome, MatchOption, if◌then◌else◌, length};
 ghost use Rattle.snap_client.specs.Again.{TriesIn};
 ghost use Rattle.snap_frame.specs.Messages.{IsAskable, max_payload, payload};
@@ -23,23 +23,22 @@ use std::alloc::Global;
 use std::fmt::Display;
 use std::io::{Read, Write};
 
-/// Asks a server what the order says, prints the answer on `writer`, and says how the program
-/// ends: of a server's health as [`Status::Refused`] where a segment is fenced. `connect` gives a
-/// reader and a writer, or `None` where no connection can be made; it is called once at least for
-/// each request and as often as the order has tries at most, and only again where the same request
-/// may be answered on another connection. Of an order that waits it is called until it gives `None`, however
-/// many tries there are, and so it is for `connect` to rest, and to say when that is over.
+/// Does what the order says: sends its requests to a server, prints the reply on `writer`, and
+/// returns the exit status. The status of a health call with a fenced segment is
+/// [`Status::Refused`]. `connect` returns a reader and a writer, or `None` if no connection can be
+/// made. For each request it is called once, and again if the same request may be answered on
+/// another connection: up to the order's number of tries. If the order waits there is no such
+/// limit: `connect` itself has to pause, and to end the wait by `None`.
 ///
-/// A put of `input` reads it to its end first, and makes no connection where it fails or is longer
-/// than a value may be. Then it sends two requests, the second one an update with the number behind
-/// the one that the first one was told; where the order has a number, the update alone.
+/// A put of standard input first reads `input` to its end, and makes no connection if that fails or
+/// has too many bytes for a value. Then it sends two requests: one for the current number, and an
+/// update with the next one. If the order has a number, it sends the update alone.
 ///
-/// A refusal by the server and want of memory are a complaint on `errors`, and the status
-/// [`Status::Refused`]; nothing is printed then. What was answered of an update is said without
-/// memory, so that none is wanting behind a reply but for the values and fences of a read. A
-/// connection that fails, a `writer` and an `input` that do are a complaint too, and the status
-/// [`Status::Failed`]; of a reply that couldn't be printed whole, `writer` got a beginning. A
-/// complaint is one line, but for line feeds in the address.
+/// If the server refuses, or memory runs out, `errors` gets a complaint, nothing is printed, and
+/// the status is [`Status::Refused`]. The outcome of an update is printed without memory, so after
+/// a reply memory can run out only for the values and fences of a read. If a connection, `writer`
+/// or `input` fails, `errors` gets a complaint and the status is [`Status::Failed`]; `writer` may
+/// have got a beginning of the text. A complaint is one line, except for line feeds in the address.
 pub fn ask<
     R: Read + Drop,
     C: Write + Drop,
@@ -58,7 +57,7 @@ pub fn ask<
     requires limits { IsCallable order.now }
     requires callable { F.IsAlwaysCallable connect.old }
 
-    // Each request was sent on up to so many connections, and the end is that of the last answer.
+    // Each request was sent on at most that many connections, and the last answer decides the end.
     ensures does { Does order.now.layout (tries_of order.now) F.step R.remaining C.contents
         order.now.question (I.remaining input.old) connect.old result connect.new
         (W.contents writer.old) (W.contents writer.new) (E.contents errors.old)
@@ -71,8 +70,8 @@ pub fn ask<
     }
 }
 
-/// Asks one question, and ends by its answer. Of the order it takes the address, the tries and the
-/// layout.
+/// Sends the request of one question, and ends with its answer. It uses the order's address, tries
+/// and layout.
 pub(crate) fn ask_once<
     R: Read + Drop,
     C: Write + Drop,
@@ -108,7 +107,7 @@ pub(crate) fn ask_once<
     )
 }
 
-/// The most connections for each request of the order. `None` where it waits: then there are as many as are given.
+/// The most connections for each request of the order. `None` if it waits, and `connect` decides.
 #[tactic(auto, unfolding(crate::specs::Ends::tries_of))]
 pub(crate) fn tries_of(order: &Calling<'_>) -> Option<u8>
     requires limits { IsCallable order.now }
@@ -122,7 +121,8 @@ pub(crate) fn tries_of(order: &Calling<'_>) -> Option<u8>
     }
 }
 
-/// The answer to this request, on up to so many connections, or on as many as are given.
+/// The answer to this request, over at most `tries` connections, or over as many as `connect`
+/// makes.
 pub(crate) fn answer_to<R: Read + Drop, C: Write + Drop, F: FnMut() -> Option<(R, C)>>(
     alloc: Global,
     request: &Request,
@@ -142,7 +142,7 @@ pub(crate) fn answer_to<R: Read + Drop, C: Write + Drop, F: FnMut() -> Option<(R
     }
 }
 
-/// The server's answer to what is asked: of its health to a request for its status.
+/// The server's answer to a question. A health call, and a put, ask for the status.
 pub(crate) fn answer_from<R: Read + Drop, C: Write + Drop, F: FnMut() -> Option<(R, C)>>(
     alloc: Global,
     question: &Question,
@@ -179,7 +179,7 @@ fn set_of(segment: u8) -> SegmentSet
     }
 }
 
-/// Ends a call by the answer to what it asked.
+/// Ends a call with the answer to its question.
 pub(crate) fn end<W: Write, E: Write>(
     alloc: Global,
     address: &str,
@@ -201,7 +201,7 @@ pub(crate) fn end<W: Write, E: Write>(
     }
 }
 
-/// Prints the answer of a read: of one segment's value the value alone.
+/// Prints the reply to a read. Of a get it prints the value alone.
 fn print_read<W: Write, E: Write>(
     alloc: Global,
     address: &str,
@@ -223,7 +223,7 @@ fn print_read<W: Write, E: Write>(
     }
 }
 
-/// Prints the value of this segment, which has to be the only one.
+/// Prints the value of this segment, if the reply has no other one.
 fn print_value<W: Write, E: Write>(
     alloc: Global,
     address: &str,
@@ -241,7 +241,7 @@ fn print_value<W: Write, E: Write>(
     print_whole(alloc, Status::Done, value, writer, errors)
 }
 
-/// The value of this segment, where it is the only one.
+/// The value of this segment. `None` unless it is the only value.
 fn only_value<'a>(segment: u8, values: &'a [NamedValue]) -> Option<&'a [u8]>
     ensures { MatchOption result ((x : List ℕ) → IsOnlyValue segment values.now x → ⊥)
         (λ x. IsOnlyValue segment values.now x.now) }
@@ -252,7 +252,7 @@ fn only_value<'a>(segment: u8, values: &'a [NamedValue]) -> Option<&'a [u8]>
     Some(values[0].value.as_slice())
 }
 
-/// How a call ends whose answer was printed.
+/// The status of a call whose answer was printed.
 fn status_of(question: &Question, reply: &Reply) -> Status
     ensures { result ≡ answer_status question.now reply.now }
 {
@@ -262,7 +262,7 @@ fn status_of(question: &Question, reply: &Reply) -> Status
     }
 }
 
-/// How a call ends that asked whether a segment is fenced.
+/// The status of a health call.
 fn fence_status(is_fenced: bool) -> Status
     ensures { result ≡ if is_fenced then status.Refused else status.Done }
 {
@@ -273,7 +273,7 @@ fn fence_status(is_fenced: bool) -> Status
     }
 }
 
-/// Says under which number an update is stored. The line takes no memory.
+/// Prints the number under which an update was stored. The line takes no memory.
 fn say_stored<W: Write, E: Write>(
     alloc: Global,
     number: u64,
@@ -302,7 +302,7 @@ fn say_stored<W: Write, E: Write>(
     }
 }
 
-/// Prints the answer of a read.
+/// Prints the reply to a read.
 fn print<W: Write, E: Write>(
     alloc: Global,
     question: &Question,
@@ -323,7 +323,7 @@ fn print<W: Write, E: Write>(
     print_whole(alloc, status, text.as_slice(), writer, errors)
 }
 
-/// Prints the text, and ends so.
+/// Prints the text, and ends with this status, or as failed if `writer` fails.
 fn print_whole<W: Write, E: Write>(
     alloc: Global,
     status: Status,
@@ -347,7 +347,7 @@ fn print_whole<W: Write, E: Write>(
     }
 }
 
-/// Says that the server refused the request, with the refusal's detail. It takes no memory.
+/// Complains that the server refused the request, with the refusal's detail. It takes no memory.
 pub(crate) fn refuse<E: Write>(why: Refusal, detail: u64, errors: &mut E) -> Exit
     ensures { IsRefused result (E.contents errors.old) (E.contents errors.new) }
 {
@@ -362,14 +362,14 @@ pub(crate) fn refuse<E: Write>(why: Refusal, detail: u64, errors: &mut E) -> Exi
     }
 }
 
-/// Says that memory was wanting. It takes none.
+/// Complains that memory ran out. It takes none.
 pub(crate) fn stop<E: Write>(errors: &mut E) -> Exit
     ensures { WantsMemory result (E.contents errors.old) (E.contents errors.new) }
 {
     refuse_here(Refusal::NoMemory, errors)
 }
 
-/// Says that the call is refused before the server is asked. It takes no memory.
+/// Complains that the call was refused before the server was asked. It takes no memory.
 pub(crate) fn refuse_here<E: Write>(why: Refusal, errors: &mut E) -> Exit
     ensures { SaysRefused (refused_line why) result (E.contents errors.old)
         (E.contents errors.new) }
@@ -380,7 +380,7 @@ pub(crate) fn refuse_here<E: Write>(why: Refusal, errors: &mut E) -> Exit
     }
 }
 
-/// Says that there is no answer, and what to do.
+/// Complains that there is no answer, with advice.
 pub(crate) fn give_up<E: Write>(
     alloc: Global,
     address: &str,
@@ -395,7 +395,7 @@ pub(crate) fn give_up<E: Write>(
     }
 }
 
-/// Says that something failed, and ends so.
+/// Complains that something failed.
 pub(crate) fn fail<T: Display, E: Write>(alloc: Global, text: &T, errors: &mut E) -> Exit
     ensures { GivesUp result (E.contents errors.old) (E.contents errors.new) }
 {
@@ -406,7 +406,7 @@ pub(crate) fn fail<T: Display, E: Write>(alloc: Global, text: &T, errors: &mut E
     }
 }
 
-/// What to do after a fault. Where no connection could be made who makes them knows why, and what to do.
+/// The advice after a fault. If no connection could be made, the caller that makes them gives it.
 fn remedy_of(fault: ClientFault) -> Option<&'static str> {
     match fault {
         ClientFault::ConnectFailed => None,

@@ -1,4 +1,4 @@
-//! The lines that are put together in place, so that no memory is wanting for them.
+//! Lines that are built in a fixed buffer, so that memory can't run out for them.
 ghost use Rattle.std.specs.Prelude.{◌≡◌, ◌+◌, ◌<◌, ◌≤◌, ◌++◌, decimal, length};
 ghost use Rattle.std.specs.Fmt.InlineText.{inline_text};
 ghost use Rattle.snap_call.specs.Text.{stored_line};
@@ -7,14 +7,14 @@ use itoa::Buffer;
 use snap_stream::Refusal;
 use std::fmt::InlineText;
 
-/// More bytes than a line has: 15 of `snapd: refused `, two numbers of 20 digits at most, a name of 16 at
-/// most, two spaces and a line feed.
+/// More bytes than a line has: 15 of `snapd: refused `, two numbers of 20 digits at most, a name of
+/// 16 at most, two spaces and a line feed.
 const LINE_LEN: usize = 80;
 
-/// A line in place.
+/// A line in a fixed buffer.
 pub(crate) type Line = InlineText<LINE_LEN>;
 
-/// The text with a part behind it.
+/// The text followed by a part.
 fn append(text: Line, part: &str) -> Line
     requires { length (inline_text text) + length part.now < LINE_LEN }
     ensures text { inline_text result ≡ inline_text text ++ part.now }
@@ -23,7 +23,7 @@ fn append(text: Line, part: &str) -> Line
     text.and_str(part, part.len())
 }
 
-/// The text with a number behind it.
+/// The text followed by a number.
 fn append_number(text: Line, number: u64) -> Line
     requires { length (inline_text text) + 20 < LINE_LEN }
     ensures text { inline_text result ≡ inline_text text ++ decimal number }

@@ -1,4 +1,4 @@
-//! The text of the replies to reads.
+//! The texts of the replies to reads.
 ghost use Rattle.std.specs.Prelude.{◌≡◌, ◌++◌, IfOk, OnOk, codes, flat_map};
 ghost use Rattle.snap_hex.specs.Text.{hex_text};
 ghost use Rattle.snap_json.specs.Each.{each_from};
@@ -14,7 +14,7 @@ use snap_json::{health_document, part_document, quote, scan_document, status_doc
 use snap_order::{Layout, Question};
 use std::alloc::{AllocError, Global};
 
-/// The text of the answer to what was asked, in this layout.
+/// The text of the reply to a question, in this layout.
 pub(crate) fn answer_of(
     alloc: Global,
     question: &Question,
@@ -30,7 +30,7 @@ pub(crate) fn answer_of(
     }
 }
 
-/// The document of the answer to what was asked.
+/// The JSON document of the reply to a question.
 fn document_of(alloc: Global, question: &Question, reply: &Reply) -> Result<Vec<u8>, AllocError>
     requires { IsRead reply.now }
 {
@@ -43,7 +43,7 @@ fn document_of(alloc: Global, question: &Question, reply: &Reply) -> Result<Vec<
     }
 }
 
-/// The lines of the answer to what was asked.
+/// The lines of the reply to a question.
 fn lines_of(
     alloc: Global,
     question: &Question,
@@ -139,7 +139,7 @@ fn put_part(
     Ok(())
 }
 
-/// Appends a line for each segment's fence.
+/// Appends a line for each segment's status.
 fn put_statuses(out: &mut Vec<u8>, statuses: &[SegmentStatus]) -> Result<(), AllocError> {
     for (index, status) in statuses.iter().enumerate() {
         put_status(out, index, status)?;
@@ -177,8 +177,7 @@ fn put_value(
     out.extend_from_slice(b"\n")
 }
 
-/// Appends what a line says of a value: quoted text where this layout has it so and it is printable, and else
-/// hexadecimal digits.
+/// Appends a value: as quoted text if it is printable and this layout shows text, else in hexadecimal digits.
 fn put_shown(
     alloc: Global,
     out: &mut Vec<u8>,
@@ -198,7 +197,7 @@ fn put_shown(
     put_hex(out, value)
 }
 
-/// Appends the line of one segment's fence.
+/// Appends the line of one segment's status.
 fn put_status(out: &mut Vec<u8>, index: usize, status: &SegmentStatus) -> Result<(), AllocError> {
     put_segment(out, index, status.number)?;
     if status.is_fenced {

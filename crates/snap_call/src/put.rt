@@ -1,4 +1,4 @@
-//! A put: its value, the number behind which it is stored, and its update.
+//! Puts: gets the value, asks for the current number, and sends the update.
 ghost use Rattle.std.specs.Prelude.{◌≡◌, ◌+◌, ◌^◌, ◌<◌, ◌≤◌, IfErr, IfOk, None, length};
 ghost use Rattle.snap_frame.specs.Messages.{IsInLimits};
 ghost use Rattle.snap_order.specs.Limits.{MAX_UPDATE_VALUE};
@@ -21,19 +21,19 @@ use snap_stream::{Refusal, read_up_to};
 use std::alloc::Global;
 use std::io::{self, Read, Write};
 
-/// Why a put has no value.
+/// Why there is no value to put.
 #[derive(Drop)]
 enum NoValue {
-    /// Standard input is longer than a value may be.
+    /// Standard input has more bytes than a value may have.
     TooLong,
     /// Standard input failed.
     Failed(io::Error),
-    /// A growth of memory was refused.
+    /// Memory ran out.
     NoMemory,
 }
 
-/// Puts the value behind the number that the order has, or behind the one that the server tells. The
-/// value comes first: without one no connection is made.
+/// Stores the value after the number of the order, or after the current one, which it asks the
+/// server for. It gets the value first, and makes no connection without one.
 pub(crate) fn store<
     R: Read + Drop,
     C: Write + Drop,
@@ -64,7 +64,7 @@ pub(crate) fn store<
     }
 }
 
-/// The value of a put.
+/// The value of a put: standard input, or the argument.
 fn value_of<I: Read>(alloc: Global, source: &Source, input: &mut I) -> Result<Bytes, NoValue>
     requires within { FitsUpdate source.now }
     ensures value { IfOk result (HasValue source.now (I.remaining input.old)) }
@@ -78,7 +78,7 @@ fn value_of<I: Read>(alloc: Global, source: &Source, input: &mut I) -> Result<By
     }
 }
 
-/// All that the reader has, where that isn't longer than a value may be.
+/// All bytes of the reader. An error if they are more than a value may have.
 fn value_from<I: Read>(alloc: Global, input: &mut I) -> Result<Bytes, NoValue>
     ensures value { IfOk result (HasValue sources.Input (I.remaining input.old)) }
     ensures lack { IfErr result (MayLack sources.Input (I.remaining input.old)) }
@@ -106,7 +106,7 @@ fn copy_of(alloc: Global, bytes: &[u8]) -> Result<Bytes, NoValue>
     }
 }
 
-/// Says why there is no value.
+/// Complains that there is no value, and says why.
 fn say_lack<E: Write>(alloc: Global, lack: NoValue, errors: &mut E) -> Exit
     ensures { SaysLack lack result (E.contents errors.old) (E.contents errors.new) }
 {
@@ -117,7 +117,7 @@ fn say_lack<E: Write>(alloc: Global, lack: NoValue, errors: &mut E) -> Exit
     }
 }
 
-/// Puts this value behind the number that the order has, or behind the one that the server tells.
+/// Stores this value after the number of the order, or after the current one.
 fn store_value<R: Read + Drop, C: Write + Drop, F: FnMut() -> Option<(R, C)>, W: Write, E: Write>(
     alloc: Global,
     order: &Calling<'_>,
@@ -150,7 +150,7 @@ fn store_value<R: Read + Drop, C: Write + Drop, F: FnMut() -> Option<(R, C)>, W:
     }
 }
 
-/// Asks for the numbers of all segments, and puts the value behind that of its own.
+/// Asks for the numbers of all segments, and stores the value after that of its segment.
 fn store_next<R: Read + Drop, C: Write + Drop, F: FnMut() -> Option<(R, C)>, W: Write, E: Write>(
     alloc: Global,
     order: &Calling<'_>,
@@ -171,8 +171,8 @@ fn store_next<R: Read + Drop, C: Write + Drop, F: FnMut() -> Option<(R, C)>, W: 
     go_on(alloc, order, segment, value, told, connect, writer, errors)
 }
 
-/// Puts the value behind the number that the server told of the segment. Where it told of no such
-/// segment, or nothing, the call ends by that.
+/// Stores the value after the segment's number in the answer. If the server has no such segment, or
+/// gave no status, the call ends with that.
 fn go_on<R: Read + Drop, C: Write + Drop, F: FnMut() -> Option<(R, C)>, W: Write, E: Write>(
     alloc: Global,
     order: &Calling<'_>,
@@ -213,7 +213,7 @@ fn go_on<R: Read + Drop, C: Write + Drop, F: FnMut() -> Option<(R, C)>, W: Write
     }
 }
 
-/// The number of this segment; or how many segments there are, where it is none of them.
+/// The number of this segment. If there is no such segment, the error is how many there are.
 fn number_of(statuses: &[SegmentStatus], segment: u8) -> Result<u64, u64>
     ensures number { IfOk result (TellsNumber statuses.now segment) }
     ensures none { IfErr result (λ count. length statuses.now ≤ segment) }
@@ -225,7 +225,7 @@ fn number_of(statuses: &[SegmentStatus], segment: u8) -> Result<u64, u64>
     }
 }
 
-/// Sends the update of the number behind this one.
+/// Sends an update with the next number after this one.
 fn update<R: Read + Drop, C: Write + Drop, F: FnMut() -> Option<(R, C)>, W: Write, E: Write>(
     alloc: Global,
     order: &Calling<'_>,
@@ -270,7 +270,8 @@ fn update<R: Read + Drop, C: Write + Drop, F: FnMut() -> Option<(R, C)>, W: Writ
     }
 }
 
-/// Says that there is no answer to a put's update, and how to put again: behind this number.
+/// Complains that there is no answer to a put's update, and advises to put again with `--after`
+/// this number.
 fn give_up_behind<E: Write>(
     alloc: Global,
     address: &str,

@@ -1,4 +1,4 @@
-//! The values of a server for a dump.
+//! Fetches the values of a server for a dump.
 ghost use Rattle.std.specs.Prelude.{◌≤◌, IfSome};
 ghost use Rattle.snap_order.specs.Limits.{MAX_TRIES};
 ghost use Rattle.snap_call.specs.Fetch.{EndsFetch, Fetches};
@@ -10,10 +10,11 @@ use snap_order::{Exit, Request};
 use std::alloc::Global;
 use std::io::{Read, Write};
 
-/// All that a server holds, at one moment: the number and value of each segment, in order, by one scan. Or how
-/// the program ends, where it gave no answer or refused: then `errors` got why, as [`ask`](crate::ask) says
-/// it. `connect` gives a reader and a writer, or `None` where no connection can be made; it is called once at
-/// least and `tries` times at most, and without a number until it gives `None`.
+/// The number and value of each segment of a server, in order, at one moment: by one scan. An error
+/// says how the program ends: the server refused or gave no answer, and `errors` got the complaint,
+/// as from [`ask`](crate::ask). `connect` returns a reader and a writer, or `None` if no connection
+/// can be made. It is called once at least and `tries` times at most. If `tries` is `None` there is
+/// no such limit, and `connect` ends the wait by `None`.
 pub fn fetch<R: Read + Drop, C: Write + Drop, F: FnMut() -> Option<(R, C)>, E: Write>(
     alloc: Global,
     address: &str,
@@ -25,7 +26,7 @@ pub fn fetch<R: Read + Drop, C: Write + Drop, F: FnMut() -> Option<(R, C)>, E: W
     requires few { IfSome tries (λ n. n ≤ MAX_TRIES) }
     requires callable { F.IsAlwaysCallable connect.old }
 
-    // One scan was sent on up to so many connections, and these are the values of its answer.
+    // One scan was sent on at most that many connections, and these are the values of its answer.
     ensures { Fetches tries F.step R.remaining C.contents connect.old result connect.new
         (E.contents errors.old) (E.contents errors.new) }
 {
@@ -33,7 +34,7 @@ pub fn fetch<R: Read + Drop, C: Write + Drop, F: FnMut() -> Option<(R, C)>, E: W
     values_of(alloc, address, answer, errors)
 }
 
-/// The values of an answer to a scan, or how the program ends by it.
+/// The values of the answer to a scan, or how the program ends without them.
 fn values_of<E: Write>(
     alloc: Global,
     address: &str,

@@ -1,17 +1,17 @@
--- What a feed holds at first, and what is left to write.
+-- A feed at its start, and the rest of a write.
 use Rattle.std.proofs.Common.{◌≡◌, ℕ, ◌+◌, ◌-◌, List, [], ◌++◌, length, take, drop, sym, ◌∙◌, ap, arith, length-drop}
 use Rattle.std.proofs.Math.Seq.{take-length, take-add}
 use Rattle.snap_frame.specs.Stream.{IsBytes, IsPartial}
 use Rattle.snap_frame.proofs.Cuts.{tiny_is_partial}
 
--- nothing is no frame, and no length
+-- the empty list has no whole frame, and no length
 pub nothing_is_partial : IsPartial []
 nothing_is_partial = tiny_is_partial [] (omega arith)
 
 pub bytes-nil : IsBytes []
 bytes-nil i = omega arith
 
--- what is behind i, as `&xs[i..]`
+-- the items from i on, as `&xs[i..]`
 rest_is : (i : ℕ) (xs : List ℕ) → take (length xs - i) (drop i xs) ≡ drop i xs
 rest_is i xs =
     ap (λ k. take k (drop i xs)) (sym (length-drop i xs)) ∙ take-length (drop i xs)

@@ -1,4 +1,4 @@
--- What was heard tells how far the exchange came.
+-- The reply that was read determines how far the exchange came.
 use Rattle.std.proofs.Common.{◌≡◌, ℕ, List, [], ◌++◌, Option, None, Result, Ok, Err, inl, inr, sym, subst}
 use Rattle.std.specs.Io.KnownBytes.{Appends, Consumes}
 use Rattle.std.proofs.KnownBytes.{Consumes-trans}
@@ -49,13 +49,13 @@ module _ {R W : Type 0} (remaining : R → Option (List ℕ)) (contents : W → 
         inr (h.1, feed.bytes, h.3, inr (r, h.4, other)),
       )
 
--- one piece more was read
+-- one more piece was read
 pub read_more : (a b c : Option (List ℕ)) (xs ys held : List ℕ) → Consumes a b xs → Consumes b c ys
     → held ≡ xs ++ ys → Consumes a c held
 read_more a b c xs ys held one two is =
     subst (Consumes a c) (sym is) (Consumes-trans a b c xs ys one two)
 
--- a client that goes on, or has failed now
+-- a client that hasn't failed before the call
 pub has_called : {R W : Type 0} (remaining : R → Option (List ℕ)) (contents : W → Option (List ℕ))
     (q : Request) (old : ClientState R W) (r : R) (w : W) (held : List ℕ) (new : ClientState R W)
     (fault : Option ClientFault) (result : Result Reply ClientFault)

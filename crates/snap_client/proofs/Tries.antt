@@ -1,4 +1,4 @@
--- One try more.
+-- One more try.
 use Rattle.std.proofs.Common.{◌≡◌, ℕ, zero, suc, ◌-◌, ◌≤◌, List, Option, Result, Err, inl, inr, refl, arith, subst}
 use Rattle.snap_frame.specs.declared.request.Request.{Request}
 use Rattle.snap_frame.specs.declared.reply.Reply.{Reply}
@@ -13,14 +13,14 @@ module _ {F R W : Type 0} (connects : F → Option (R × W) → F → Type 0) (r
       → TriesUpTo 1 connects remaining contents q old result new
   tries_last old new result one = inl (one, inl refl)
 
-  -- a try whose outcome is for good
+  -- a try whose outcome is final
   pub tries_ended : (n : ℕ) (old new : F) (result : Result Reply ClientFault) → 1 ≤ n
       → Tries connects remaining contents q old result new → IsFinal result
       → TriesUpTo n connects remaining contents q old result new
   tries_ended zero old new result some one final = absurd (omega (arith, some))
   tries_ended (suc n) old new result some one final = inl (one, inr final)
 
-  -- a try that failed, and those behind it
+  -- a try that failed, and those after it
   pub tries_on : (n : ℕ) (old mid new : F) (fault : ClientFault) (result : Result Reply ClientFault)
       → 1 ≤ n → Tries connects remaining contents q old (Err fault) mid → MayPass fault
       → TriesUpTo (n - 1) connects remaining contents q mid result new
@@ -47,7 +47,7 @@ module _ {F R W : Type 0} (connects : F → Option (R × W) → F → Type 0) (r
   tries_more (suc n) old mid new fault result (inr (first, next, passes, made, rest)) may one =
       inr (first, next, passes, made, tries_more n next mid new fault result rest may one)
 
-  -- a try behind those that ended with a fault which may pass
+  -- a try after those that ended with a fault which may pass
   pub tries_next : (n m : ℕ) (old mid new : F) (fault : ClientFault) (result : Result Reply ClientFault)
       → suc n ≡ m → TriesUpTo n connects remaining contents q old (Err fault) mid → MayPass fault
       → Tries connects remaining contents q mid result new

@@ -1,4 +1,4 @@
--- The same request on one connection after another.
+-- One request on one connection after another.
 use Rattle.std.specs.Prelude.{◌≡◌, ℕ, zero, suc, ◌^◌, ◌⊎◌, List, Option, Some, None, Result, Ok, Err}
 use Rattle.snap_frame.specs.declared.request.Request.{Request}
 use Rattle.snap_frame.specs.declared.reply.Reply.{Reply}
@@ -6,7 +6,7 @@ use Rattle.snap_client.specs.declared.fault.ClientFault.{ClientFault}
 use Rattle.snap_client.specs.declared.fault.ClientFault.TheVariants.{ConnectFailed, ReadFailed, WriteFailed, Ended, BadReply, NoMemory}
 use Rattle.snap_client.specs.Calls.{ClientState, Calls, fresh}
 
--- the same request may be answered on another connection
+-- the request may be answered on another connection
 abbrev pub MayPass : ClientFault → Type 0
 MayPass ConnectFailed = Unit {0}
 MayPass ReadFailed = Unit {0}
@@ -15,7 +15,7 @@ MayPass Ended = Unit {0}
 MayPass BadReply = ⊥
 MayPass NoMemory = ⊥
 
--- One call of `connect`, and the request on the connection that it gave.
+-- One call of `connect`, and the request on the connection that it returned.
 abbrev pub Tries : {F R W : Type 0} → (F → Option (R × W) → F → Type 0) → (R → Option (List ℕ))
     → (W → Option (List ℕ)) → Request → F → Result Reply ClientFault → F → Type 0
 Tries {F} {R} {W} connects remaining contents q old result new =
@@ -28,8 +28,8 @@ abbrev pub IsFinal : Result Reply ClientFault → Type 0
 IsFinal (Ok r) = Unit {0}
 IsFinal (Err f) = MayPass f → ⊥
 
--- At most this many tries, and one at least: the last one's outcome is the answer, and each of the
--- others ended with a fault that may pass. It ends before the last one only for good.
+-- At least one try and at most this many: the last one's outcome is the answer, and each of the
+-- others ended with a fault that may pass. Fewer are made only if the last outcome is final.
 abbrev pub TriesUpTo : {F R W : Type 0} → ℕ → (F → Option (R × W) → F → Type 0) → (R
     → Option (List ℕ)) → (W → Option (List ℕ)) → Request → F → Result Reply ClientFault → F
     → Type 0
@@ -40,8 +40,8 @@ TriesUpTo {F} (suc n) connects remaining contents q old result new =
     × Tries connects remaining contents q old (Err fault) mid
     × TriesUpTo n connects remaining contents q mid result new)
 
--- After so many tries there is no other one: the last one's outcome is for good, no connection was given for another one,
--- or there were more than any run makes.
+-- No further try follows the first n: the last outcome is final, `connect` returned no connection
+-- for another one, or there were more than any run makes.
 abbrev pub NoneFollows : {F R W : Type 0} → ℕ → (F → Option (R × W) → F → Type 0) → (R
     → Option (List ℕ)) → (W → Option (List ℕ)) → Request → F → Result Reply ClientFault → F
     → Type 0
@@ -50,8 +50,8 @@ NoneFollows n connects remaining contents q mid result new =
     ⊎ (Tries connects remaining contents q mid (Err ConnectFailed) new
     ⊎ ((n ≡ 2 ^ 64) × (new ≡ mid)))
 
--- As many tries as there are connections: the last one's outcome is the answer, and each of the others ended with a fault that
--- may pass.
+-- As many tries as there are connections: the last one's outcome is the answer, and each of the
+-- others ended with a fault that may pass.
 abbrev pub TriesWhile : {F R W : Type 0} → (F → Option (R × W) → F → Type 0) → (R
     → Option (List ℕ)) → (W → Option (List ℕ)) → Request → F → Result Reply ClientFault → F
     → Type 0
@@ -59,7 +59,7 @@ TriesWhile {F} connects remaining contents q old result new =
     (n : ℕ) × (mid : F) × TriesUpTo n connects remaining contents q old result mid
     × NoneFollows n connects remaining contents q mid result new
 
--- up to so many tries, or as many as there are connections
+-- up to n tries, or as many as there are connections
 abbrev pub TriesIn : {F R W : Type 0} → Option ℕ → (F → Option (R × W) → F → Type 0) → (R
     → Option (List ℕ)) → (W → Option (List ℕ)) → Request → F → Result Reply ClientFault → F
     → Type 0

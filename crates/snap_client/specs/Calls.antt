@@ -1,4 +1,4 @@
--- What a call of a client does to its connection.
+-- How a client's call changes its connection.
 use Rattle.std.specs.Prelude.{◌≡◌, ℕ, ◌<◌, ◌⊎◌, List, [], ◌++◌, length, take, Option, Some, None, Result, Ok, Err}
 use Rattle.std.specs.Io.KnownBytes.{Appends, Consumes, IsAtEnd}
 use Rattle.snap_frame.specs.declared.request.Request.{Request}
@@ -10,8 +10,8 @@ use Rattle.snap_frame.specs.Stream.{HasFrame, HasLongLength, IsPartial}
 use Rattle.snap_client.specs.declared.fault.ClientFault.{ClientFault}
 use Rattle.snap_client.specs.declared.fault.ClientFault.TheVariants.{ConnectFailed, ReadFailed, WriteFailed, Ended, BadReply, NoMemory}
 
--- a connection, the bytes that were read and belong to no reply that was given, and why the client
--- has failed
+-- a connection, the bytes that were read and belong to no reply that was returned, and why the
+-- client has failed
 pub record ClientState (R W : Type 0) : Type 0 where
   pub reader : R
   pub writer : W
@@ -27,11 +27,11 @@ client_of reader writer held fault = record {
   fault = fault;
 }
 
--- one that goes on
+-- a client that hasn't failed
 abbrev pub talking : {R W : Type 0} → R → W → List ℕ → ClientState R W
 talking reader writer held = client_of reader writer held None
 
--- a client of a connection on which nothing was said
+-- a client of a connection on which nothing was sent or read
 abbrev pub fresh : {R W : Type 0} → R → W → ClientState R W
 fresh reader writer = talking reader writer []
 
@@ -48,7 +48,7 @@ Answers q r = ⊥
 abbrev pub IsNoAnswer : Request → List ℕ → Type 0
 IsNoAnswer q x = SaysNothing x ⊎ ((r : Reply) × Says x r × (Answers q r → ⊥))
 
--- what stands first among the bytes that came is no answer
+-- the first frame of the bytes that arrived is no answer
 abbrev pub BeginsBadly : Request → List ℕ → Type 0
 BeginsBadly q came =
     HasLongLength came
@@ -60,7 +60,7 @@ pub record IsUntouched {R W : Type 0} (old new : ClientState R W) : Type 0 where
   pub writer : new.writer ≡ old.writer
   pub held : new.held ≡ old.held
 
--- Nothing was held, the request's frame was written, and then these bytes came.
+-- Nothing was held, the request's frame was written, and then these bytes arrived.
 pub record HasAsked {R W : Type 0} (remaining : R → Option (List ℕ)) (contents : W → Option (List ℕ))
     (q : Request) (old : ClientState R W) (came : List ℕ) (new : ClientState R W) : Type 0 where
   pub silent : old.held ≡ []
@@ -76,10 +76,10 @@ pub record HasCutShort {R W : Type 0} (contents : W → Option (List ℕ)) (q : 
   pub reader : new.reader ≡ old.reader
   pub held : new.held ≡ old.held
 
--- how far a call came that answers so
+-- how far a call came that returns this result
 abbrev pub Reaches : {R W : Type 0} → (R → Option (List ℕ)) → (W → Option (List ℕ)) → Request
     → ClientState R W → Result Reply ClientFault → ClientState R W → Type 0
--- the frame of the answer stood first, and what is behind it is held
+-- the frame of the answer arrived first, and the bytes after it are held
 Reaches remaining contents q old (Ok r) new =
     (came : List ℕ) × (x : List ℕ) × HasAsked remaining contents q old came new
     × HasFrame came x new.held × Says x r × Answers q r
@@ -89,23 +89,23 @@ Reaches remaining contents q old (Err ReadFailed) new =
 Reaches remaining contents q old (Err Ended) new =
     HasAsked remaining contents q old new.held new × IsPartial new.held
     × IsAtEnd (remaining new.reader)
--- bytes that nobody asked for were held, or what came begins with no answer
+-- bytes without a request were held, or what arrived begins with no answer
 Reaches remaining contents q old (Err BadReply) new =
     ((old.held ≡ [] → ⊥) × IsUntouched old new)
     ⊎ ((came : List ℕ) × HasAsked remaining contents q old came new × BeginsBadly q came)
--- the frame wasn't written for want of memory, or the last piece that came couldn't be taken in
+-- memory ran out before the frame was written, or for the last piece that arrived
 Reaches remaining contents q old (Err NoMemory) new =
     ((old.held ≡ []) × IsUntouched old new)
     ⊎ ((before : List ℕ) × (piece : List ℕ) × IsPartial before
     × HasAsked remaining contents q old (before ++ piece) new)
 Reaches remaining contents q old (Err ConnectFailed) new = ⊥
 
--- why a client has failed after a call that answers so
+-- why a client has failed after a call that returns this result
 abbrev pub fault_of : Result Reply ClientFault → Option ClientFault
 fault_of (Ok r) = None
 fault_of (Err f) = Some f
 
--- a client that hasn't failed goes on as above; one that has answers its fault, and does nothing
+-- a client that hasn't failed does the call; one that has returns its fault, and does nothing
 abbrev pub CallsAfter : {R W : Type 0} → Option ClientFault → (R → Option (List ℕ)) → (W
     → Option (List ℕ)) → Request → ClientState R W → Result Reply ClientFault → ClientState R W
     → Type 0
@@ -113,7 +113,7 @@ CallsAfter None remaining contents q old result new =
     Reaches remaining contents q old result new × (new.fault ≡ fault_of result)
 CallsAfter (Some f) remaining contents q old result new = (result ≡ Err f) × (new ≡ old)
 
--- What a call answers to a request, and what it leaves.
+-- A call's result for a request, and the client after it.
 abbrev pub Calls : {R W : Type 0} → (R → Option (List ℕ)) → (W → Option (List ℕ)) → Request
     → ClientState R W → Result Reply ClientFault → ClientState R W → Type 0
 Calls remaining contents q old result new =

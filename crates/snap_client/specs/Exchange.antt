@@ -1,4 +1,4 @@
--- What is written and read in one exchange.
+-- The writes and reads of one exchange.
 use Rattle.std.specs.Prelude.{◌≡◌, ℕ, ◌<◌, ◌⊎◌, List, ◌++◌, length, take, Bool, true, false, Option, None, Result, Ok, Err}
 use Rattle.std.specs.Io.KnownBytes.{Appends, Consumes, IsAtEnd}
 use Rattle.snap_frame.specs.declared.reply.Reply.{Reply}
@@ -7,12 +7,12 @@ use Rattle.snap_frame.specs.Stream.{Held, HasFrame, HasLongLength, IsPartial}
 use Rattle.snap_client.specs.declared.fault.ClientFault.{ClientFault}
 use Rattle.snap_client.specs.declared.fault.ClientFault.TheVariants.{ConnectFailed, ReadFailed, WriteFailed, Ended, BadReply, NoMemory}
 
--- all the bytes were written, or a beginning of them that isn't all
+-- all bytes were written, or a beginning of them that isn't all
 abbrev pub Sends : Option (List ℕ) → Option (List ℕ) → List ℕ → Bool → Type 0
 Sends old new bytes true = Appends old new bytes
 Sends old new bytes false = (n : ℕ) × (n < length bytes) × Appends old new (take n bytes)
 
--- what a feed that was empty holds once a reply was read, or wasn't
+-- an empty feed after a reply was read, or wasn't
 abbrev pub Hears : Option (List ℕ) → Option (List ℕ) → Result Reply ClientFault → Held → Type 0
 Hears old new (Ok r) held =
     (came : List ℕ) × (x : List ℕ) × Consumes old new came × HasFrame came x held.bytes × Says x r

@@ -1,4 +1,4 @@
-//! The same request on one connection after another.
+//! One request on one connection after another.
 ghost use Rattle.std.specs.Prelude.{◌≤◌, length};
 ghost use Rattle.snap_frame.specs.Messages.{max_payload, payload, IsAskable};
 ghost use Rattle.snap_client.specs.declared.again.TheConstants.{MAX_TRIES};
@@ -13,7 +13,7 @@ use std::io::{Read, Write};
 /// The most connections that [`call_again`] makes for one request.
 pub const MAX_TRIES: u8 = 10;
 
-/// One connection, and the request on it.
+/// Sends the request once, on a connection of its own.
 fn try_once<R: Read + Drop, W: Write + Drop, F: FnMut() -> Option<(R, W)>>(
     alloc: Global,
     connect: &mut F,
@@ -31,13 +31,13 @@ fn try_once<R: Read + Drop, W: Write + Drop, F: FnMut() -> Option<(R, W)>>(
     client.call(request)
 }
 
-/// Sends a request on a connection of its own, and once more on a new one while there are tries
+/// Sends a request on a connection of its own, and again on a new one as long as there are tries
 /// left and the fault is one that may pass ([`ClientFault::may_pass`]).
 ///
-/// `connect` gives a reader and a writer, or `None` where no connection can be made. At most
-/// `tries` connections are asked for, which is 1 to [`MAX_TRIES`]; each is given up before the next
-/// one is. The answer is that of the last one. A refusal is an answer, and isn't tried again. The
-/// request is one that [`Client::call`] takes.
+/// `connect` returns a reader and a writer, or `None` if it can't connect. It is called at most
+/// `tries` times, 1 to [`MAX_TRIES`]; each connection is dropped before the next one is made. The
+/// answer is the last connection's. A refusal is an answer, and isn't tried again. The request is
+/// one that [`Client::call`] takes.
 pub fn call_again<R: Read + Drop, W: Write + Drop, F: FnMut() -> Option<(R, W)>>(
     alloc: Global,
     connect: &mut F,
@@ -67,9 +67,9 @@ pub fn call_again<R: Read + Drop, W: Write + Drop, F: FnMut() -> Option<(R, W)>>
     try_once(alloc, connect, request)
 }
 
-/// Sends a request as [`call_again`] does, on as many connections as `connect` gives: it goes on after each
-/// fault that may pass, until `connect` gives `None`, after which it may be asked once more. The answer is
-/// that of the last connection, and [`ClientFault::ConnectFailed`] where none was given.
+/// Sends a request as [`call_again`] does, on as many connections as `connect` returns: it continues
+/// after each fault that may pass, until `connect` returns `None`, after which it may be called once
+/// more. The answer is the last connection's, or [`ClientFault::ConnectFailed`] if there was none.
 pub fn call_while<R: Read + Drop, W: Write + Drop, F: FnMut() -> Option<(R, W)>>(
     alloc: Global,
     connect: &mut F,

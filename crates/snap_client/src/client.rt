@@ -15,19 +15,19 @@ use std::marker::Model;
 
 /// One connection to a server, over any reader and writer.
 ///
-/// A call writes its request's frame, then reads until a whole reply has come, so it waits as long
-/// as its reader and its writer do. The writer has to pass on what it takes: it isn't flushed.
+/// A call writes its request's frame, then reads until a whole reply has arrived, so it blocks as
+/// long as its reader and its writer do. The writer has to pass on what it takes: it isn't flushed.
 ///
-/// After a fault the client has failed: it answers the same fault to every later call, and neither
-/// reads nor writes. A peer that says more than it was asked fails the next call as
-/// [`ClientFault::BadReply`], before anything is sent, so no reply is ever taken from bytes that
-/// came before its request was sent.
+/// After a fault the client has failed: every later call returns the same fault, and neither reads
+/// nor writes. If more bytes arrive than the replies have, the next call fails as
+/// [`ClientFault::BadReply`] before anything is sent; so no reply is ever taken from bytes that
+/// arrived before its request was sent.
 #[derive(Drop)]
 pub struct Client<R: Read, W: Write> {
     reader: R,
     writer: W,
     feed: ReplyFeed,
-    /// The request's frame, in a buffer that every call uses again.
+    /// The buffer of a request's frame, which every call reuses.
     frame: BytesMut,
     fault: Option<ClientFault>,
 }
@@ -62,7 +62,7 @@ impl<R: Read, W: Write> Client<R, W> {
         }
     }
 
-    /// Why it has failed, or `None` while it goes on.
+    /// Why it has failed, or `None` if it hasn't.
     pub fn fault(&self) -> Option<ClientFault>
         ensures { result ≡ self.now.fault }
     {
@@ -78,7 +78,7 @@ impl<R: Read, W: Write> Client<R, W> {
 
     /// Stores `value` as this number of a segment: [`Reply::Stored`] with the segment's number, or
     /// [`Reply::Refused`]. The value has at most [`MAX_UPDATE_VALUE`](snap_frame::MAX_UPDATE_VALUE)
-    /// bytes. That the number stored is the one that was sent is for the caller to see.
+    /// bytes. The caller has to check that the number in the reply is the one that was sent.
     pub fn update(&mut self, segment: u8, number: u64, value: Bytes) -> Result<Reply, ClientFault>
         requires { length value ≤ MAX_UPDATE_VALUE }
         ensures { Calls R.remaining W.contents (requests.Update segment number value)
@@ -91,15 +91,15 @@ impl<R: Read, W: Write> Client<R, W> {
         })
     }
 
-    /// All segments at one moment: [`Reply::Snapshot`], or [`Reply::Refused`].
+    /// Reads all segments at one moment: [`Reply::Snapshot`], or [`Reply::Refused`].
     pub fn scan(&mut self) -> Result<Reply, ClientFault>
         ensures { Calls R.remaining W.contents requests.Scan self.old result self.new }
     {
         self.call(&Request::Scan)
     }
 
-    /// These segments at one moment: [`Reply::Part`], or [`Reply::Refused`]. The set isn't empty.
-    /// That the reply names the segments that were asked for is for the caller to see.
+    /// Reads these segments at one moment: [`Reply::Part`], or [`Reply::Refused`]. The set isn't
+    /// empty. The caller has to check that the reply names the segments of the set.
     pub fn scan_some(&mut self, set: SegmentSet) -> Result<Reply, ClientFault>
         requires { 0 < set.bits }
         ensures { Calls R.remaining W.contents (requests.Part set) self.old result self.new }
@@ -107,15 +107,15 @@ impl<R: Read, W: Write> Client<R, W> {
         self.call(&Request::Part(set))
     }
 
-    /// The numbers and fences of all segments: [`Reply::Status`], or [`Reply::Refused`].
+    /// Reads the numbers and fences of all segments: [`Reply::Status`], or [`Reply::Refused`].
     pub fn status(&mut self) -> Result<Reply, ClientFault>
         ensures { Calls R.remaining W.contents requests.Status self.old result self.new }
     {
         self.call(&Request::Status)
     }
 
-    /// Sends a request and gives its answer. Its payload fits a frame, and a scan of some segments
-    /// names one or more.
+    /// Sends a request and returns its answer. Its payload fits a frame, and a scan of some
+    /// segments names at least one.
     pub fn call(&mut self, request: &Request) -> Result<Reply, ClientFault>
         requires fits { length (payload request.now) ≤ max_payload }
         requires askable { IsAskable request.now }

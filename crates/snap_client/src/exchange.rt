@@ -1,4 +1,4 @@
-//! The two halves of an exchange: a frame is written whole, and a reply is read.
+//! The two halves of an exchange: writing a whole frame, and reading a reply.
 ghost use Rattle.std.specs.Prelude.{◌≡◌, ◌≤◌, ◌↔◌, IsTrue, length, Option, None, OnOk};
 ghost use Rattle.snap_client.specs.declared.fault.ClientFault.{ClientFault};
 ghost use Rattle.snap_frame.specs.Messages.{max_payload, payload, IsAskable};
@@ -11,12 +11,11 @@ use bytes::BytesMut;
 use snap_frame::{Failure, Reply, ReplyFault, ReplyFeed, Request, write_request};
 use std::io::{Read, Write};
 
-/// The most bytes that one read gives. It is the stack's, so one read of a short reply costs
-/// nothing of the memory.
+/// The most bytes of one read. The buffer is on the stack, so a short reply takes no heap for it.
 const PIECE_LEN: usize = 16_384;
 
-/// Writes all the bytes, in as few calls as the writer takes; `false` at the first call that fails
-/// or takes no byte.
+/// Writes all bytes, in as few calls as the writer takes; `false` at the first call that fails or
+/// takes no byte.
 fn send<W: Write>(writer: &mut W, bytes: &[u8]) -> bool
     ensures { Sends (W.contents writer.old) (W.contents writer.new) bytes.now result }
 {
@@ -31,14 +30,14 @@ fn send<W: Write>(writer: &mut W, bytes: &[u8]) -> bool
     true
 }
 
-/// No byte is above 255.
+/// Shows that no byte is above 255.
 fn all_bytes(bytes: &[u8]) -> usize
     ensures { IsBytes bytes.now }
 {
     bytes.len()
 }
 
-/// Reads until a whole reply has come.
+/// Reads until a whole reply has arrived.
 fn hear<R: Read>(reader: &mut R, feed: &mut ReplyFeed) -> Result<Reply, ClientFault>
     requires { feed.old ≡ empty }
     ensures { Hears (R.remaining reader.old) (R.remaining reader.new) result feed.new }
@@ -80,8 +79,8 @@ fn answers(request: &Request, reply: &Reply) -> bool
     }
 }
 
-/// One request and its answer, on a connection on which nothing failed. `frame` is where the
-/// request's frame is made.
+/// One request and its answer, on a connection without a fault. `frame` is the buffer for the
+/// request's frame.
 pub(crate) fn exchange<R: Read, W: Write>(
     reader: &mut R,
     writer: &mut W,
@@ -92,7 +91,7 @@ pub(crate) fn exchange<R: Read, W: Write>(
     requires fits { length (payload request.now) ≤ max_payload }
     requires askable { IsAskable request.now }
     requires going { feed.old.failure ≡ None }
-    // It doesn't rest on the fault that the client keeps then.
+    // It holds for whichever fault the client keeps then.
     ensures reaches { (fault : Option ClientFault) → Reaches R.remaining W.contents request.now
         (talking reader.old writer.old feed.old.bytes) result
         (client_of reader.new writer.new feed.new.bytes fault) }

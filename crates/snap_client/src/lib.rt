@@ -1,12 +1,12 @@
-//! The client's half of a connection: a request is sent, and its answer is read.
+//! The client's half of a connection: sends requests and reads their replies.
 //!
-//! A [`Client`] sends one request after another over any reader and writer, and gives the reply to
-//! each. After a fault it has failed for good: the caller connects again and sends the same
-//! request, which is safe, since an update whose number is stored already is answered as stored.
-//! [`call_again`] does so, up to ten times, and [`call_while`] for as long as connections are given.
+//! A [`Client`] sends one request after another over any reader and writer, and returns the reply
+//! to each. After a fault it has failed for good: the caller connects again and sends the same
+//! request, which is safe, since an update that was stored is acknowledged again. [`call_again`]
+//! does so, up to ten times, and [`call_while`] as long as it gets connections.
 //!
-//! The words of the contracts stand in `specs/Calls.antt` (one call) and `specs/Again.antt` (calls
-//! on one connection after another).
+//! Contracts use the definitions of `specs/Calls.antt` (one call) and `specs/Again.antt` (calls on
+//! one connection after another).
 #![tactic(auto)]
 
 mod again;

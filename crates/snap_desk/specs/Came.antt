@@ -1,10 +1,10 @@
--- The outcome of an update that was handed over.
+-- The outcome of an update that was sent to a storer.
 use Rattle.std.specs.Prelude.{ℕ, Result}
 use Rattle.snap_disk.specs.declared.refusal.Refusal.{Refusal}
 use Rattle.snap_service.specs.Writer.{WriterState}
 use Rattle.snap_desk.specs.declared.job.Job.{Job}
 
--- the job, its writer as it stands, and what was told
+-- the job, its writer after the update, and the writer's result
 pub record Came (D : Type 0) : Type 0 where
   pub job : Job
   pub writer : WriterState D

@@ -1,24 +1,24 @@
--- How a worker hands updates over.
+-- Sending a worker's updates to the storers.
 use Rattle.std.specs.Prelude.{◌≡◌, ℕ, List, [], Some, slice_get}
 use Rattle.snap_service.specs.Counted.{next_count}
 use Rattle.snap_desk.specs.declared.job.Job.{Job}
 
--- the worker, the segments of its windows, in order, and how many updates were handed over
+-- the worker, the segments of its windows, in order, and how many updates were sent, modulo 2^64
 pub record Handing : Type 0 where
   pub worker : ℕ
   pub windows : List ℕ
   pub sent : ℕ
 
--- one update was handed over, by the window of this segment
+-- one update was sent, by the window of this segment
 pub record HasHanded (old : Handing) (segment : ℕ) (new : Handing) : Type 0 where
   pub window : slice_get old.windows segment ≡ Some segment
   pub one : new ≡ record old { sent = next_count old.sent }
 
--- the job of a worker's request with this key: an update to this number and value
+-- the job for a worker's request with this key: an update to this number and value
 abbrev pub job_of : ℕ → ℕ → ℕ → List ℕ → Job
 job_of worker key number value =
     record { worker = worker; key = key; number = number; value = value }
 
--- what stands for a job where none was named
+-- the job that is named where none is meant
 abbrev pub no_job : Job
 no_job = job_of 0 0 0 []

@@ -1,4 +1,4 @@
--- What a reply says of an outcome.
+-- What a reply says about an outcome.
 use Rattle.std.specs.Prelude.{◌≡◌, ℕ, ◌<◌, List}
 use Rattle.snap_memory.specs.Rule.{segments}
 use Rattle.snap_memory.specs.Seat.{own_of}
@@ -9,18 +9,18 @@ use Rattle.snap_service.specs.Writer.{number_of}
 use Rattle.snap_service.specs.Settled.{reply_of}
 use Rattle.snap_desk.specs.Came.{Came}
 
--- the outcome is that of an update of segment i to number k and value v
+-- the outcome belongs to an update of segment i to number k and value v
 pub record IsOutcomeOf {D : Type 0} (came : Came D) (i k : ℕ) (v : List ℕ) : Type 0 where
   pub segment_is : own_of came.writer.seat ≡ i
   pub number_is : came.job.number ≡ k
   pub value_is : came.job.value ≡ v
 
--- the reply to such an update says what the writer told, where there is such a segment
+-- the reply to such an update says the writer's result, if there is such a segment
 abbrev pub TellsUpdate : {D : Type 0} → Came D → ℕ → ℕ → List ℕ → Reply → Type 0
 TellsUpdate came i k v reply = i < segments came.writer.seat.plan → IsOutcomeOf came i k v
     → reply ≡ reply_of (number_of came.writer) came.told
 
--- so does the reply to a request; a scan and a status have no outcome
+-- the reply to a request says the outcome's result; a scan and a status have no outcome
 abbrev pub Tells : {D : Type 0} → Came D → Request → Reply → Type 0
 Tells came (request.Update segment k v) reply = TellsUpdate came segment k v reply
 Tells came request.Scan reply = Unit {0}

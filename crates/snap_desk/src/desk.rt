@@ -1,4 +1,4 @@
-//! One worker's half of the service, which waits for no store.
+//! One worker's half of the service, which doesn't block on stores.
 ghost use Rattle.std.specs.Prelude.{◌≡◌, ℕ, ◌<◌, IfOk, IfSome, IfNone, length};
 ghost use Rattle.snap_memory.specs.Rule.{segments};
 ghost use Rattle.snap_frame.specs.Messages.{IsInLimits};
@@ -30,9 +30,10 @@ use std::marker::{Brand, Model, PhantomData};
 use std::rt::Clock;
 use std::sync::Wait;
 
-/// A scanner, and a window for each segment: a [`Service`] that hands updates over. Its state is
-/// what its scanner knows. It takes no lock and waits for no store; only where no memory is left to
-/// hand an update over, it waits a little for memory.
+/// A worker's [`Service`]: a scanner, and a window to each segment's storer, by which it sends updates.
+///
+/// Models what its scanner knows. It takes no lock and doesn't wait for a store. If memory for a
+/// job runs out, sending the update waits up to a tenth of a second for memory.
 #[derive(Drop)]
 pub struct Desk<R: Wait + Copy, M: Memory, D: Disk + Drop> {
     alloc: Global,
@@ -55,8 +56,10 @@ impl<R: Wait + Copy, M: Memory, D: Disk + Drop> Model for Desk<R, M, D> {
         × (length d.outbox.windows ≡ segments d.scanner.plan) };
 }
 
-/// The reply to an update whose outcome came. Its writer is at rest meanwhile, and goes home behind
-/// it. An outcome of another update isn't told: then the place is judged, and a look answers.
+/// The reply to an update whose outcome has returned.
+///
+/// The outcome's writer is idle meanwhile, and returns to its storer afterwards. If the outcome is
+/// another update's, it isn't used: the reply is a refusal of the place, or comes from one look.
 pub fn answer_outcome<R: Wait + Copy, M: Memory, D: Disk + Drop>(
     scanner: &mut Scanner,
     segment: usize,
@@ -81,7 +84,8 @@ pub fn answer_outcome<R: Wait + Copy, M: Memory, D: Disk + Drop>(
     }
 }
 
-/// An update goes to its storer, once. A look answers it where that can't be.
+/// Sends an update to its storer, once. If it can't be sent, the reply is a refusal of the place or
+/// comes from one look.
 fn ask<R: Wait + Copy + Clock, J: Asked>(
     outbox: &mut Outbox<R>,
     scanner: &mut Scanner,
@@ -111,7 +115,7 @@ fn ask<R: Wait + Copy + Clock, J: Asked>(
 }
 
 impl<R: Wait + Copy + Clock, M: Memory, D: Disk + Drop> Desk<R, M, D> {
-    /// The desk of this worker, with a window for each segment.
+    /// A desk for `worker`, with a window for each segment.
     pub fn new(
         rt: R,
         alloc: Global,
@@ -131,7 +135,7 @@ impl<R: Wait + Copy + Clock, M: Memory, D: Disk + Drop> Desk<R, M, D> {
         }
     }
 
-    /// An update goes to its storer. A look answers it where that can't be.
+    /// Sends an update to its storer; if it can't be sent, a look answers it, as [`ask`] has it.
     fn update(&mut self, segment: usize, number: u64, value: &Bytes, key: usize) -> Option<Reply>
         ensures answer { IfSome result (λ r.
             AnswersUpdate self.old segment number value.now r self.new) }
@@ -149,7 +153,7 @@ impl<R: Wait + Copy + Clock, M: Memory, D: Disk + Drop> Desk<R, M, D> {
         )
     }
 
-    /// An update whose outcome came: it is told.
+    /// Answers an update whose outcome has returned.
     fn finish_update(
         &mut self,
         segment: usize,
@@ -165,12 +169,12 @@ impl<R: Wait + Copy + Clock, M: Memory, D: Disk + Drop> Desk<R, M, D> {
         answer_outcome(&mut self.scanner, segment, number, value, outcome)
     }
 
-    /// A status: each segment as its storer last told.
+    /// Answers a status: the last published status of each segment.
     fn status(&mut self) -> Reply
         ensures answer { AnswersStatus self.old result self.new }
         ensures limits { IsInLimits result }
     {
-        // for what it says of the scanner (docs/DECISIONS.md, 180)
+        // for its clause on the scanner (docs/DECISIONS.md, 180)
         let _segments = self.scanner.segments();
         match self.outbox.list_statuses() {
             Ok(statuses) => Reply::Status(statuses),
@@ -196,7 +200,8 @@ impl<R: Wait + Copy + Clock, M: Memory, D: Disk + Drop> Desk<R, M, D> {
         answer_part(self.alloc, &mut self.scanner, set)
     }
 
-    /// Its scanner, for who only looks. No storer waits for it any more.
+    /// A service for read-only clients, with this desk's scanner. The desk's windows are dropped,
+    /// so no storer waits for it any more.
     pub fn into_lookout(self) -> Result<Lookout<M>, AllocError>
         ensures { IfOk result (λ lookout. lookout ≡ self) }
     {
@@ -210,7 +215,7 @@ impl<R: Wait + Copy + Clock, M: Memory, D: Disk + Drop> Desk<R, M, D> {
         Ok(Lookout::new(alloc, scanner, standings))
     }
 
-    /// Its scanner, as it is: so a store can be closed once all its scanners and writers have come back.
+    /// The scanner, unchanged: a store can be closed once all its scanners and writers have come back.
     pub fn into_scanner(self) -> Scanner
         ensures scanner { result ≡ self }
         ensures memory { IsOf M.table M.plan result }
@@ -261,7 +266,7 @@ impl<R: Wait + Copy + Clock, M: Memory, D: Disk + Drop> Service for Desk<R, M, D
 }
 
 impl<R: Wait + Copy + Clock, M: Memory, D: Disk + Drop> Looking for Desk<R, M, D> {
-    /// The looks of its scanner.
+    /// How many looks its scanner may still take.
     ghost looks = { λ d. d.left };
 
     fn looks_left(&self) -> u64 {

@@ -12,8 +12,7 @@ use snap_service::{Memory, WriterOf};
 use std::alloc::{AllocError, Global};
 use std::marker::Model;
 
-/// A writer in a place of its own on the heap: to lend it and to send it home moves a pointer, where the
-/// writer itself has hundreds of bytes.
+/// A writer in a heap allocation of its own: lending and returning it moves a pointer, not hundreds of bytes.
 #[derive(Drop)]
 pub struct HeapWriter<M: Memory, D: Disk + Drop> {
     writer: Box<WriterOf<M, D>>,
@@ -28,7 +27,7 @@ impl<M: Memory, D: Disk + Drop> Model for HeapWriter<M, D> {
 }
 
 impl<M: Memory, D: Disk + Drop> HeapWriter<M, D> {
-    /// This writer.
+    /// Moves `writer` to the heap. If memory runs out, the writer is dropped.
     pub fn new(alloc: Global, writer: WriterOf<M, D>) -> Result<HeapWriter<M, D>, AllocError>
         ensures { IfOk result (λ made. made ≡ writer) }
     {
@@ -38,21 +37,21 @@ impl<M: Memory, D: Disk + Drop> HeapWriter<M, D> {
         }
     }
 
-    /// The writer, as it is.
+    /// Moves the writer out of the heap.
     pub fn into_inner(self) -> WriterOf<M, D>
         ensures { result ≡ self }
     {
         Box::into_inner(self.writer)
     }
 
-    /// The writer, to read of it.
+    /// Borrows the writer.
     pub fn as_ref(&self) -> &WriterOf<M, D>
         ensures { result.now ≡ self.now }
     {
         self.writer.as_ref()
     }
 
-    /// An update of the writer, as [`WriterOf::update`] does it.
+    /// Updates by this writer, as [`WriterOf::update`] does.
     pub fn update(&mut self, number: u64, value: &[u8]) -> Result<u64, Refusal>
         requires size { IsShort value.now }
         ensures updated { IsUpdated D.Disk self.old self.new number value.now result }
@@ -61,7 +60,7 @@ impl<M: Memory, D: Disk + Drop> HeapWriter<M, D> {
         self.writer.as_mut().update(number, value)
     }
 
-    /// The reply that says what the writer told, as [`WriterOf::reply_told`] gives it.
+    /// The reply for the writer's result, as [`WriterOf::reply_told`] gives it.
     pub fn reply_told(&mut self, told: Result<u64, Refusal>, scanner: &mut Scanner) -> Reply
         requires memory { IsOf M.table M.plan scanner.old }
         ensures { RepliesTold told self.old self.new scanner.old scanner.new result }

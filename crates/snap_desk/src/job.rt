@@ -1,4 +1,4 @@
-//! Updates that are handed over.
+//! Updates on their way to a storer.
 ghost use Rattle.std.specs.Prelude.{◌≡◌, IfOk};
 ghost use Rattle.snap_frame.specs.Limits.{IsShort};
 ghost use Rattle.snap_desk.specs.declared.job.Job.{Job};
@@ -8,8 +8,8 @@ use bytes::Bytes;
 use std::alloc::AllocError;
 use std::marker::{Brand, Model};
 
-/// A value that is on its way to its storer. Its bytes are those of the request that brought it, so that
-/// handing it on copies none of them.
+/// An update's value on its way to its storer. It shares the bytes of the request, so sending it
+/// copies none of them.
 #[derive(Drop)]
 pub struct Payload {
     bytes: Bytes,
@@ -27,7 +27,7 @@ impl Model for Payload {
 }
 
 impl Payload {
-    /// This value, whose bytes are shared.
+    /// A payload that shares the bytes of `value`.
     pub fn of(value: &Bytes) -> Result<Payload, AllocError>
         requires { IsShort value.now }
         ensures { IfOk result (λ payload. payload ≡ value.now) }
@@ -36,7 +36,7 @@ impl Payload {
         Ok(Payload { bytes: bytes? })
     }
 
-    /// The value.
+    /// The bytes of the value.
     pub fn as_slice(&self) -> &[u8]
         ensures bytes { result.now ≡ self.now }
         ensures short { IsShort result.now }
@@ -45,7 +45,7 @@ impl Payload {
     }
 }
 
-/// An update, and who waits for its outcome: the desk's worker, and the key of its request.
+/// An update, and where its outcome is to be sent: the desk's worker, and the key of its request.
 #[derive(Drop)]
 pub struct Job {
     pub worker: usize,
@@ -54,7 +54,8 @@ pub struct Job {
     pub value: Payload,
 }
 
-/// Which job is meant. It has no values: the proof of a call with `Brand` says which job it is.
+/// A type that names one job, for proofs. It has no values: the proof of a call with `Brand` says
+/// which job it is.
 pub(crate) trait Asked {
     ghost job: { Job };
 }

@@ -1,4 +1,4 @@
-//! A writer that is lent to a desk.
+//! Writers on loan, and outcomes of updates.
 ghost use Rattle.std.specs.Prelude.{◌≡◌, ◌+◌, ◌*◌, ℕ, List, true, false, None, IsSome};
 ghost use Rattle.snap_frame.specs.Limits.{IsShort};
 ghost use Rattle.snap_memory.specs.Seat.{Meets, own_of};
@@ -20,7 +20,7 @@ use snap_service::Memory;
 use std::marker::Model;
 use std::sync::Wait;
 
-/// A writer away from its storer, which waits for it. Wherever it is let go, it goes home.
+/// A writer on loan from its storer, which waits for it. Dropping it returns the writer.
 pub struct Lent<R: Wait + Copy, M: Memory, D: Disk + Drop> {
     pub rt: R,
     pub home: Sender<HeapWriter<M, D>>,
@@ -34,7 +34,7 @@ impl<R: Wait + Copy, M: Memory, D: Disk + Drop> Drop for Lent<R, M, D> {
     }
 }
 
-/// What became of an update, with its writer at rest.
+/// The outcome of an update, together with its writer, which is idle until the outcome is dropped.
 #[derive(Drop)]
 pub struct Outcome<R: Wait + Copy, M: Memory, D: Disk + Drop> {
     job: Job,
@@ -54,7 +54,7 @@ impl<R: Wait + Copy, M: Memory, D: Disk + Drop> Model for Outcome<R, M, D> {
 }
 
 impl<R: Wait + Copy, M: Memory, D: Disk + Drop> Outcome<R, M, D> {
-    /// What the writer told of the job, which can be replied where the writer is.
+    /// The outcome of `job`, with the writer's result. The clause `IsTellable` allows a reply by this writer.
     pub fn new(job: Job, told: Result<u64, Refusal>, lent: Lent<R, M, D>) -> Outcome<R, M, D>
         requires { IsTellable lent.writer job.number job.value told }
         ensures { result ≡ record { job = job; writer = lent.writer; told = told } }
@@ -62,14 +62,14 @@ impl<R: Wait + Copy, M: Memory, D: Disk + Drop> Outcome<R, M, D> {
         Outcome { job, told, lent }
     }
 
-    /// Where the writer stands.
+    /// The writer's segment, its number, and whether it is fenced.
     pub fn stands(&self) -> Standing
         ensures { StandsAt self.now.writer result }
     {
         Standing::of(self.lent.writer.as_ref())
     }
 
-    /// Where the writer stands, in one word: twice its number, and one more where it is fenced.
+    /// The writer's status in one word: twice its number, plus one if it is fenced.
     pub fn standing_word(&self) -> u64
         ensures fenced { IsSome self.now.writer.segment.begun
             → result ≡ number_of self.now.writer * 2 + 1 }
@@ -79,7 +79,7 @@ impl<R: Wait + Copy, M: Memory, D: Disk + Drop> Outcome<R, M, D> {
         standing_of(self.lent.writer.as_ref())
     }
 
-    /// What the writer told: the segment's number, or why it refused the update.
+    /// The writer's result: the segment's number, or why it refused the update.
     pub fn told(&self) -> Result<u64, Refusal>
         ensures { result ≡ self.now.told }
     {
@@ -93,7 +93,7 @@ impl<R: Wait + Copy, M: Memory, D: Disk + Drop> Outcome<R, M, D> {
         self.job.number
     }
 
-    /// Whether it is the outcome of this update of this segment.
+    /// Whether this is the outcome of exactly this update: its segment, number and value.
     pub fn is_of(&self, segment: usize, number: u64, value: &[u8]) -> bool
         ensures yes { result ≡ true → (own_of self.now.writer.seat ≡ segment)
             × (self.now.job.number ≡ number) × (self.now.job.value ≡ value.now) }
@@ -108,8 +108,8 @@ impl<R: Wait + Copy, M: Memory, D: Disk + Drop> Outcome<R, M, D> {
         self.job.value.as_slice() == value
     }
 
-    /// The reply that says what was told. The scanner meets the writer, so the reply fits what it has
-    /// seen, and no look is taken. Then the writer goes home.
+    /// The reply for the writer's result. The scanner meets the writer, so that the reply fits what
+    /// it has seen; no look is taken. Then the writer returns to its storer.
     pub fn tell(mut self, scanner: &mut Scanner) -> Reply
         requires memory { IsOf M.table M.plan scanner.old }
         ensures told { result ≡ reply_of (number_of self.writer) self.told }

@@ -1,10 +1,10 @@
-//! The service in the form that waits for no store: an update is handed over to its segment's thread,
-//! and finished when that has told.
+//! A worker's service, which doesn't block on stores: it sends an update to its segment's storer
+//! thread, and answers it once the outcome has returned.
 //!
-//! The relation is that of `snap_service`, word for word, and the two share all but the hand-over. A
-//! storer lends its writer with the outcome ([`Outcome`]): so the desk's scanner meets the
-//! writer before anybody else updates the segment, and the reply is what the update told. Wherever
-//! the outcome is let go, also where nobody waits for it, the writer goes home.
+//! Replies keep the same relation as those of `snap_service`; only the way of an update differs.
+//! The storer lends its writer with the outcome ([`Outcome`]): the desk's scanner meets the writer
+//! before the next update of the segment, so the reply fits what the scanner has seen. Dropping the
+//! outcome, also unread, returns the writer to its storer.
 #![tactic(auto)]
 
 mod desk;

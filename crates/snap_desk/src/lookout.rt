@@ -1,4 +1,4 @@
-//! Who looks at a server and stores nothing.
+//! The service for read-only clients.
 ghost use Rattle.std.specs.Prelude.{◌≡◌, ◌<◌, All, IfOk, length};
 ghost use Rattle.snap_frame.specs.Messages.{IsAskable, IsInLimits, IsStatus};
 ghost use Rattle.snap_memory.specs.Rule.{segments};
@@ -17,14 +17,16 @@ use std::marker::{Model, PhantomData};
 use std::sync::Arc;
 use std::sync::atomic::{AtomicU64, Ordering};
 
-/// A scanner, and where each segment's storer stood when it last told: a [`Service`] that hands nothing over
-/// and stores nothing, for who looks at a server beside its workers. Its state is what its scanner knows. No
-/// storer waits for it: they end once all desks are gone.
+/// A [`Service`] for read-only clients beside the workers (HTTP, metrics): it answers scans and
+/// statuses and never stores.
+///
+/// Models what its scanner knows. It answers an update by a look. Storers don't wait for it: they
+/// end once all desks are dropped.
 #[derive(Drop)]
 pub struct Lookout<M: Memory> {
     alloc: Global,
     scanner: Scanner,
-    /// Each segment in one word, as [`status_in`] reads it.
+    /// The status of each segment in one word, as [`status_in`] reads it.
     standings: Vec<Arc<AtomicU64, Global>>,
     of: PhantomData<M>,
 }
@@ -44,7 +46,7 @@ impl<M: Memory> Model for Lookout<M> {
 }
 
 impl<M: Memory> Lookout<M> {
-    /// By this scanner, and by where the storers of all segments say that they stand, in order.
+    /// A lookout with this scanner, and the published status of each segment, in order.
     pub(crate) fn new(
         alloc: Global,
         scanner: Scanner,
@@ -62,7 +64,7 @@ impl<M: Memory> Lookout<M> {
         }
     }
 
-    /// An update: a look answers it, and nothing is stored.
+    /// Answers an update by a refusal of its place or by one look. Nothing is stored.
     fn update(&mut self, segment: usize, number: u64, value: &[u8]) -> Reply
         ensures answer { AnswersUpdate self.old segment number value.now result self.new }
         ensures looks { LooksOnce self.old self.new }
@@ -74,7 +76,7 @@ impl<M: Memory> Lookout<M> {
         }
     }
 
-    /// Where each segment stood as its storer last told, with no look and no lock.
+    /// Reads the last published status of each segment, without a look and without a lock.
     fn list_statuses(&self) -> Result<Vec<SegmentStatus>, AllocError>
         ensures count { IfOk result (λ s. length s.items ≡ segments self.now.plan) }
         ensures limits { IfOk result (λ s. All IsStatus s.items) }
@@ -86,12 +88,12 @@ impl<M: Memory> Lookout<M> {
         Ok(statuses)
     }
 
-    /// A status: each segment as its storer last told.
+    /// Answers a status: the last published status of each segment.
     fn status(&mut self) -> Reply
         ensures answer { AnswersStatus self.old result self.new }
         ensures limits { IsInLimits result }
     {
-        // for what it says of the scanner (docs/DECISIONS.md, 180)
+        // for its clause on the scanner (docs/DECISIONS.md, 180)
         let _segments = self.scanner.segments();
         match self.list_statuses() {
             Ok(statuses) => Reply::Status(statuses),
@@ -110,7 +112,7 @@ impl<M: Memory> Lookout<M> {
         answer_part(self.alloc, &mut self.scanner, set)
     }
 
-    /// The reply to any request.
+    /// Answers any request.
     fn reply(&mut self, request: &Request) -> Reply
         requires askable { IsAskable request.now }
         ensures answer { Answers self.old request.now result self.new }

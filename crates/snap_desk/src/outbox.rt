@@ -1,4 +1,4 @@
-//! What a desk sees of the storers, and how it hands updates over to them.
+//! A worker's side of the channels to the storers.
 ghost use Rattle.std.specs.Prelude.{◌≡◌, ◌<◌, length, All, IfOk, OnErr, IfSome, IfNone};
 ghost use Rattle.snap_frame.specs.Limits.{IsShort};
 ghost use Rattle.snap_frame.specs.Messages.{IsStatus};
@@ -17,35 +17,36 @@ use std::sync::{Arc, Wait};
 use std::thread;
 use std::time::Duration;
 
-/// How long to rest where no memory is left to hand an update over, in milliseconds.
+/// How long to sleep between two tries to send an update, if memory ran out, in milliseconds.
 const REST: u64 = 5;
 
-/// How often it is tried: for a tenth of a second. A worker that rested for longer couldn't let go of
-/// its connections, whose memory may be what is wanting.
+/// How often sending an update is tried if memory runs out: for a tenth of a second. A worker that
+/// waited longer couldn't close connections meanwhile, which may be what frees memory.
 const TRIES: u32 = 20;
 
-/// Why an update wasn't handed over.
+/// Why an update wasn't sent.
 #[derive(Drop)]
 enum Unsent {
-    /// No memory was left for it.
+    /// Memory for it ran out.
     NoMemory,
-    /// The storer is another segment's, or gone.
+    /// The window is another segment's, or the storer has ended.
     Gone,
 }
 
-/// That the job was handed over: only [`Window::send`] makes one, of the job that it sends.
+/// Proof that the job `J` was sent: only [`Window::send`] makes one, of the job that it sends.
 #[derive(Drop)]
 pub(crate) struct Handed<J: Asked> {
     of: PhantomData<J>,
 }
 
-/// What a desk sees of a segment's storer: where its updates go, and where it stands. Its value is the
-/// segment. The storer works until all its windows are gone.
+/// A handle to one segment's storer: sends it jobs, and reads its last published status.
+///
+/// Models the segment's index. The storer runs until all its windows are dropped.
 #[derive(Drop)]
 pub struct Window {
     segment: usize,
     jobs: Sender<Job>,
-    /// In one word, as [`status_in`] reads it.
+    /// The storer's status in one word, as [`status_in`] reads it.
     standing: Arc<AtomicU64, Global>,
 }
 
@@ -68,7 +69,7 @@ impl Window {
         }
     }
 
-    /// Tries to hand this job, an update of this segment, over to its storer.
+    /// Tries to send `job`, an update of `segment`, to the storer. An error means that it wasn't sent.
     fn send<R: Wait, J: Asked>(&self, rt: &R, segment: usize, job: Job) -> Result<Handed<J>, Unsent>
         requires { job ≡ J.job }
         ensures { IfOk result (λ _. self.now ≡ segment) }
@@ -83,7 +84,7 @@ impl Window {
         }
     }
 
-    /// Where its storer stood when it last told.
+    /// Reads the last status that the storer published.
     fn status(&self) -> SegmentStatus
         ensures { IsStatus result }
     {
@@ -105,8 +106,9 @@ impl Clone for Window {
     }
 }
 
-/// How a worker hands updates over: a window for each segment. Its value is the worker, the windows, and
-/// how many updates were handed over.
+/// Sends a worker's updates to the storers: a window for each segment.
+///
+/// Models the worker, the windows' segments, and how many updates were sent, modulo 2^64.
 #[derive(Drop)]
 pub(crate) struct Outbox<R: Wait + Copy> {
     rt: R,
@@ -125,7 +127,7 @@ impl<R: Wait + Copy> Model for Outbox<R> {
 }
 
 impl<R: Wait + Copy> Outbox<R> {
-    /// That of this worker, with these windows, by which nothing was handed over.
+    /// An outbox for `worker` that has sent nothing yet.
     pub(crate) fn new(rt: R, alloc: Global, worker: usize, windows: Vec<Window>) -> Outbox<R>
         ensures { result ≡ record { worker = worker; windows = windows.items; sent = 0 } }
     {
@@ -138,7 +140,7 @@ impl<R: Wait + Copy> Outbox<R> {
         }
     }
 
-    /// Where each segment stood as its storer last told, with no look and no lock.
+    /// Reads the last published status of each segment, without a look and without a lock.
     pub(crate) fn list_statuses(&self) -> Result<Vec<SegmentStatus>, AllocError>
         ensures count { IfOk result (λ s. length s.items ≡ length self.now.windows) }
         ensures limits { IfOk result (λ s. All IsStatus s.items) }
@@ -150,7 +152,7 @@ impl<R: Wait + Copy> Outbox<R> {
         Ok(statuses)
     }
 
-    /// Where each segment's storer says that it stands: these outlive it, and keep no storer at work.
+    /// The published statuses of all segments. They outlive the outbox, and keep no storer running.
     pub(crate) fn into_standings(self) -> Result<Vec<Arc<AtomicU64, Global>>, AllocError>
         ensures { IfOk result (λ s. length s.items ≡ length self.windows) }
     {
@@ -161,7 +163,7 @@ impl<R: Wait + Copy> Outbox<R> {
         Ok(standings)
     }
 
-    /// The job of this worker's request with this key: an update to this number and value.
+    /// Makes the job for the request `key` of this worker: an update to this number and value.
     fn job(&self, number: u64, value: &Bytes, key: usize) -> Result<Job, AllocError>
         requires { IsShort value.now }
         ensures { IfOk result (λ job. job ≡ job_of self.now.worker key number value.now) }
@@ -175,7 +177,7 @@ impl<R: Wait + Copy> Outbox<R> {
         })
     }
 
-    /// Tries to hand a job over by the window of this segment.
+    /// Tries to send a job by the window of `segment`. After an error nothing was sent.
     fn send<J: Asked>(&mut self, segment: usize, job: Job) -> Result<Handed<J>, Unsent>
         requires job { job ≡ J.job }
         requires segment { segment < length self.old.windows }
@@ -187,7 +189,7 @@ impl<R: Wait + Copy> Outbox<R> {
         Ok(handed)
     }
 
-    /// Tries to hand an update over to its storer.
+    /// Tries once to send an update to its storer. After an error nothing was sent.
     fn offer<J: Asked>(
         &mut self,
         segment: usize,
@@ -209,8 +211,8 @@ impl<R: Wait + Copy> Outbox<R> {
 }
 
 impl<R: Wait + Copy + Clock> Outbox<R> {
-    /// Hands an update over to its storer, once. None where that is gone, or no memory is left
-    /// for a tenth of a second.
+    /// Sends an update to its storer, once. `None` if the storer has ended, or memory is out for a
+    /// tenth of a second; then nothing was sent.
     pub(crate) fn hand_over<J: Asked>(
         &mut self,
         segment: usize,

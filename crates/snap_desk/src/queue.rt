@@ -1,4 +1,4 @@
-//! What was handed over to a storer and isn't taken yet.
+//! A storer's queue of updates.
 ghost use Rattle.std.specs.Prelude.{◌≡◌, true, false, OnOk, OnErr};
 ghost use Rattle.snap_service.specs.Counted.{next_count};
 ghost use Rattle.snap_desk.specs.Storer.{IsWaiting};
@@ -13,13 +13,14 @@ use std::thread;
 /// Polls without sleeping before a storer blocks: for about an eighth of a millisecond.
 const SPINS: u32 = 500;
 
-/// The updates that come to a storer. Its value is how many came and how many of them were taken, each
-/// from 0 again behind the largest number: all of them, or all but one, which waits here. So a contract
-/// can say that none is let go.
+/// The updates that arrive at a storer, of which one can wait here until it is taken.
+///
+/// Models how many arrived and how many were taken, both modulo 2^64: they are equal, or one waits.
+/// So a contract can say that no update is dropped.
 #[derive(Drop)]
 pub(crate) struct Queue {
     jobs: Receiver<Job>,
-    /// The one that came and isn't taken yet.
+    /// The update that has arrived and isn't taken yet.
     next: Option<Job>,
     came: u64,
     taken: u64,
@@ -37,7 +38,7 @@ impl Model for Queue {
 }
 
 impl Queue {
-    /// What comes by this channel, of which nothing has come.
+    /// A queue that receives from `jobs`. Nothing has arrived yet.
     pub(crate) fn new(jobs: Receiver<Job>) -> Queue
         ensures { result ≡ record { came = 0; taken = 0 } }
     {
@@ -49,7 +50,7 @@ impl Queue {
         }
     }
 
-    /// Whether one waits.
+    /// Whether an update waits.
     fn is_waiting(&self) -> bool
         ensures yes { result ≡ true → IsWaiting self.now }
         ensures no { result ≡ false → self.now.came ≡ self.now.taken }
@@ -57,7 +58,7 @@ impl Queue {
         self.next.is_some()
     }
 
-    /// This one came, and waits.
+    /// Enters an update that has arrived, which then waits.
     fn keep(&mut self, job: Job)
         requires { self.old.came ≡ self.old.taken }
         ensures waits { IsWaiting self.new }
@@ -67,7 +68,7 @@ impl Queue {
         self.came = self.came.wrapping_add(1);
     }
 
-    /// Looks whether an update is there, which then waits.
+    /// Receives an update without blocking, which then waits. After an error nothing has arrived.
     fn look<R: Wait>(&mut self, rt: &R) -> Result<(), TryRecvError>
         requires { self.old.came ≡ self.old.taken }
         ensures one { OnOk result (IsWaiting self.new) }
@@ -79,7 +80,8 @@ impl Queue {
         Ok(())
     }
 
-    /// Sleeps until an update comes, which then waits. Whether one came: else none will.
+    /// Blocks until an update arrives, which then waits; false if none ever will, since all windows
+    /// are dropped.
     fn sleep<R: Wait>(&mut self, rt: &R) -> bool
         requires { self.old.came ≡ self.old.taken }
         ensures one { result ≡ true → IsWaiting self.new }
@@ -95,7 +97,7 @@ impl Queue {
         }
     }
 
-    /// The same. It spins before it sleeps as long as that pays.
+    /// Receives an update as [`Queue::sleep`] does, but spins before it sleeps, as long as that pays.
     fn receive<R: Wait>(&mut self, rt: &R, spin: &mut Spin) -> bool
         requires { self.old.came ≡ self.old.taken }
         ensures one { result ≡ true → IsWaiting self.new }
@@ -115,7 +117,7 @@ impl Queue {
         self.sleep(rt)
     }
 
-    /// Waits until an update is there. Whether one is: else all windows are gone, and none is left.
+    /// Waits until there is an update; false if there is none and all windows are dropped.
     pub(crate) fn wait<R: Wait>(&mut self, rt: &R, spin: &mut Spin) -> bool
         ensures one { result ≡ true → IsWaiting self.new }
         ensures taken { self.new.taken ≡ self.old.taken }
@@ -124,7 +126,7 @@ impl Queue {
         self.is_waiting() || self.receive(rt, spin)
     }
 
-    /// Takes the update that waits.
+    /// Takes the waiting update.
     pub(crate) fn take(&mut self) -> Job
         requires { IsWaiting self.old }
         ensures { self.new ≡ record self.old { taken = next_count self.old.taken } }

@@ -1,5 +1,7 @@
-//! Where a writer stands. In one word, so that who reads it while its thread works sees one moment:
-//! twice the number, and one more where it is fenced.
+//! The status of a writer.
+//!
+//! Its atomic form is one word, twice the number, plus one if it is fenced: so another thread reads
+//! both as of one moment.
 ghost use Rattle.std.specs.Prelude.{◌≡◌, ◌+◌, ◌*◌, true, false, None, IsSome};
 ghost use Rattle.snap_frame.specs.Messages.{IsStatus};
 ghost use Rattle.snap_service.specs.Writer.{number_of};
@@ -9,7 +11,7 @@ use snap_disk::Disk;
 use snap_frame::SegmentStatus;
 use snap_service::{Memory, WriterOf};
 
-/// Which segment a writer writes, its number, and whether a store of it has failed.
+/// A writer's segment, its number, and whether it is fenced, since a store has failed.
 #[derive(Clone, Copy, PartialEq, Eq)]
 pub struct Standing {
     pub segment: usize,
@@ -18,7 +20,7 @@ pub struct Standing {
 }
 
 impl Standing {
-    /// Where this writer stands.
+    /// The status of this writer.
     pub fn of<M: Memory, D: Disk>(writer: &WriterOf<M, D>) -> Standing
         ensures { StandsAt writer.now result }
     {
@@ -30,7 +32,7 @@ impl Standing {
     }
 }
 
-/// The word that says where a writer stands.
+/// The status of a writer in one word.
 pub(crate) fn standing_of<M: Memory, D: Disk>(writer: &WriterOf<M, D>) -> u64
     ensures fenced { IsSome writer.now.segment.begun → result ≡ number_of writer.now * 2 + 1 }
     ensures open { writer.now.segment.begun ≡ None → result ≡ number_of writer.now * 2 }
@@ -39,7 +41,7 @@ pub(crate) fn standing_of<M: Memory, D: Disk>(writer: &WriterOf<M, D>) -> u64
     if writer.is_fenced() { twice + 1 } else { twice }
 }
 
-/// What such a word says.
+/// Reads a status from such a word.
 pub(crate) fn status_in(word: u64) -> SegmentStatus
     ensures fenced { result.is_fenced ≡ true → word ≡ result.number * 2 + 1 }
     ensures open { result.is_fenced ≡ false → word ≡ result.number * 2 }

@@ -1,4 +1,4 @@
-//! What stores for one segment, in a thread of its own.
+//! The thread that stores for one segment.
 ghost use Rattle.std.specs.Prelude.{◌≡◌, IfOk, IfSome, IfNone, Some, None};
 ghost use Rattle.snap_memory.specs.Seat.{own_of};
 ghost use Rattle.snap_service.specs.Updated.{IsUpdated};
@@ -20,7 +20,7 @@ use std::marker::Model;
 use std::sync::atomic::{AtomicU64, Ordering};
 use std::sync::{Arc, Wait};
 
-/// Does one update, and lends its writer with the outcome.
+/// Does one update, and returns its outcome with the writer on loan.
 pub fn store_one<R: Wait + Copy, M: Memory, D: Disk + Drop>(
     rt: R,
     home: Sender<HeapWriter<M, D>>,
@@ -34,8 +34,8 @@ pub fn store_one<R: Wait + Copy, M: Memory, D: Disk + Drop>(
     Outcome::new(job, told, Lent { rt, home, writer })
 }
 
-/// A window of this segment, and what its storer needs of it: where updates come, and where to say
-/// how it stands, which is so at first.
+/// Makes a window of `segment`, with the two ends that its storer needs: the channel of jobs, and
+/// the place of its status, which begins as this word.
 fn window_of(
     alloc: Global,
     segment: usize,
@@ -49,15 +49,16 @@ fn window_of(
     Ok((window, jobs, standing))
 }
 
-/// The thread that stores for one segment, and what it owns: its writer, and what was handed over to
-/// it. One thread drives it, step by step. Its value is its writer, none while that is lent, where that stood when it was here last,
-/// and how many updates came and were taken.
+/// The thread that stores for one segment: owns its writer, and the queue of its updates.
+///
+/// Models the writer (`None` while it is lent), the writer's status when it was here last, and how
+/// many updates arrived and were taken.
 #[derive(Drop)]
 pub struct Storer<R: Wait + Copy, M: Memory, D: Disk + Drop> {
     rt: R,
-    /// None while it is lent.
+    /// `None` while it is lent.
     writer: Option<HeapWriter<M, D>>,
-    /// Where the writer stands, or stood when it was lent.
+    /// The status of the writer, or its status when it was lent.
     stands: Standing,
     queue: Queue,
     spin: Spin,
@@ -79,7 +80,7 @@ impl<R: Wait + Copy, M: Memory, D: Disk + Drop> Model for Storer<R, M, D> {
 }
 
 impl<R: Wait + Copy, M: Memory, D: Disk + Drop> Storer<R, M, D> {
-    /// The storer of this writer, and the window through which desks see it: that of its segment.
+    /// A storer with this writer, and a window to it, of the writer's segment.
     pub fn new(
         rt: R,
         alloc: Global,
@@ -104,8 +105,8 @@ impl<R: Wait + Copy, M: Memory, D: Disk + Drop> Storer<R, M, D> {
         Ok((storer, window))
     }
 
-    /// Takes the writer. Where it is lent, it is waited for; None where it will not come back. One that
-    /// doesn't stand where it was lent isn't taken.
+    /// Takes the writer, and waits for it while it is lent. `None` if it won't come back, or if its
+    /// status isn't the one with which it was lent.
     fn take_writer(&mut self) -> Option<HeapWriter<M, D>>
         ensures taken { IfSome result (λ w. IsTaken self.old w) }
         ensures here { (w : _) → self.old.writer ≡ Some w → result ≡ Some w }
@@ -150,10 +151,10 @@ impl<R: Wait + Copy, M: Memory, D: Disk + Drop> Storer<R, M, D> {
         }
     }
 
-    /// Waits until an update is handed over and its writer is back, does it, and lends the writer
-    /// with the outcome. None where all windows are gone and no update is left, so that none will
-    /// come, or where the writer will not come back, or no memory is left to lend it: nothing was
-    /// done then, and an update that has come waits.
+    /// Waits for an update and for the writer, does the update, and lends the writer with the outcome.
+    ///
+    /// `None` if all windows are dropped and no update is left; if the writer won't come back; or if
+    /// memory to lend it runs out. Then nothing was done, and an update that has arrived still waits.
     pub fn next(&mut self) -> Option<Done<Outcome<R, M, D>>>
         ensures worker { IfSome result (λ t. t.worker ≡ t.outcome.job.worker) }
         ensures key { IfSome result (λ t. t.key ≡ t.outcome.job.key) }
@@ -173,7 +174,7 @@ impl<R: Wait + Copy, M: Memory, D: Disk + Drop> Storer<R, M, D> {
         Some(self.store(home, writer, job))
     }
 
-    /// Its writer, once it is back; None where it will not come back.
+    /// The writer, once it is back; `None` if it won't come back, as at [`Storer::take_writer`].
     pub fn into_writer(mut self) -> Option<WriterOf<M, D>>
         ensures taken { IfSome result (λ w. IsTaken self w) }
         ensures here { (w : _) → self.writer ≡ Some w → result ≡ Some w }

@@ -12,27 +12,27 @@ use Rattle.snap_frame.specs.segment_value.SegmentValue.{SegmentValue}
 use Rattle.snap_json.specs.Documents.{line_of, value_tokens}
 use Rattle.snap_json.specs.Each.{each_from}
 
--- which format it is
+-- the format's name and version
 abbrev pub format_tokens : List Token
 format_tokens = key (codes "format") ∷ string (codes "snapd dump") ∷ key (codes "version") ∷ number (decimal 1) ∷ []
 
--- when the values were there
+-- the time at which the values were current
 abbrev pub time_tokens : List ℕ → List Token
 time_tokens time = key (codes "time") ∷ string time ∷ []
 
--- how many segments follow, and the beginning of their list
+-- the number of segments, and the beginning of their list
 abbrev pub count_tokens : ℕ → List Token
 count_tokens count = key (codes "count") ∷ number (decimal count) ∷ key (codes "segments") ∷ begin_array ∷ []
 
--- what the first line says
+-- the first line
 abbrev pub head_tokens : (time : List ℕ) → (count : ℕ) → List Token
 head_tokens time count = begin_object ∷ (format_tokens ++ (time_tokens time ++ count_tokens count))
 
--- the comma behind the line before that of segment i, where one is before it
+-- the comma that ends the line before segment i's, if that is a segment's too
 abbrev pub comma_before : ℕ → List ℕ
 comma_before i = if nat_lt 0 i then codes "," else []
 
--- the line of segment i, behind the end of the one before it
+-- the line of segment i, after the end of the line before it
 abbrev pub row : ℕ → SegmentValue → List ℕ
 row i v = comma_before i ++ (10 ∷ print (value_tokens i v))
 
@@ -49,11 +49,11 @@ last_line lines = line_of (end_array ∷ key (codes "sha256")
 abbrev pub dump_text : (time : List ℕ) → List SegmentValue → List ℕ
 dump_text time values = body time values ++ last_line (body time values)
 
--- a number and a value that a segment can have
+-- a number and a value within the limits of a segment
 abbrev pub IsKeepable : SegmentValue → Type 0
 IsKeepable v = IsNumber v.number × IsShort v.value
 
--- a server can have these values: one for each of 1 to 16 segments, each within its limits
+-- a server can have these values: they are 1 to 16, each within the limits of a segment
 pub record AreServable (values : List SegmentValue) : Type 0 where
   pub some : 1 ≤ length values
   pub few : length values ≤ MAX_COUNT

@@ -1,31 +1,31 @@
-//! Why a text is no dump.
+//! Reasons why a text isn't a dump.
 
 use sha2::{Digest, Sha256};
 use std::alloc::AllocError;
 use thiserror::Error;
 
-/// Why a text is no dump that can be read. Each text says what to do.
+/// The reason why a text isn't a valid dump. Its message says what to do.
 #[derive(Clone, Copy, Debug, PartialEq, Eq, Error)]
 pub enum DumpFault {
-    /// It begins otherwise.
+    /// It doesn't begin like a dump.
     #[error("it is no dump: give what snapd dump printed")]
     NoDump,
-    /// It begins as a dump of another version does.
+    /// It begins like a dump of another version.
     #[error("it is a dump of another version: load it with the snapd that made it, or a later one")]
     OtherVersion,
-    /// It doesn't end in the line with the digest.
+    /// It doesn't end with the digest's line.
     #[error("it was cut off, or has more behind its end: take another copy, or dump again")]
     CutOff,
-    /// The digest is not that of the lines before it.
+    /// The digest isn't that of the preceding lines.
     #[error("it was changed, since its checksum is that of another text: take another copy, or dump again")]
     Changed,
-    /// It has the digest of its lines, and is not what a server's values are written as.
+    /// The digest is right, but `snapd` would write the contents differently.
     #[error("its checksum is right, but snapd didn't write it: a number, a value or its form is another")]
     Foreign,
-    /// It has more bytes than any dump.
+    /// It is longer than any dump.
     #[error("it is longer than any dump: give what snapd dump printed")]
     TooLong,
-    /// A growth of memory was refused.
+    /// Memory ran out.
     #[error("out of memory")]
     NoMemory,
 }
@@ -41,24 +41,24 @@ impl From<AllocError> for DumpFault {
     }
 }
 
-/// How the first line of a dump of any version begins.
+/// The beginning of a dump of any version.
 const BEGINNING: &[u8] = b"{\"format\":\"snapd dump\",\"version\":";
 
-/// What stands behind it in one of this version.
+/// The version that follows it.
 const VERSION: &[u8] = b"1,";
 
-/// What the last line says before the digest, and behind it.
+/// The last line before and after the digest.
 const BEFORE: &[u8] = b"],\"sha256\":\"";
 
 const BEHIND: &[u8] = b"\"}\n";
 
-/// How many digits a digest has.
+/// The digits of a digest.
 const DIGITS: usize = 64;
 
-/// How many bytes the last line has.
+/// The length of the last line in bytes.
 const LAST_LINE: usize = BEFORE.len() + DIGITS + BEHIND.len();
 
-/// What is wrong with a text that couldn't be read as a dump.
+/// The reason why a text couldn't be read as a dump.
 pub(crate) fn fault_of(text: &[u8]) -> DumpFault {
     if BEGINNING.starts_with(text) {
         return DumpFault::CutOff;
@@ -83,7 +83,8 @@ pub(crate) fn fault_of(text: &[u8]) -> DumpFault {
     }
 }
 
-/// The lines before the last one, and the digits in it, where it has its form.
+/// The lines before the last one, and the digits in the last one. `None` if that doesn't have its
+/// form.
 fn parts(text: &[u8]) -> Option<(&[u8], &[u8])> {
     if text.len() < LAST_LINE {
         return None;
@@ -95,7 +96,7 @@ fn parts(text: &[u8]) -> Option<(&[u8], &[u8])> {
     Some((lines, &last[BEFORE.len()..BEFORE.len() + DIGITS]))
 }
 
-/// These digits are the digest of the lines.
+/// Whether these digits are the digest of the lines.
 fn is_digest(lines: &[u8], digits: &[u8]) -> bool {
     let mut wanted = [0; DIGITS];
     let digest = Sha256::digest(lines);

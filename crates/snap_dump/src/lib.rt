@@ -1,8 +1,8 @@
-//! A dump: what a server or its files hold at one moment, as a document that can be carried elsewhere.
+//! Dumps: all values of a server or its files at one moment, as a JSON document with a checksum.
 //!
-//! [`document`] writes it and [`read`] reads it: nothing but what the first one writes, to the byte. So a
-//! document that was cut off, or changed in one byte, is refused. `specs/Document.antt` has its text. No
-//! file and no server is touched here.
+//! [`document`] writes a dump. [`read`] accepts exactly what `document` writes, to the byte, so it
+//! refuses a document that was cut off or changed in one byte. `specs/Document.antt` has its text.
+//! No file and no server is used here.
 #![tactic(auto)]
 
 mod fault;
@@ -14,5 +14,6 @@ pub use fault::DumpFault;
 pub use reader::{Dump, read};
 pub use text::document;
 
-/// The most bytes that a reader of dumps need take: the longest one, of 16 values of 4,080 bytes, has less than half of it.
+/// The most bytes that a reader of dumps has to take. The longest dump, of 16 values of 4,080
+/// bytes, has less than half of it.
 pub const MAX_DUMP_LEN: usize = 1 << 20;

@@ -1,4 +1,5 @@
-//! What a text says where it is a dump: it says nothing else then, but it may be none.
+//! Parses a text that may be a dump. If the text is a dump, the result is its contents; for another
+//! text it may be anything, so [`read`](crate::read) compares.
 ghost use Rattle.std.specs.Prelude.{◌≡◌, ◌≤◌, All, IfOk, IfSome, length};
 ghost use Rattle.snap_history.specs.Limits.{IsNumber};
 ghost use Rattle.snap_dump.specs.Document.{AreServable, IsKeepable};
@@ -12,10 +13,10 @@ use snap_frame::SegmentValue;
 use snap_history::{LAST_NUMBER, MAX_COUNT, MAX_VALUE_LEN};
 use std::alloc::{AllocError, Global};
 
-/// The version that is read.
+/// The only version that is accepted.
 const VERSION: u64 = 1;
 
-/// What the text says. `None` where it has another form.
+/// The contents of a dump, within the limits of a server. `None` if the text has another form.
 pub(crate) fn parse(alloc: Global, text: &[u8]) -> Result<Option<Dump>, AllocError>
     ensures { IfOk result (λ found. IfSome found (λ d. AreServable d.values.items)) }
 {
@@ -40,7 +41,7 @@ pub(crate) fn parse(alloc: Global, text: &[u8]) -> Result<Option<Dump>, AllocErr
     Ok(Some(Dump { time, values }))
 }
 
-/// The time and the count, by the first line.
+/// Parses the first line: its time and count.
 fn read_head<'a>(reader: &mut Reader<'a>) -> Option<(&'a str, u64)> {
     begin_object(reader)?;
     let _format = text_of(reader, "format")?;
@@ -54,7 +55,7 @@ fn read_head<'a>(reader: &mut Reader<'a>) -> Option<(&'a str, u64)> {
     Some((time, count))
 }
 
-/// The number and value of each segment, of so many.
+/// Parses the number and value of each of `count` segments.
 fn read_values(
     alloc: Global,
     reader: &mut Reader<'_>,
@@ -75,7 +76,7 @@ fn read_values(
     Ok(Some(values))
 }
 
-/// The number and value of this segment.
+/// Parses the number and value of this segment.
 fn read_value(
     alloc: Global,
     reader: &mut Reader<'_>,
@@ -98,7 +99,7 @@ fn read_value(
     }
 }
 
-/// The number of this segment.
+/// Parses the number of this segment.
 fn read_number(reader: &mut Reader<'_>, index: u64) -> Option<u64>
     ensures { IfSome result IsNumber }
 {
@@ -110,7 +111,7 @@ fn read_number(reader: &mut Reader<'_>, index: u64) -> Option<u64>
     (number <= LAST_NUMBER).then_some(number)
 }
 
-/// The bytes of a value, from its text or in base64.
+/// Parses the bytes of a value: its text, or base64.
 fn read_bytes(alloc: Global, reader: &mut Reader<'_>) -> Result<Option<Vec<u8>>, AllocError> {
     let Some(Token::Key(form)) = reader.next() else {
         return Ok(None);
@@ -129,7 +130,7 @@ fn read_bytes(alloc: Global, reader: &mut Reader<'_>) -> Result<Option<Vec<u8>>,
     }
 }
 
-/// The end: a digest, whatever it is, and nothing behind it.
+/// Parses the end: a digest, which isn't checked here, and nothing after it.
 fn read_end(reader: &mut Reader<'_>) -> Option<()> {
     end_array(reader)?;
     let _digest = text_of(reader, "sha256")?;
@@ -140,7 +141,7 @@ fn read_end(reader: &mut Reader<'_>) -> Option<()> {
     }
 }
 
-/// The text under this key.
+/// The text of this key.
 fn text_of<'a>(reader: &mut Reader<'a>, name: &str) -> Option<&'a str> {
     key(reader, name)?;
     match reader.next() {
@@ -149,7 +150,7 @@ fn text_of<'a>(reader: &mut Reader<'a>, name: &str) -> Option<&'a str> {
     }
 }
 
-/// The number under this key.
+/// The number of this key.
 fn number_of(reader: &mut Reader<'_>, name: &str) -> Option<u64> {
     key(reader, name)?;
     match reader.next() {

@@ -1,4 +1,4 @@
-//! Reads a dump.
+//! Reads dumps.
 ghost use Rattle.std.specs.Prelude.{◌≡◌, ◌↔◌, IfOk, IsTrue, string_bytes};
 ghost use Rattle.snap_dump.specs.Document.{AreServable, dump_text};
 
@@ -8,23 +8,23 @@ use crate::text::document;
 use snap_frame::SegmentValue;
 use std::alloc::{AllocError, Global};
 
-/// What a dump says.
+/// The contents of a dump.
 #[derive(Debug, Drop)]
 pub struct Dump {
-    /// When its values were there, as whoever wrote it told.
+    /// When its values were current, as its writer stated.
     pub time: String,
     /// The number and value of each segment, in order: 1 to 16.
     pub values: Vec<SegmentValue>,
 }
 
-/// The dump that a text is: each of its bytes is as [`document`] writes it, and its values are within the limits of a
-/// server's.
+/// Parses a dump. It accepts a text only if [`document`] writes each of its bytes so, and its
+/// values are within the limits of a server.
 ///
-/// A text that is none is refused by what is most wrong with it: [`DumpFault::NoDump`] or
-/// [`DumpFault::OtherVersion`] by its beginning, [`DumpFault::CutOff`] by its end, [`DumpFault::Changed`] by its
-/// digest, and else [`DumpFault::Foreign`].
+/// The fault of any other text is [`DumpFault::NoDump`] or [`DumpFault::OtherVersion`] by its
+/// beginning, else [`DumpFault::CutOff`] by its end, else [`DumpFault::Changed`] by its digest, and
+/// else [`DumpFault::Foreign`]. [`DumpFault::NoMemory`] says nothing of the text.
 pub fn read(alloc: Global, text: &[u8]) -> Result<Dump, DumpFault>
-    // It is written so, and a server can have its values.
+    // The text is exactly that of the dump, and a server can have its values.
     ensures is { IfOk result (λ d. text.now ≡ dump_text (string_bytes d.time) d.values.items) }
     ensures servable { IfOk result (λ d. AreServable d.values.items) }
 {
@@ -38,7 +38,7 @@ pub fn read(alloc: Global, text: &[u8]) -> Result<Dump, DumpFault>
     }
 }
 
-/// The text is that of the dump, to the byte.
+/// Whether the text is that of the dump, to the byte.
 fn is_text_of(alloc: Global, text: &[u8], dump: &Dump) -> Result<bool, AllocError>
     ensures { IfOk result (λ same. IsTrue same
         ↔ (text.now ≡ dump_text (string_bytes dump.now.time) dump.now.values.items)) }

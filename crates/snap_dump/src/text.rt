@@ -1,4 +1,4 @@
-//! Writes a dump.
+//! Writes dumps.
 ghost use Rattle.std.specs.Prelude.{◌≡◌, ◌++◌, ◌∷◌, [], IfOk, OnOk};
 ghost use Rattle.json.specs.Print.{print};
 ghost use Rattle.snap_json.specs.Each.{each_from};
@@ -11,11 +11,11 @@ use snap_frame::SegmentValue;
 use snap_json::append_value;
 use std::alloc::{AllocError, Global};
 
-/// The version of the format that is written, and the only one that is read.
+/// The version that is written.
 const VERSION: u64 = 1;
 
-/// The dump of these values, one for each segment in order, that were there at this time: any text, which nobody
-/// reads again. An error is want of memory.
+/// The dump of these values, one for each segment in order. `time` says when they were current; it
+/// may be any text, which is never parsed. Fails only if memory runs out.
 pub fn document(alloc: Global, time: &str, values: &[SegmentValue]) -> Result<Vec<u8>, AllocError>
     ensures { IfOk result (λ text. text.items ≡ dump_text time.now values.now) }
 {
@@ -24,7 +24,7 @@ pub fn document(alloc: Global, time: &str, values: &[SegmentValue]) -> Result<Ve
     sealed(alloc, text)
 }
 
-/// The first line, without its end.
+/// The first line, without its line feed.
 fn head(alloc: Global, time: &str, count: usize) -> Result<Vec<u8>, AllocError>
     ensures { IfOk result (λ text. text.items ≡ print (head_tokens time.now count)) }
 {
@@ -36,7 +36,7 @@ fn head(alloc: Global, time: &str, count: usize) -> Result<Vec<u8>, AllocError>
     Ok(writer.into_inner())
 }
 
-/// Writes which format it is.
+/// Writes the name and version of the format.
 fn put_format(writer: &mut Writer) -> Result<(), AllocError>
     ensures tokens { OnOk result (writer.new.tokens ≡ writer.old.tokens ++ format_tokens) }
     ensures before { writer.new.before ≡ writer.old.before }
@@ -69,7 +69,7 @@ fn put_count(writer: &mut Writer, count: usize) -> Result<(), AllocError>
     writer.begin_array()
 }
 
-/// The text with a line for each segment behind it, and the end of the last one.
+/// Appends a line for each segment, and the line feed of the last one.
 fn with_values(
     alloc: Global,
     mut text: Vec<u8>,
@@ -85,7 +85,7 @@ fn with_values(
     Ok(text)
 }
 
-/// The text with the line of a segment behind it, without its end.
+/// Appends the line of a segment, without its line feed.
 fn with_value(
     alloc: Global,
     mut text: Vec<u8>,
@@ -99,7 +99,7 @@ fn with_value(
     append_value(alloc, text, index, value.number, value.value.as_slice())
 }
 
-/// Ends the line before that of a segment, where one is before it, with a comma.
+/// Appends the comma that ends the line before this segment's, if that is a segment's too.
 fn push_comma(text: &mut Vec<u8>, index: usize) -> Result<(), AllocError>
     ensures { OnOk result (text.new.items ≡ text.old.items ++ comma_before index) }
 {
@@ -109,7 +109,7 @@ fn push_comma(text: &mut Vec<u8>, index: usize) -> Result<(), AllocError>
     Ok(())
 }
 
-/// The lines with the last one behind them, which has their digest.
+/// Appends the last line, which has the digest of the lines before it.
 fn sealed(alloc: Global, lines: Vec<u8>) -> Result<Vec<u8>, AllocError>
     ensures { IfOk result (λ text. text.items ≡ lines.items ++ last_line lines.items) }
 {

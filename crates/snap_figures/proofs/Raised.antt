@@ -15,7 +15,7 @@ index-raised_each (x ∷ xs) [] k same low = absurd (omega arith)
 index-raised_each (x ∷ xs) (y ∷ ys) zero same low = refl
 index-raised_each (x ∷ xs) (y ∷ ys) (suc k) same low = index-raised_each xs ys k (omega arith) (omega arith)
 
--- the numbers that have at each place what the two have there together
+-- a list that has at each place the sum of the two
 pub raised_each_is : (xs ys zs : List ℕ) → length ys ≡ length xs → length zs ≡ length xs
     → ((k : ℕ) → k < length xs → get_or zs k 0 ≡ raised (get_or xs k 0) (get_or ys k 0))
     → zs ≡ raised_each xs ys

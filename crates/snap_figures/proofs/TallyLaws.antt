@@ -1,4 +1,4 @@
--- The tally of a list of answered requests has of each number what the list has of it.
+-- The tally of a list of answered requests has the list's count in each number.
 use Rattle.std.proofs.Common.{◌≡◌, ℕ, if◌then◌else◌, ◌+◌, ◌-◌, ◌<◌, ◌≤◌, ◌==◌, List, [], ◌∷◌, length, fold, slice_index, length-set, refl, ◌∙◌, ap, arith, lit≤, ⊎_elim}
 use Rattle.std.proofs.lemmas.Bool.{cases_eq, eq-eqb, ne_eqb}
 use Rattle.std.proofs.lemmas.List.{get_or-set_same, get_or-set_other, get_or-replicate}
@@ -32,7 +32,7 @@ raised_by_none n a is = grind arith
 HasPlaces : Tally → Type 0
 HasPlaces t = length t.refusals ≡ 17
 
--- what a request does to a tally
+-- how a request changes a tally
 record ByRequest (t new : Tally) (q : Request) : Type 0 where
   updates : (a : ℕ) → t.updates ≡ raised 0 a → new.updates ≡ raised t.updates (if is_update q then 1 else 0)
   scans : (a : ℕ) → t.scans ≡ raised 0 a → new.scans ≡ raised t.scans (if is_scan q then 1 else 0)
@@ -85,7 +85,7 @@ by_request t (Part set) = record {
   bytes_out = refl;
 }
 
--- what a reply leaves of a tally
+-- how a reply leaves the counts of requests
 record KeptByReply (t new : Tally) : Type 0 where
   updates : new.updates ≡ t.updates
   scans : new.scans ≡ t.scans
@@ -144,7 +144,7 @@ above_none = elim [
   | Worn ↦ lit≤ tt
 ]
 
--- the place of one number was raised, and is that of another one or not
+-- raising the place of one number raises the count of another one only if they are equal
 raised_place : (xs : List ℕ) (number code a : ℕ) → length xs ≡ 17 → 1 ≤ number → 1 ≤ code → code ≤ 17
     → slice_index xs (code - 1) ≡ raised 0 a
     → slice_index (raised_at xs (number - 1)) (code - 1)
@@ -184,7 +184,7 @@ unfolding HasPlaces
 places_by_step t x has =
     places_by_reply (asked t x) x.1.reply (places_by_request t x.0 has)
 
--- a number of tallies that grows by f of each request
+-- a number of tallies that grows by `f` of each request
 module _ (part : Tally → ℕ) (f : Answered → ℕ)
     (grows : (t : Tally) (x : Answered) (a : ℕ) → HasPlaces t → part t ≡ raised 0 a
     → part (step t x) ≡ raised (part t) (f x)) where

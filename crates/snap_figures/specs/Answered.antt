@@ -1,4 +1,4 @@
--- What a service that counts has answered.
+-- The answers of a service that counts them.
 use Rattle.std.specs.Prelude.{◌≡◌, ℕ, ◌-◌, ◌≤◌, ◌==◌, Bool, true, false, List, [], ◌∷◌, ◌++◌, fold, length, count_by, sum_by, slice_index}
 use Rattle.snap_disk.specs.Refusal.{code_of}
 use Rattle.snap_frame.specs.declared.request.Request.{Request}
@@ -12,16 +12,16 @@ use Rattle.snap_figures.specs.declared.reading.TheConstants.{REFUSALS}
 use Rattle.snap_figures.specs.Numbers.{raised}
 use Rattle.snap_figures.specs.Tallies.{nothing, counted}
 
--- the service, and all requests that it answered, in order, each with its answer
+-- the inner service, and all requests that it answered, in order, each with its answer
 pub record CountedState (S : Type 0) : Type 0 where
   pub service : S
   pub answered : List (Request × CountedAnswer)
 
--- the tally of all of them: each is counted once
+-- the tally of all answers: each is counted once
 abbrev pub tally_of : List (Request × CountedAnswer) → Tally
 tally_of answered = fold (λ t x. counted t x.0 x.1.reply x.1.looks) nothing answered
 
--- which requests are of which kind
+-- the request is an update; a scan of all segments; a scan of some segments; a status
 abbrev pub is_update : Request → Bool
 is_update (Update segment number value) = true
 is_update _ = false
@@ -38,13 +38,13 @@ abbrev pub is_status : Request → Bool
 is_status Status = true
 is_status _ = false
 
--- the reply is a refusal of this number
+-- the reply is a refusal with this number
 abbrev pub is_refusal : ℕ → Reply → Bool
 is_refusal code (Refused why detail) = code_of why == code
 is_refusal code _ = false
 
--- A tally says of all that was answered how many requests were of each kind, how many were refused by each number, how many looks
--- they took together, and how many bytes their frames and those of their replies have together; each number at most the largest.
+-- A tally has the number of answered requests of each kind, of refusals with each number, of looks,
+-- and of the bytes of all requests' and replies' frames; each at most 2^64 - 1.
 pub record IsTallyOf (answered : List (Request × CountedAnswer)) (t : Tally) : Type 0 where
   pub updates : t.updates ≡ raised 0 (count_by (λ x. is_update x.0) answered)
   pub scans : t.scans ≡ raised 0 (count_by (λ x. is_scan x.0) answered)
@@ -56,8 +56,8 @@ pub record IsTallyOf (answered : List (Request × CountedAnswer)) (t : Tally) : 
   pub bytes_in : t.bytes_in ≡ raised 0 (sum_by (λ x. length (frame (payload x.0))) answered)
   pub bytes_out : t.bytes_out ≡ raised 0 (sum_by (λ x. length (frame (says x.1.reply))) answered)
 
--- A request was answered by this reply: the service did that, and behind all that was answered before stands the request with the
--- reply and the looks that the service took for it.
+-- A request was answered by this reply: the inner service did that, and the list has grown by the
+-- request with the reply and the looks that the service took for it.
 abbrev pub HasAnswered : {S : Type 0} → (S → ℕ) → (S → Request → Reply → S → Type 0) → CountedState S
     → Request → Reply → CountedState S → Type 0
 HasAnswered looks gives old q r new = gives old.service q r new.service

@@ -1,4 +1,4 @@
--- The bounds that times are sorted by, in nanoseconds.
+-- The bounds of a histogram, in nanoseconds.
 use Rattle.std.specs.Prelude.{ℕ, ◌*◌, ◌^◌, ◌<◌, ◌≤◌}
 use Rattle.snap_figures.specs.declared.reading.TheConstants.{BOUNDS, FIRST_BOUND}
 
@@ -6,7 +6,7 @@ use Rattle.snap_figures.specs.declared.reading.TheConstants.{BOUNDS, FIRST_BOUND
 abbrev pub bound_at : ℕ → ℕ
 bound_at place = FIRST_BOUND * 1000 * 2 ^ place
 
--- the place of a time: the first whose bound is no less, or the last place where each bound is less
+-- the place of a time: the first whose bound isn't smaller, or the last place if each bound is
 pub record IsPlaceOf (nanoseconds place : ℕ) : Type 0 where
   pub there : place ≤ BOUNDS
   pub no_less : place < BOUNDS → nanoseconds ≤ bound_at place

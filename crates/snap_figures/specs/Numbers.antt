@@ -1,7 +1,7 @@
--- Numbers that grow, and stay where they are at the largest.
+-- Numbers that grow up to 2^64 - 1.
 use Rattle.std.specs.Prelude.{ℕ, ◌+◌, ◌-◌, ◌^◌, min, List, [], ◌∷◌, slice_index, slice_set}
 
--- so many more, and no more at the largest number
+-- `n` with `more` added, at most 2^64 - 1
 abbrev pub raised : ℕ → ℕ → ℕ
 raised n more = min (n + more) (2 ^ 64 - 1)
 

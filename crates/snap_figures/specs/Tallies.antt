@@ -1,4 +1,4 @@
--- What one answered request adds to a tally.
+-- Counting one answered request in a tally.
 use Rattle.std.specs.Prelude.{ℕ, ◌-◌, length, replicate}
 use Rattle.snap_disk.specs.Refusal.{code_of}
 use Rattle.snap_frame.specs.declared.request.Request.{Request}
@@ -11,7 +11,7 @@ use Rattle.snap_figures.specs.declared.reading.Tally.{Tally}
 use Rattle.snap_figures.specs.declared.reading.TheConstants.{REFUSALS}
 use Rattle.snap_figures.specs.Numbers.{raised, raised_at, raised_each}
 
--- nothing was counted
+-- the empty tally
 abbrev pub nothing : Tally
 nothing = record {
   updates = 0;
@@ -32,7 +32,7 @@ with_request t Scan = record t { scans = raised t.scans 1 }
 with_request t Status = record t { statuses = raised t.statuses 1 }
 with_request t (Part set) = record t { parts = raised t.parts 1 }
 
--- one more refusal of its number, where the reply is one
+-- one more refusal of its number, if the reply is one
 abbrev pub with_reply : Tally → Reply → Tally
 with_reply t (Stored number) = t
 with_reply t (Snapshot values) = t
@@ -54,7 +54,7 @@ with_sizes t q r looks = record t {
 abbrev pub counted : Tally → Request → Reply → ℕ → Tally
 counted t q r looks = with_sizes (with_reply (with_request t q) r) q r looks
 
--- what two tallies have counted
+-- the sum of two tallies
 abbrev pub together : Tally → Tally → Tally
 together a b = record {
   updates = raised a.updates b.updates;

@@ -11,19 +11,19 @@ use snap_frame::{Reply, Request};
 use snap_session::Service;
 use std::marker::Model;
 
-/// What a request was answered.
+/// The answer to one request.
 #[derive(Debug, Drop)]
 pub struct CountedAnswer {
     pub reply: Reply,
-    /// The looks at registers that the service took for it.
+    /// How many looks at registers the service took for it.
     pub looks: u64,
 }
 
-/// A service that counts what it answers, and shows that. Its replies are the service's.
+/// A service that counts what it answers and publishes the counts. Its replies are the inner service's.
 ///
-/// A clause sees the service, and all requests that it answered, in order, each with its reply and its looks. Its tally is always
-/// what counting that whole list gives, from nothing on: so no request is missed, none is counted twice, and no number falls. A
-/// request that was handed over stands in the list once it was answered.
+/// Models the inner service and the list of all requests that it answered, in order, each with its reply
+/// and its looks. The tally always equals the count of that whole list: no request is missed or counted
+/// twice, and no number falls. A request that was handed over enters the list once it is answered.
 #[derive(Drop)]
 pub struct Counted<'a, S: Drop> {
     service: S,
@@ -46,7 +46,8 @@ impl<'a, S: Drop> Model for Counted<'a, S> {
 impl<'a, S: Drop> Counted<'a, S> {
     ghost use Rattle.snap_figures.specs.Answered.{tally_of, IsTallyOf};
 
-    /// This service, which has answered nothing yet. What it answers is shown here, where nobody else shows anything.
+    /// Wraps `service`, with an empty list of answers. The counts are published in `figures`, to
+    /// which nothing else publishes.
     pub fn new(service: S, figures: &'a WorkerFigures) -> Counted<'a, S>
         ensures service { result.service ≡ service }
         ensures answered { result.answered ≡ [] }
@@ -59,7 +60,7 @@ impl<'a, S: Drop> Counted<'a, S> {
         }
     }
 
-    /// What it has counted: the tally of all that it answered.
+    /// The tally of all that the service answered.
     #[tactic(auto, using(crate::proofs::TallyLaws::is_tally_of))]
     pub fn tally(&self) -> Tally
         ensures one_by_one { result ≡ tally_of self.now.answered }
@@ -68,7 +69,7 @@ impl<'a, S: Drop> Counted<'a, S> {
         self.tally
     }
 
-    /// The service, as it is.
+    /// The inner service, unchanged.
     pub fn into_service(self) -> S
         ensures { result ≡ self.entry.service }
     {
@@ -77,7 +78,7 @@ impl<'a, S: Drop> Counted<'a, S> {
 }
 
 impl<S: Service + Looking + Drop> Counted<'_, S> {
-    /// Counts a request that the service answered, which had so many looks before it.
+    /// Counts a request that the service answered; before it, `looks_before` looks were left.
     fn count(&mut self, request: &Request, reply: Reply, looks_before: u64) -> Reply
         requires limits { IsInLimits reply }
         ensures reply { result ≡ reply }

@@ -1,11 +1,10 @@
-//! One number that one thread counts.
+//! A counter with one writer.
 use std::sync::atomic::{AtomicU64, Ordering};
 
-/// A number that one thread counts and any thread reads, at any time and without a lock. It begins at 0, and stays where it is
-/// once it is 2^64 - 1.
+/// A saturating 64-bit counter with one writer and any number of lock-free readers. It begins at 0.
 ///
-/// One thread alone may write it: of two that write at the same time one's count can be lost. Which number it holds no contract
-/// can say.
+/// Only one thread may write it: of two concurrent writes one can be lost. No contract says which
+/// number it holds.
 #[derive(Drop)]
 pub struct Counter {
     number: AtomicU64,
@@ -19,22 +18,22 @@ impl Counter {
         }
     }
 
-    /// Counts so many more.
+    /// Adds `more`, up to 2^64 - 1.
     pub fn add(&self, more: u64) {
         self.set(self.get().saturating_add(more));
     }
 
-    /// From now on it has this number.
+    /// Sets the number.
     pub fn set(&self, number: u64) {
         self.number.store(number, Ordering::SeqCst);
     }
 
-    /// Its number at some moment of this call.
+    /// The number at some moment of this call.
     pub fn get(&self) -> u64 {
         self.number.load(Ordering::SeqCst)
     }
 
-    /// Counts as many more as another number has grown, from `before` to `now`. Where it hasn't, nothing is written.
+    /// Adds the growth of another number, from `before` to `now`. Writes nothing if it hasn't grown.
     pub(crate) fn follow(&self, before: u64, now: u64) {
         if now != before {
             self.add(now.saturating_sub(before));
@@ -42,7 +41,7 @@ impl Counter {
     }
 }
 
-/// The numbers of these counters, each at some moment of this call.
+/// Reads each counter, at some moment of this call.
 pub(crate) fn read_each<const N: usize>(counters: &[Counter; N]) -> [u64; N] {
     let mut numbers = [0; N];
     for (number, counter) in numbers.iter_mut().zip(counters) {

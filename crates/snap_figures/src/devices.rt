@@ -1,4 +1,4 @@
-//! All devices of a server, timed.
+//! Times all devices of a server.
 ghost use Rattle.std.specs.Prelude.{◌≡◌, ◌≤◌, IfOk, length};
 
 use crate::figures::Figures;
@@ -7,7 +7,8 @@ use snap_disk::Disk;
 use std::alloc::{AllocError, Global};
 use std::rt::Clock;
 
-/// Each device of a server, in order of segment, which from now on counts in the figures of its segment how long stores on it take.
+/// Wraps each device, in order of segment, so that the times of its stores are counted in its
+/// segment's figures.
 pub fn time_all<'f, D: Disk + Drop, R: Clock + Copy>(
     alloc: Global,
     devices: Vec<D>,

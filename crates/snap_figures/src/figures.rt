@@ -1,4 +1,4 @@
-//! All that a server counts.
+//! All metrics of a server.
 ghost use Rattle.std.specs.Prelude.{◌≡◌, ◌<◌, IfOk, length};
 ghost use Rattle.snap_figures.specs.Places.{IsWithinAccepted};
 
@@ -9,8 +9,8 @@ use std::alloc::{AllocError, Global};
 use std::marker::Model;
 use std::sync::atomic::{AtomicU64, Ordering};
 
-/// What a server counts. Each worker and each thread that stores has its own part, and any thread reads all of it, at any time and
-/// without a lock. A clause sees how many workers and how many segments there are.
+/// The metrics of a server. Each worker and each storer thread has its own part, and any thread reads
+/// all of them at any time, without a lock. Models how many workers and how many segments there are.
 #[derive(Drop)]
 pub struct Figures {
     workers: Vec<WorkerFigures>,
@@ -29,7 +29,7 @@ impl Model for Figures {
 }
 
 impl Figures {
-    /// Figures for so many workers and segments, of which nothing was counted yet.
+    /// Metrics for `workers` workers and `segments` segments, with nothing counted yet.
     pub fn new(alloc: Global, workers: usize, segments: usize) -> Result<Figures, AllocError>
         ensures workers { IfOk result (λ f. f.workers ≡ workers) }
         ensures segments { IfOk result (λ f. f.segments ≡ segments) }
@@ -56,38 +56,39 @@ impl Figures {
         self.segments.len()
     }
 
-    /// What this worker shows.
+    /// The published counts of one worker.
     pub fn worker(&self, worker: usize) -> &WorkerFigures
         requires { worker < self.now.workers }
     {
         &self.workers[worker]
     }
 
-    /// What is counted of this segment.
+    /// The metrics of one segment.
     pub fn segment(&self, segment: usize) -> &SegmentFigures
         requires { segment < self.now.segments }
     {
         &self.segments[segment]
     }
 
-    /// A connection was accepted. Any thread may call this.
+    /// Counts an accepted connection. Any thread may call this.
     pub fn accept(&self) {
         self.accepted.fetch_add(1, Ordering::SeqCst);
     }
 
-    /// A connection that was accepted is closed. Any thread may call this.
+    /// Counts a close of an accepted connection. Any thread may call this.
     pub fn end(&self) {
         self.ended.fetch_add(1, Ordering::SeqCst);
     }
 
-    /// All that was counted, each number as it was at some moment of this call. It waits for nobody, and nobody waits for it.
+    /// Reads all metrics, each number as it was at some moment of this call. Neither the reader nor
+    /// a writer waits.
     pub fn read(&self, alloc: Global) -> Result<Reading, AllocError>
         ensures segments { IfOk result (λ r. length r.segments.items ≡ self.now.segments) }
         ensures connections { IfOk result IsWithinAccepted }
     {
         let requests = read_workers(&self.workers);
         let segments = read_segments(alloc, &self.segments)?;
-        // so that no connection has ended that wasn't accepted
+        // read first, so that it is at most `accepted`
         let ended = self.ended.load(Ordering::SeqCst);
         let accepted = self.accepted.load(Ordering::SeqCst);
         Ok(Reading {
@@ -119,7 +120,7 @@ fn new_segments(alloc: Global, count: usize) -> Result<Vec<SegmentFigures>, Allo
     Ok(segments)
 }
 
-/// What all workers have counted together.
+/// The sum of all workers' counts.
 fn read_workers(workers: &[WorkerFigures]) -> Tally {
     let mut together = Tally::new();
     for worker in workers {

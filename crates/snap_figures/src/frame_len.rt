@@ -1,14 +1,14 @@
-//! How many bytes frames have.
+//! The lengths of frames.
 ghost use Rattle.std.specs.Prelude.{◌≡◌, length};
 ghost use Rattle.snap_frame.specs.Messages.{frame, payload, says, IsInLimits};
 
 use crate::list::entries_len;
 use snap_frame::{Reply, Request};
 
-/// The bytes of the length that stands before a payload.
+/// The length of the prefix that has a payload's length, in bytes.
 const LENGTH_LEN: u64 = 4;
 
-/// How many bytes the frame of a request has, with its length.
+/// The length of a request's frame with its prefix, in bytes.
 pub fn request_frame_len(request: &Request) -> u64
     ensures { result ≡ length (frame (payload request.now)) }
 {
@@ -20,7 +20,7 @@ pub fn request_frame_len(request: &Request) -> u64
     LENGTH_LEN + payload_len
 }
 
-/// How many bytes the frame of a reply has, with its length.
+/// The length of a reply's frame with its prefix, in bytes.
 pub fn reply_frame_len(reply: &Reply) -> u64
     requires { IsInLimits reply.now }
     ensures { result ≡ length (frame (says reply.now)) }

@@ -1,4 +1,4 @@
-//! How long something takes, sorted by bounds.
+//! Histograms of times.
 ghost use Rattle.std.specs.Prelude.{◌≡◌, ◌-◌, ◌^◌, min};
 ghost use Rattle.std.specs.Duration.{as_nanos};
 ghost use Rattle.snap_figures.specs.Bounds.{IsPlaceOf, bound_at};
@@ -11,7 +11,7 @@ use std::time::Duration;
 /// The first bound in nanoseconds.
 const FIRST_BOUND_NANOS: u64 = FIRST_BOUND * 1_000;
 
-/// A time in nanoseconds; 2^64 - 1 where it is more, which is above 584 years.
+/// A duration in nanoseconds, at most 2^64 - 1, which is above 584 years.
 pub fn nanoseconds_of(took: Duration) -> u64
     ensures { result ≡ min (as_nanos took) (2 ^ 64 - 1) }
 {
@@ -20,8 +20,8 @@ pub fn nanoseconds_of(took: Duration) -> u64
         .saturating_add(u64::from(took.subsec_nanos()))
 }
 
-/// The place of a [`Distribution`] that counts a time of so many nanoseconds: that of the first bound that is no less, or
-/// [`BOUNDS`] where each bound is less.
+/// The bucket of a [`Distribution`] that counts a time in nanoseconds: the first one whose bound
+/// isn't smaller, or [`BOUNDS`] if each bound is.
 pub fn place_of(nanoseconds: u64) -> usize
     ensures { IsPlaceOf nanoseconds result }
 {
@@ -35,8 +35,7 @@ pub fn place_of(nanoseconds: u64) -> usize
     BOUNDS
 }
 
-/// How long something took, each time that it was done: what one thread counts and any thread reads, at any time and without a
-/// lock. As at a [`Counter`], one thread alone may write it.
+/// A histogram of times with one writer, as at [`Counter`], and any number of lock-free readers.
 #[derive(Drop)]
 pub struct Histogram {
     counts: [Counter; BOUNDS + 1],
@@ -44,7 +43,7 @@ pub struct Histogram {
 }
 
 impl Histogram {
-    /// Nothing was done yet.
+    /// An empty histogram.
     pub fn new() -> Histogram {
         Histogram {
             counts: array::from_fn(|_| Counter::new()),
@@ -52,14 +51,14 @@ impl Histogram {
         }
     }
 
-    /// It was done once, and took so long.
+    /// Counts one time.
     pub fn observe(&self, took: Duration) {
         let nanoseconds = nanoseconds_of(took);
         self.counts[place_of(nanoseconds)].add(1);
         self.total.add(nanoseconds);
     }
 
-    /// All that was counted, each number as it was at some moment of this call.
+    /// Reads all counts, each as it was at some moment of this call.
     pub fn read(&self) -> Distribution {
         Distribution {
             counts: read_each(&self.counts),

@@ -1,10 +1,10 @@
-//! Figures of a running server: what its workers and the threads that store count, each by itself, and what somebody else
-//! reads of that without a lock.
+//! Metrics of a running server: each worker and each storer thread counts for itself, and any
+//! thread reads without a lock.
 //!
-//! Each thread has numbers of its own: a worker has [`WorkerFigures`], which the [`Counted`] service round its desk writes, and a
-//! thread that stores has the [`SegmentFigures`] of its segment, which the [`Timed`] device of the segment's file writes. Nobody
-//! else writes them, so nobody waits for anybody. Who reads ([`Figures::read`]) finds each number as it was at some moment of the
-//! reading.
+//! A worker writes its [`WorkerFigures`], by the [`Counted`] service around its desk. A storer
+//! thread writes the [`SegmentFigures`] of its segment, by the [`Timed`] device of the segment's
+//! file. Each number has one writer, so no thread waits for another. A reader ([`Figures::read`])
+//! finds each number as it was at some moment of the call.
 #![tactic(auto)]
 
 mod counted;

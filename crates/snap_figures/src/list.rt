@@ -1,4 +1,4 @@
-//! The bytes of the entries that a reply lists.
+//! The lengths of the lists in replies.
 ghost use Rattle.std.specs.Prelude.{◌≡◌, ◌+◌, ◌*◌, ◌≤◌, ℕ, List, length, flat_map, All};
 ghost use Rattle.snap_frame.specs.Messages.{max_payload, longest_entry};
 
@@ -6,10 +6,10 @@ use snap_frame::{NamedValue, SegmentStatus, SegmentValue};
 
 /// An entry of a list.
 pub(crate) trait Entry {
-    /// Its bytes.
+    /// Its bytes in the frame.
     ghost bytes: { Self → List ℕ };
 
-    /// Whether it may stand in a reply.
+    /// Whether a reply may have this entry.
     ghost may_stand: { Self → Type 0 };
 
     /// How many bytes it has.
@@ -55,7 +55,7 @@ impl Entry for NamedValue {
     }
 }
 
-/// How many bytes the entries have together.
+/// How many bytes all entries have together.
 pub(crate) fn entries_len<E: Entry>(entries: &[E]) -> usize
     requires few { longest_entry * length entries.now + 2 ≤ max_payload }
     requires each { All E.may_stand entries.now }

@@ -1,10 +1,10 @@
-//! Lists that exist in proofs alone.
+//! Lists that exist only in proofs.
 ghost use Rattle.std.specs.Prelude.{◌≡◌, List, [], ◌∷◌, ◌++◌};
 ghost use Rattle.std.specs.Borrow.{ftrue};
 
 use std::marker::{Model, PhantomData};
 
-/// A list of pairs that no code reads: what happened, for contracts to speak of. It takes no memory.
+/// A list of pairs for contracts, which no code reads: what happened so far. It takes no memory.
 #[derive(Drop)]
 pub(crate) struct Log<A, B> {
     of: PhantomData<(A, B)>,
@@ -26,7 +26,7 @@ impl<A, B> Log<A, B> {
         Log { of: PhantomData }
     }
 
-    /// The pairs that it had, and then this one.
+    /// This list with one more pair at the end.
     pub(crate) fn and(&self, _first: &A, _second: &B) -> Log<A, B>
         ensures { result.items ≡ self.now.items ++ (_first.now, _second.now) ∷ [] }
     {

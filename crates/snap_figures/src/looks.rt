@@ -1,7 +1,7 @@
 //! Services that take looks.
 ghost use Rattle.std.specs.Prelude.{◌≡◌, ℕ};
 
-/// What takes looks at registers, of which it has so many.
+/// A service with a limited number of looks at registers.
 pub trait Looking {
     /// How many looks it may still take.
     ghost looks: { Self → ℕ };

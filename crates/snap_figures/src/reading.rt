@@ -1,25 +1,27 @@
-//! What was counted, as plain numbers.
+//! Metrics that were read, as plain numbers.
 
-/// How many bounds the times are sorted by. The first is [`FIRST_BOUND`], and each further one twice the one before.
+/// How many bounds a histogram has. The first is [`FIRST_BOUND`], and each further one is twice the
+/// one before.
 pub const BOUNDS: usize = 21;
 
 /// The first bound, in microseconds.
 pub const FIRST_BOUND: u64 = 16;
 
-/// How many numbers refusals have: from 1 on.
+/// The largest number of a refusal. The numbers begin at 1.
 pub const REFUSALS: usize = 17;
 
-/// How long something took, each time that it was done.
+/// A histogram that was read.
 #[derive(Clone, Copy, Debug, PartialEq, Eq)]
 pub struct Distribution {
-    /// How many took longer than the bound before, and no longer than the bound of this place; at the last place how many
-    /// took longer than each bound.
+    /// At each place the number of times up to its bound and above the bound before; at the last
+    /// place the number above all bounds.
     pub counts: [u64; BOUNDS + 1],
-    /// How long they took together, in nanoseconds.
+    /// The sum of all times, in nanoseconds.
     pub total: u64,
 }
 
-/// What one worker answered, or all of them together. Each number stays where it is once it is 2^64 - 1.
+/// The counts of what one worker, or all workers together, answered. Each number stays at 2^64 - 1
+/// once it is there.
 #[derive(Clone, Copy, Debug, PartialEq, Eq)]
 pub struct Tally {
     /// Updates that were answered, with a number or with a refusal.
@@ -30,10 +32,11 @@ pub struct Tally {
     pub parts: u64,
     /// Statuses.
     pub statuses: u64,
-    /// Requests that were refused, by the number of the refusal: 1 at the first place. In what a worker shows, frames that a
-    /// session refused by itself are among them: those that are no request or are too large.
+    /// Refused requests, by the number of the refusal: number 1 is at place 0. A worker's published
+    /// counts also have the frames that its sessions refused without the service: those that are no
+    /// request or are too large.
     pub refusals: [u64; REFUSALS],
-    /// The looks at registers that scans took, of all segments or of some.
+    /// Looks at registers that scans took, of all segments or of some.
     pub looks: u64,
     /// The bytes of the frames of all requests that were answered.
     pub bytes_in: u64,
@@ -41,26 +44,26 @@ pub struct Tally {
     pub bytes_out: u64,
 }
 
-/// What was counted of one segment.
+/// The metrics of one segment that were read.
 #[derive(Clone, Copy, Debug, PartialEq, Eq)]
 pub struct SegmentReading {
-    /// Its stores, from the first call of the device to the end of the last.
+    /// Times of whole stores, from the first call of the device to the end of the last.
     pub stores: Distribution,
-    /// The first wait of each store for the device, for the value: its first sync.
+    /// Times of the first sync of each store, which makes the value durable.
     pub first_waits: Distribution,
-    /// The second wait of each store for the device, for the gate that says that the value holds: the write of that byte, and the
-    /// second sync.
+    /// Times from the end of the first sync to the end of the second: the write of the gate's byte,
+    /// and the second sync.
     pub second_waits: Distribution,
-    /// Updates that were answered with a number and needed no store: the segment held them already.
+    /// Updates that were acknowledged without a store, since the segment had the value already.
     pub repeats: u64,
-    /// When the last update was stored, in milliseconds since 1970; `None` where none was since the start.
+    /// When the last update was stored, in milliseconds since 1970; `None` if none was since the start.
     pub updated: Option<u64>,
 }
 
-/// What was counted of a server since its start.
+/// The metrics of a server since its start, as they were read.
 #[derive(Debug, Drop)]
 pub struct Reading {
-    /// The requests of all workers.
+    /// The sum of all workers' counts.
     pub requests: Tally,
     /// Each segment, in order.
     pub segments: Vec<SegmentReading>,

@@ -1,4 +1,4 @@
-//! What the thread that stores for a segment counts.
+//! The metrics of one segment.
 ghost use Rattle.std.specs.Prelude.{◌↔◌, IsTrue};
 ghost use Rattle.snap_figures.specs.Stages.{Took, IsRepeat};
 
@@ -9,7 +9,7 @@ use crate::reading::SegmentReading;
 use snap_disk::Refusal;
 use std::time::{Duration, Instant};
 
-/// How long it took from one time to another, where both were read; 0 where the second is before the first.
+/// The time between two moments if both were read; 0 if the second is before the first.
 fn took(from: Option<Instant>, until: Option<Instant>) -> Option<Duration>
     ensures { Took from until result }
 {
@@ -19,23 +19,24 @@ fn took(from: Option<Instant>, until: Option<Instant>) -> Option<Duration>
     }
 }
 
-/// Counts how long it took from one time to another, where both were read.
+/// Counts the time between two moments, if both were read.
 fn observe(times: &Histogram, from: Option<Instant>, until: Option<Instant>) {
     if let Some(took) = took(from, until) {
         times.observe(took);
     }
 }
 
-/// Whether an update that was told this was a repeat, where so many stores had been made before it, and so many have been made
-/// behind it: it was told a number, and nothing was stored.
+/// Whether an update with this result was a repeat: it was acknowledged, and no store was made for
+/// it. The numbers are the stores made before it and after it.
 fn is_repeat(told: Result<u64, Refusal>, before: u64, behind: u64) -> bool
     ensures { IsTrue result ↔ IsRepeat told before behind }
 {
     told.is_ok() && before == behind
 }
 
-/// What was counted of one segment, as any thread reads it at any time and without a lock. The thread that stores for the segment
-/// alone writes it: by the [`Timed`](crate::Timed) device of its file, and by [`settle`](SegmentFigures::settle).
+/// The metrics of one segment, with any number of lock-free readers. Only the segment's storer
+/// thread writes them: by the [`Timed`](crate::Timed) device of its file, and by
+/// [`settle`](SegmentFigures::settle).
 #[derive(Drop)]
 pub struct SegmentFigures {
     stores: Histogram,
@@ -43,14 +44,14 @@ pub struct SegmentFigures {
     second_waits: Histogram,
     /// How many stores were made.
     stored: Counter,
-    /// How many had been made when an update was settled last.
+    /// How many stores had been made at the last call of `settle`.
     settled: Counter,
     repeats: Counter,
     updated: Moment,
 }
 
 impl SegmentFigures {
-    /// Nothing was stored yet.
+    /// Metrics of a segment without a store yet.
     pub fn new() -> SegmentFigures {
         SegmentFigures {
             stores: Histogram::new(),
@@ -63,8 +64,9 @@ impl SegmentFigures {
         }
     }
 
-    /// An update of the segment was told this. To be called once for each, behind its store: where it was told a number and no store
-    /// was made on the [`Timed`](crate::Timed) device since the call before, it was a repeat.
+    /// Counts the result of an update. To be called once per update, after its store: the update
+    /// was a repeat if it was acknowledged and no store was made on the [`Timed`](crate::Timed)
+    /// device since the call before.
     pub fn settle(&self, told: Result<u64, Refusal>) {
         let stored = self.stored.get();
         if is_repeat(told, self.settled.get(), stored) {
@@ -73,12 +75,12 @@ impl SegmentFigures {
         self.settled.set(stored);
     }
 
-    /// A sync that made a store's value last took from this time to that one.
+    /// Counts the time of a store's first sync.
     pub(crate) fn first_wait(&self, from: Option<Instant>, until: Option<Instant>) {
         observe(&self.first_waits, from, until);
     }
 
-    /// A store was made, which began at this time, made its value last until that one, and ended at the third.
+    /// Counts a store: when it began, when its first sync ended, and when it ended.
     pub(crate) fn store(
         &self,
         began: Option<Instant>,
@@ -90,12 +92,12 @@ impl SegmentFigures {
         self.stored.add(1);
     }
 
-    /// The last store was made at this time of day, in milliseconds since the beginning of 1970.
+    /// Sets the time of day of the last store, in milliseconds since the beginning of 1970.
     pub(crate) fn update(&self, milliseconds: u64) {
         self.updated.set(milliseconds);
     }
 
-    /// All that was counted, each number as it was at some moment of this call.
+    /// Reads all numbers, each as it was at some moment of this call.
     pub fn read(&self) -> SegmentReading {
         SegmentReading {
             stores: self.stores.read(),

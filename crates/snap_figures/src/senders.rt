@@ -1,27 +1,28 @@
-//! What goes from thread to thread: shown here, where the types are, and not first where threads are started.
+//! Checks that these types may be sent to or shared with other threads, so that a mistake is found
+//! here and not first where threads are started.
 use crate::counted::Counted;
 use crate::figures::Figures;
 use crate::timed::Timed;
 use snap_disk::Disk;
 use std::rt::Clock;
 
-/// Of what any thread may read.
+/// Compiles only for a type that threads may share.
 fn is_read_by_any<T: Sync>(_value: &T) {}
 
-/// Of what may go to another thread.
+/// Compiles only for a type that may be sent to another thread.
 fn may_go<T: Send>(_value: &T) {}
 
-/// Any thread reads figures.
+/// Figures are shared by threads.
 pub(crate) fn figures_are_read(figures: &Figures) {
     is_read_by_any(figures);
 }
 
-/// A service that counts goes where the service may go.
+/// A counting service may be sent where its inner service may.
 pub(crate) fn counted_may_go<S: Send + Drop>(counted: &Counted<'_, S>) {
     may_go(counted);
 }
 
-/// A device that is timed goes where the device and the clock may go.
+/// A timed device may be sent where its device and its clock may.
 pub(crate) fn timed_may_go<D: Disk + Drop + Send, R: Clock + Copy + Send>(timed: &Timed<'_, D, R>) {
     may_go(timed);
 }

@@ -1,4 +1,4 @@
-//! How far a store has come, as its device sees it.
+//! The progress of a store, as its device sees it.
 ghost use Rattle.std.specs.Prelude.{◌≡◌, ◌/◌, ◌-◌, ◌^◌, min};
 ghost use Rattle.std.specs.Duration.{as_nanos};
 ghost use Rattle.snap_figures.specs.Stages.{GoesByWrite, GoesBySync};
@@ -7,29 +7,29 @@ use crate::segment::SegmentFigures;
 use std::rt::Clock;
 use std::time::{Duration, Instant};
 
-/// How far the store of a device has come: it writes its value and syncs, and writes its gate and syncs. A time is `None` where the
-/// clock couldn't be read.
+/// How far a store on a device has come: it writes its value and syncs, then writes its gate and
+/// syncs. A time is `None` if the clock couldn't be read.
 #[derive(Clone, Copy)]
 pub(crate) enum Stage {
-    /// No store has begun that didn't end or fail.
+    /// No store is under way.
     Resting,
-    /// The value is written.
+    /// The value is being written.
     Value {
         began: Option<Instant>,
     },
-    /// The value was synced, and the gate is written that says that it holds.
+    /// The value was synced, and the gate is being written.
     Gate {
         began: Option<Instant>,
         synced: Option<Instant>,
     },
 }
 
-/// The time now, where the clock can be read.
+/// The time now, or `None` if the clock can't be read.
 fn now<R: Clock>(clock: &R) -> Option<Instant> {
     Instant::now(clock).ok()
 }
 
-/// A time since the beginning of 1970 in milliseconds; 2^64 - 1 where it is more.
+/// A duration in milliseconds, at most 2^64 - 1.
 fn milliseconds_of(since_1970: Duration) -> u64
     ensures { result ≡ min (as_nanos since_1970 / 1_000_000) (2 ^ 64 - 1) }
 {
@@ -40,7 +40,7 @@ fn milliseconds_of(since_1970: Duration) -> u64
 }
 
 impl Stage {
-    /// The stage that a write comes to: a first one begins a store.
+    /// The stage after a write: the first write begins a store, and a further one changes nothing.
     pub(crate) fn at_write<R: Clock>(self, clock: &R) -> Stage
         ensures { GoesByWrite self result }
     {
@@ -50,7 +50,8 @@ impl Stage {
         }
     }
 
-    /// When a sync begins that makes a value last. No other one is timed from its beginning.
+    /// The time before a store's first sync; `None` before any other sync, which isn't timed from
+    /// its beginning.
     pub(crate) fn before_sync<R: Clock>(self, clock: &R) -> Option<Instant> {
         match self {
             Stage::Value { .. } => now(clock),
@@ -58,8 +59,9 @@ impl Stage {
         }
     }
 
-    /// The stage behind a sync that succeeded and began at `from`. The first of a store makes its value last, and the second ends
-    /// it. What they took is counted.
+    /// The stage after a sync that succeeded and began at `from`: a store's first sync makes its
+    /// value durable, and its second one ends the store. Counts their times, and at the end sets
+    /// the time of the last update.
     pub(crate) fn after_sync<R: Clock>(
         self,
         clock: &R,

@@ -1,4 +1,4 @@
-//! What one answered request adds to a tally.
+//! Counting one answered request in a tally.
 ghost use Rattle.std.specs.Prelude.{◌≡◌, ◌-◌};
 ghost use Rattle.snap_disk.specs.Refusal.{code_of};
 ghost use Rattle.snap_figures.specs.Numbers.{raised_at, raised_each};
@@ -9,7 +9,7 @@ use crate::reading::{REFUSALS, Tally};
 use snap_disk::Refusal;
 use snap_frame::{Reply, Request};
 
-/// One more refusal of this number.
+/// Counts one refusal.
 fn count_refusal(refusals: &mut [u64; REFUSALS], why: Refusal)
     ensures { refusals.new ≡ raised_at refusals.old (code_of why - 1) }
 {
@@ -17,7 +17,7 @@ fn count_refusal(refusals: &mut [u64; REFUSALS], why: Refusal)
     refusals[place] = refusals[place].saturating_add(1);
 }
 
-/// Each number of the others is added to the number at its place.
+/// Adds each of `others` to the number at its place.
 fn merge_numbers(numbers: &mut [u64; REFUSALS], others: &[u64; REFUSALS])
     ensures { numbers.new ≡ raised_each numbers.old others.now }
 {
@@ -29,7 +29,7 @@ fn merge_numbers(numbers: &mut [u64; REFUSALS], others: &[u64; REFUSALS])
 impl Tally {
     ghost use Rattle.snap_figures.specs.Tallies.{nothing, with_request, counted, together};
 
-    /// Nothing was counted.
+    /// An empty tally.
     pub fn new() -> Tally
         ensures { result ≡ nothing }
     {
@@ -45,8 +45,8 @@ impl Tally {
         }
     }
 
-    /// Counts a request that was answered by this reply, and by so many looks: one more of its kind, one more refusal where it was
-    /// refused, its looks, and the bytes of both frames. No other number changes.
+    /// Counts an answered request: its kind, its refusal if it was refused, its looks, and the
+    /// bytes of both frames. No other number changes.
     ///
     /// The reply's numbers, lengths and counts are within the limits of replies.
     pub fn count(&mut self, request: &Request, reply: &Reply, looks: u64)
@@ -62,7 +62,7 @@ impl Tally {
         self.bytes_out = self.bytes_out.saturating_add(reply_frame_len(reply));
     }
 
-    /// One more request of this kind.
+    /// Counts a request by its kind.
     fn count_kind(&mut self, request: &Request)
         ensures { self.new ≡ with_request self.old request.now }
     {
@@ -74,7 +74,7 @@ impl Tally {
         }
     }
 
-    /// Counts all that another tally has counted too.
+    /// Adds another tally to this one.
     pub fn merge(&mut self, other: &Tally)
         ensures { self.new ≡ together self.old other.now }
     {

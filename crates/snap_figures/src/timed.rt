@@ -7,12 +7,13 @@ use snap_disk::{DeviceFault, Disk};
 use std::marker::Model;
 use std::rt::Clock;
 
-/// A device that counts how long stores on it take. In all else it is the device that it was made of.
+/// A device that counts how long its stores take. In all else it is the inner device.
 ///
-/// A store writes and syncs, and writes and syncs again. It begins with its first write, and is made once its second sync has
-/// succeeded: then how long it took is counted, and that the segment was updated. Its first wait is the first sync, and its second
-/// wait what comes behind that, the write of one byte and the second sync. Where a call fails the store is over and isn't counted,
-/// and the next write begins one. Reads take no part. The clock is read four times a store; what lies between two times of which one
+/// A store writes and syncs twice. It begins with its first write, and ends when its second sync
+/// succeeds: then it is counted with its times, and the time of the segment's last update is set.
+/// Its first wait is the first sync; its second wait is the write of one byte after it and the
+/// second sync. If a call fails the store is over and isn't counted, and the next write begins a
+/// new one. Reads don't count. The clock is read four times per store; a span of which an end
 /// couldn't be read isn't counted.
 #[derive(Drop)]
 pub struct Timed<'a, D: Disk + Drop, R: Clock + Copy> {
@@ -29,7 +30,7 @@ impl<'a, D: Disk + Drop, R: Clock + Copy> Model for Timed<'a, D, R> {
 }
 
 impl<'a, D: Disk + Drop, R: Clock + Copy> Timed<'a, D, R> {
-    /// This device, between two stores. What its stores take is counted here.
+    /// Wraps `disk`, between two stores, and counts in `figures`.
     pub fn new(disk: D, clock: R, figures: &'a SegmentFigures) -> Timed<'a, D, R>
         ensures { result ≡ disk }
     {
@@ -41,7 +42,7 @@ impl<'a, D: Disk + Drop, R: Clock + Copy> Timed<'a, D, R> {
         }
     }
 
-    /// The device that it was made of, as it is.
+    /// The inner device, unchanged.
     pub fn into_disk(self) -> D
         ensures { result ≡ self.entry }
     {

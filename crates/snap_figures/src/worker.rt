@@ -1,4 +1,4 @@
-//! What one worker shows of its tally.
+//! The published counts of one worker.
 use crate::counter::{Counter, read_each};
 use crate::reading::{REFUSALS, Tally};
 use snap_disk::Refusal;
@@ -10,7 +10,7 @@ struct CacheLine {
     _words: [u64; 8],
 }
 
-/// What one worker answered, as any thread reads it at any time and without a lock. The worker alone writes it.
+/// The published counts of one worker, which only that worker writes and any thread reads without a lock.
 #[derive(Drop)]
 pub struct WorkerFigures {
     updates: Counter,
@@ -21,12 +21,12 @@ pub struct WorkerFigures {
     looks: Counter,
     bytes_in: Counter,
     bytes_out: Counter,
-    // so that no two workers, whose figures lie side by side, write to one line of the cache
+    // keeps the counts of two workers, which are neighbours, out of one cache line
     _gap: CacheLine,
 }
 
 impl WorkerFigures {
-    /// Nothing was answered yet.
+    /// Counts of a worker that has answered nothing yet.
     pub fn new() -> WorkerFigures {
         WorkerFigures {
             updates: Counter::new(),
@@ -41,7 +41,8 @@ impl WorkerFigures {
         }
     }
 
-    /// Shows a tally that was `before` when it was shown last, and is `now`. Only the numbers that differ are written.
+    /// Publishes the tally `now`; `before` is the one that was published last. Writes only the
+    /// numbers that differ.
     pub fn follow(&self, before: &Tally, now: &Tally) {
         self.updates.follow(before.updates, now.updates);
         self.scans.follow(before.scans, now.scans);
@@ -55,12 +56,13 @@ impl WorkerFigures {
         self.bytes_out.follow(before.bytes_out, now.bytes_out);
     }
 
-    /// Counts a frame that a session refused for this reason by itself.
+    /// Counts a frame that a session refused without the service.
     pub fn refuse(&self, why: Refusal) {
         self.refusals[usize::from(why.code()) - 1].add(1);
     }
 
-    /// The tally that was shown, with the frames that were refused, each number as it was at some moment of this call.
+    /// Reads the published tally, with the frames that sessions refused, each number as it was at
+    /// some moment of this call.
     pub fn read(&self) -> Tally {
         Tally {
             updates: self.updates.get(),

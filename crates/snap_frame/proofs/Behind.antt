@@ -1,4 +1,4 @@
--- Entries that stand one behind the other, and what may stand behind those that were read.
+-- Entries one after the other, and what may follow those that were read.
 use Rattle.std.proofs.Common.{◌≡◌, ℕ, ◌+◌, ◌<◌, ◌≤◌, Bool, true, false, List, [], ◌∷◌, ◌++◌, length, drop, flat_map, All, refl, sym}
 use Rattle.std.proofs.Common.{◌∙◌, ap, ap₂, arith, append_assoc, append-nil}
 use Rattle.std.specs.Int.{w32, to_be_bytes}
@@ -46,7 +46,7 @@ module _ {E : Type 0} (bytes : E → List ℕ) (MayStand : E → Type 0) where
         ∙ ap (λ xs. xs ++ tail) (sym (flat_map-append bytes es (e ∷ []))),
   )
 
-  -- where no entry stands behind those that were read, the bytes aren't more entries
+  -- if no entry follows those that were read, the bytes aren't more entries
   pub no_more : (es fs : List E) (rest : List ℕ) → Separate bytes MayStand → All MayStand es
       → All MayStand fs → length es < length fs
       → ((e : E) → (tail : List ℕ) → MayStand e → rest ≡ bytes e ++ tail → ⊥)
@@ -59,7 +59,7 @@ module _ {E : Type 0} (bytes : E → List ℕ) (MayStand : E → Type 0) where
         | d ∷ more ↦ λ each count is. none d (flat_map bytes more) (each 0 d (omega arith)) is
       ] left.each left.count left.is
 
-  -- nothing stands behind the last of them
+  -- nothing follows the last of them
   pub no_rest : (es fs : List E) (rest : List ℕ) → Separate bytes MayStand → All MayStand es
       → All MayStand fs → length es ≡ length fs → flat_map bytes es ++ rest ≡ flat_map bytes fs
       → rest ≡ []
@@ -71,7 +71,7 @@ module _ {E : Type 0} (bytes : E → List ℕ) (MayStand : E → Type 0) where
         | d ∷ more ↦ λ count is. absurd (omega (arith, count, same))
       ] left.count left.is
 
-  -- so many entries have no bytes of others
+  -- two lists of as many entries with the same bytes are equal
   pub same_entries : (es fs : List E) → Separate bytes MayStand → All MayStand es
       → All MayStand fs → length es ≡ length fs → flat_map bytes es ≡ flat_map bytes fs → es ≡ fs
   same_entries [] [] apart read any same e = refl
@@ -132,7 +132,7 @@ statuses_apart = record {
       (ap₂ status_of numbers.0 (same_fence d.is_fenced e.is_fenced fences), tails);
 }
 
--- three pieces were appended, one behind the other
+-- three pieces were appended, one after the other
 pub appended : (old a b c one two three : List ℕ) → one ≡ old ++ a → two ≡ one ++ b
     → three ≡ two ++ c → three ≡ old ++ (a ++ (b ++ c))
 appended old a b c one two three is_one is_two is_three =

@@ -36,11 +36,11 @@ two_again xs bytes long =
     be_bytes_2 (take 2 xs) _ (omega (arith, length-take 2 xs)) (bytes-take 2 xs bytes)
     (omega (arith, first_same 2 xs))
 
--- the first n bytes are those of a number, and the rest stands behind them
+-- the first n bytes are those of a number, and the rest follows
 pub front_is : (n : ℕ) (xs number : List ℕ) → number ≡ take n xs → xs ≡ number ++ drop n xs
 front_is n xs number is = sym (take-append-drop n xs) ∙ ap (λ zs. zs ++ drop n xs) (sym is)
 
--- the same bytes stand for one number
+-- equal bytes mean one number
 same_bytes : (w : Width) (m n : ℕ) → from_be_bytes w (to_be_bytes w m) ≡ m
     → from_be_bytes w (to_be_bytes w n) ≡ n → to_be_bytes w m ≡ to_be_bytes w n → m ≡ n
 same_bytes w m n one two e = sym one ∙ ap (from_be_bytes w) e ∙ two

@@ -1,4 +1,4 @@
--- What the codec's cuts mean for the bytes held.
+-- A cut of the codec, as a property of the bytes held.
 use Rattle.std.proofs.Common.{◌≡◌, ℕ, ◌+◌, ◌<◌, ◌≤◌, ◌^◌, List, ◌∷◌, ◌++◌, [], length, take, drop, Some, inl, inr, refl, sym, ◌∙◌, ap}
 use Rattle.std.proofs.Common.{subst, arith, append_assoc, length-append, length-take, length-drop, pos}
 use Rattle.std.specs.Int.{w32, to_be_bytes}
@@ -13,7 +13,7 @@ use Rattle.snap_frame.specs.Messages as messages
 use Rattle.snap_frame.specs.Stream.{HasFrame, HasLongLength, IsPartial, pending_in, StateFits, feed_layout, IsBytes}
 use Rattle.snap_frame.proofs.BigEndian.{bytes-take, same_length}
 
--- what a cut says of the bytes held
+-- the property of the bytes held
 abbrev pub Means : List ℕ → Cut → Type 0
 Means held (frame payload rest) = HasFrame held payload rest
 Means held too_big = HasLongLength held
@@ -21,7 +21,7 @@ Means held overflows = ⊥
 Means held (unfinished state kept) =
     (pending_in state kept ≡ held) × StateFits state × IsPartial held
 
--- no whole frame behind a length
+-- no whole frame after a length
 short_is_partial : (n : ℕ) (ys : List ℕ) → n ≤ messages.max_payload → length ys < n
     → IsPartial (to_be_bytes w32 n ++ ys)
 short_is_partial n ys fits short =
@@ -35,7 +35,7 @@ short_is_partial n ys fits short =
           absurd (omega (arith, same.0, long.2));
     }
 
--- a whole frame behind one
+-- a whole frame after one
 frame_first : (n : ℕ) (ys : List ℕ) → n ≤ messages.max_payload → n ≤ length ys
     → HasFrame (to_be_bytes w32 n ++ ys) (take n ys) (drop n ys)
 frame_first n ys fits whole =
@@ -93,8 +93,7 @@ first_four (a ∷ b ∷ c ∷ d ∷ xs) bytes long =
       omega (arith, each 0, each 1, each 2, each 3),
     )
 
--- with no whole frame first, and no length above the limit, fewer bytes are held than a frame may
--- have
+-- with no whole frame first, and no length above the limit, fewer bytes are held than a frame may have
 pub partial_is_short : (xs : List ℕ) → IsBytes xs → IsPartial xs
     → length xs < 4 + messages.max_payload
 partial_is_short xs bytes part =

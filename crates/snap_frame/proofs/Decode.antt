@@ -1,4 +1,4 @@
--- What `decode` says of the bytes held.
+-- The result of `decode`, as a property of the bytes held.
 use Rattle.std.proofs.Common.{◌≡◌, ◌≢◌, ℕ, ◌≤◌, List, ◌++◌, [], length, take, drop, replicate, Option, Some, None, IfNone, Ok, Err, inl}
 use Rattle.std.proofs.Common.{inr, refl, sym, ◌∙◌, ap, ap₂, subst, arith, append_assoc, length-append, length-take, pos}
 use Rattle.std.specs.Int.{w32, to_be_bytes}
@@ -92,7 +92,7 @@ pub record Finish (l : Layout) (s : DecodeState) (xs : List ℕ) : Type 0 where
   pub bytes : IsBytes more
   pub done : IsDone (cut_in l s (xs ++ more))
 
--- with enough bytes behind it every input has an answer
+-- with enough bytes after it every input has an answer
 head_finish : (l : Layout) (xs : List ℕ) → Finish l Head xs
 head_finish l xs =
     let pad = blank (head_len l) in
@@ -146,7 +146,7 @@ finish l (Data n) xs =
           payload_done n _ (omega (arith, length-append xs (blank n), length-blank n));
     }
 
--- an error that a codec may give
+-- an error that a codec may return
 abbrev error_of : ℕ → Error
 error_of k =
     record {

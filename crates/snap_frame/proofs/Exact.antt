@@ -1,4 +1,4 @@
--- What stands first in the bytes is one thing.
+-- The first frame of the bytes is unique.
 use Rattle.std.proofs.Common.{◌≡◌, ◌≢◌, ℕ, List, ◌++◌, [], length, Option, Some, None, Result, Ok, Err, inl, inr, refl, sym, ◌∙◌, ap}
 use Rattle.std.proofs.Common.{arith, append_assoc, append-nil, length-append, take, drop, take_at, drop_at}
 use Rattle.std.specs.Int.{w32, to_be_bytes}

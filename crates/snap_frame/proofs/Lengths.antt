@@ -1,4 +1,4 @@
--- How long the payloads of replies are.
+-- The lengths of replies' payloads.
 use Rattle.std.proofs.Common.{◌+◌, ◌*◌, ◌≤◌, ℕ, List, [], ◌∷◌, length, flat_map, All, arith, length-append}
 use Rattle.std.proofs.lemmas.List.Elements.{All-tail}
 use Rattle.snap_scan.specs.declared.segment_value.SegmentValue.{SegmentValue}
@@ -9,7 +9,7 @@ use Rattle.snap_frame.specs.declared.reply.Reply.TheVariants.{Stored, Snapshot, 
 use Rattle.snap_frame.specs.Messages.{max_payload, longest_entry, value_bytes, named_bytes, status_bytes, IsValue, IsNamedValue, IsStatus}
 use Rattle.snap_frame.specs.Messages.{AreEntries, says, IsInLimits}
 
--- entries that have at most so many bytes each
+-- entries of at most `longest_entry` bytes each
 module _ {E : Type 0} (bytes : E → List ℕ) (MayStand : E → Type 0)
     (fits : (e : E) → MayStand e → length (bytes e) ≤ longest_entry) where
   entries_fit : (es : List E) → All MayStand es

@@ -17,7 +17,7 @@ use Rattle.snap_frame.specs.declared.named.NamedValue.{NamedValue}
 abbrev pub max_payload : ℕ
 max_payload = MAX_PAYLOAD
 
--- a payload behind its length in four bytes
+-- a payload after its length in four bytes
 abbrev pub frame : List ℕ → List ℕ
 frame x = to_be_bytes w32 (length x) ++ x
 
@@ -28,7 +28,7 @@ payload Scan = 2 ∷ []
 payload Status = 3 ∷ []
 payload (Part set) = 4 ∷ to_be_bytes w16 set.bits
 
--- a scan of some segments names one or more of the sixteen; every other request may be asked
+-- a scan of some segments names at least one of the sixteen; every other request may be asked
 abbrev pub IsAskable : Request → Type 0
 IsAskable (Update segment number value) = Unit {0}
 IsAskable Scan = Unit {0}
@@ -51,7 +51,7 @@ value_bytes v = to_be_bytes w64 v.number ++ (to_be_bytes w32 (length v.value) ++
 abbrev pub named_bytes : NamedValue → List ℕ
 named_bytes v = v.segment ∷ (to_be_bytes w64 v.number ++ (to_be_bytes w32 (length v.value) ++ v.value))
 
--- 1 where the segment is fenced, and else 0
+-- 1 if the segment is fenced, else 0
 abbrev pub fence_byte : Bool → ℕ
 fence_byte true = 1
 fence_byte false = 0
@@ -75,7 +75,7 @@ IsValue v = IsNumber v.number × IsShort v.value
 abbrev pub IsStatus : SegmentStatus → Type 0
 IsStatus s = IsNumber s.number
 
--- a segment that a file can speak of, with a number and a value that a reply may hold
+-- a segment that a file may have, with a number and a value that a reply may hold
 abbrev pub IsNamedValue : NamedValue → Type 0
 IsNamedValue v = (v.segment < MAX_COUNT) × IsNumber v.number × IsShort v.value
 
@@ -94,7 +94,7 @@ pub record Separate {E : Type 0} (bytes : E → List ℕ) (MayStand : E → Type
 abbrev pub longest_entry : ℕ
 longest_entry = 13 + MAX_VALUE_LEN
 
--- one entry or more, each of which may stand in a reply, and no more than a file can speak of
+-- at least one entry, each of which a reply may have, and no more than there may be segments
 pub record AreEntries {E : Type 0} (MayStand : E → Type 0) (es : List E) : Type 0 where
   pub one : 1 ≤ length es
   pub few : length es ≤ MAX_COUNT

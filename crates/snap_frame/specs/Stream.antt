@@ -1,4 +1,4 @@
--- What a feed holds, and what it answers.
+-- The state of a feed, and the results of its calls.
 use Rattle.bytes.specs.Filled.{Filled}
 use Rattle.tokio_util.specs.Codec.LengthDelimited.{codec_layout}
 use Rattle.std.specs.Prelude.{◌≡◌, ℕ, get_or, ◌≤◌, ◌<◌, ◌^◌, ◌⊎◌, List, [], ◌++◌, length, Option, Some, None, Result, Ok, Err}
@@ -17,7 +17,7 @@ use Rattle.snap_frame.specs.declared.request.Request.{Request}
 use Rattle.snap_frame.specs.declared.reply.Reply.{Reply}
 use Rattle.snap_frame.specs.Messages.{max_payload, frame, Asks, Malformed, Says, SaysNothing}
 
--- the bytes that came and weren't taken off, and why the feed has failed
+-- the bytes that arrived and weren't taken off, and why the feed has failed
 pub record Held : Type 0 where
   pub bytes : List ℕ
   pub failure : Option Failure
@@ -26,23 +26,23 @@ pub record Held : Type 0 where
 abbrev pub empty : Held
 empty = record { bytes = []; failure = None }
 
--- the refusal that tells a failure
+-- the refusal of a failure
 abbrev pub refusal_of : Failure → Refusal
 refusal_of NoMemory = refusals.NoMemory
 refusal_of TooLarge = refusals.TooLarge
 
--- the frame of x stands first in the bytes, and the rest behind it
+-- the bytes begin with the frame of x, and the rest follows
 pub record HasFrame (bytes x rest : List ℕ) : Type 0 where
   pub fits : length x ≤ max_payload
   pub split : bytes ≡ frame x ++ rest
 
--- a length above the limit stands first in the bytes
+-- the bytes begin with a length above the limit
 abbrev pub HasLongLength : List ℕ → Type 0
 HasLongLength bytes =
     (n : ℕ) × (rest : List ℕ) × (max_payload < n) × (n < 2 ^ 32)
     × (bytes ≡ to_be_bytes w32 n ++ rest)
 
--- neither stands first: more bytes are needed
+-- they begin with neither: more bytes are needed
 pub record IsPartial (bytes : List ℕ) : Type 0 where
   pub no_frame : (x rest : List ℕ) → HasFrame bytes x rest → ⊥
   pub no_long : HasLongLength bytes → ⊥
@@ -63,7 +63,7 @@ StateFits (Data n) = n ≤ max_payload
 abbrev pub feed_layout : Layout
 feed_layout = record default_layout { max_frame_len = max_payload }
 
--- the codec can go on
+-- the codec can continue
 pub record Ready (c : LengthDelimitedCodec) : Type 0 where
   pub layout : codec_layout c ≡ feed_layout
   pub fits : StateFits c.state
@@ -71,28 +71,28 @@ pub record Ready (c : LengthDelimitedCodec) : Type 0 where
 abbrev pub IsBytes : List ℕ → Type 0
 IsBytes xs = (i : ℕ) → get_or xs i 0 < 256
 
--- what taking the first frame's payload gives, and leaves
+-- the result of taking the first frame's payload, and the bytes that are left
 abbrev pub Found : List ℕ → Result (Option Filled) Failure → List ℕ → Type 0
 Found held (Ok (Some payload)) new = HasFrame held payload.items new
 Found held (Ok None) new = IsPartial held × (new ≡ held)
 Found held (Err NoMemory) new = (x : List ℕ) × (rest : List ℕ) × HasFrame held x rest
 Found held (Err TooLarge) new = HasLongLength held × (new ≡ held)
 
--- it fails for want of memory with a whole frame first, or for a length above the limit
+-- it fails because memory ran out, with a whole frame first, or because of a length above the limit
 abbrev pub Fails : List ℕ → Failure → Held → Type 0
 Fails held NoMemory new =
     (x : List ℕ) × (rest : List ℕ) × HasFrame held x rest × (new.failure ≡ Some NoMemory)
 Fails held TooLarge new =
     HasLongLength held × (new ≡ record { bytes = held; failure = Some TooLarge })
 
--- what taking the first frame off gives, and leaves
+-- the result of taking the first frame off, and the state that is left
 abbrev pub TakesOff : List ℕ → Result (Option Filled) Failure → Held → Type 0
 TakesOff held (Ok (Some payload)) new =
     HasFrame held payload.items new.bytes × (new.failure ≡ None)
 TakesOff held (Ok None) new = IsPartial held × (new ≡ record { bytes = held; failure = None })
 TakesOff held (Err failure) new = Fails held failure new
 
--- What `next` of a feed answers over the bytes held, and what it leaves.
+-- The result of a feed's `next` over the bytes held, and the state that is left.
 abbrev pub IsNextRequest : List ℕ → Result (Option Request) Refusal → Held → Type 0
 IsNextRequest held (Ok (Some r)) new =
     (x : List ℕ) × HasFrame held x new.bytes × Asks x r × (new.failure ≡ None)
@@ -102,7 +102,7 @@ IsNextRequest held (Err why) new =
     × (new.failure ≡ None))
     ⊎ ((failure : Failure) × (why ≡ refusal_of failure) × Fails held failure new)
 
--- What `next` of a reply feed answers over the bytes held, and what it leaves.
+-- The result of a reply feed's `next` over the bytes held, and the state that is left.
 abbrev pub IsNextReply : List ℕ → Result (Option Reply) ReplyFault → Held → Type 0
 IsNextReply held (Ok (Some r)) new =
     (x : List ℕ) × HasFrame held x new.bytes × Says x r × (new.failure ≡ None)

@@ -35,7 +35,7 @@ pub(crate) const VALUE_HEAD_LEN: usize = 12;
 /// The bytes of a status's entry: the number and the fence.
 const STATUS_LEN: usize = 9;
 
-/// The number and the length that a value's entry begins with.
+/// Reads the number and the length at the start of a value's entry.
 fn value_head(bytes: &[u8]) -> (u64, u32)
     requires { 12 ≤ length bytes.now }
     ensures { bytes.now ≡ to_be_bytes w64 result.0
@@ -76,7 +76,7 @@ impl Entry for SegmentValue {
     }
 }
 
-/// Writes a value's number, its length and its bytes. There is room for them.
+/// Writes a value's number, its length and its bytes. The buffer has room for them.
 pub(crate) fn put_value(number: u64, value: &Bytes, out: &mut BytesMut)
     requires fits { length value.now < 2 ^ 32 }
     requires room { 12 + length value.now ≤ out.old.spare }
@@ -89,7 +89,7 @@ pub(crate) fn put_value(number: u64, value: &Bytes, out: &mut BytesMut)
     out.extend_reserved(value.as_slice());
 }
 
-/// The number that a status's entry begins with, and the byte of its fence.
+/// Reads the number at the start of a status's entry, and the byte of its fence.
 fn status_fields(bytes: &[u8]) -> (u64, u8)
     requires { 9 ≤ length bytes.now }
     ensures { bytes.now ≡ to_be_bytes w64 result.0 ++ (result.1 ∷ drop 9 bytes.now) }

@@ -1,4 +1,4 @@
-//! Requests out of a stream that comes in pieces.
+//! Requests out of a stream that arrives in pieces.
 ghost use Rattle.std.specs.Prelude.{
   ◌≡◌,
   ◌++◌,
@@ -34,10 +34,10 @@ use snap_disk::Refusal;
 use std::alloc::{AllocError, Global};
 use std::marker::Model;
 
-/// Takes the pieces of a stream as they come, and gives the requests of its frames.
+/// Takes the pieces of a stream as they arrive, and returns the requests of its frames.
 ///
-/// It holds the bytes that came and weren't taken off: a whole frame that nobody asked for yet, or
-/// the beginning of one. Once it has failed it answers the same refusal to every call.
+/// It holds the bytes that arrived and weren't taken off: whole frames, and the beginning of one.
+/// Once it has failed every call returns the same refusal.
 #[derive(Drop)]
 pub struct Feed {
     frames: FrameBuffer,
@@ -52,7 +52,7 @@ impl Model for Feed {
 }
 
 impl Feed {
-    /// Holds nothing. It takes no memory before the first piece comes.
+    /// An empty feed. It takes no memory before the first piece.
     pub fn new(alloc: Global) -> Feed
         ensures { result ≡ empty }
     {
@@ -61,10 +61,10 @@ impl Feed {
         }
     }
 
-    /// Puts a piece of the stream behind what is held.
+    /// Appends a piece of the stream to what is held.
     ///
-    /// `NoMemory` where a growth was refused: nothing changes, and the same piece may be pushed
-    /// again. A feed that has failed answers its `NoMemory` or `TooLarge`.
+    /// `NoMemory` if memory runs out: nothing changes, and the piece may be pushed again. A feed
+    /// that has failed returns its `NoMemory` or `TooLarge`.
     pub fn push(&mut self, piece: &[u8]) -> Result<(), Refusal>
         ensures ok { OnOk result ((self.old.failure ≡ None)
             × (self.new ≡ record { bytes = self.old.bytes ++ piece.now; failure = None })) }
@@ -78,30 +78,28 @@ impl Feed {
         }
     }
 
-    /// Takes the first whole frame off and gives its request, or answers `None` where more bytes
-    /// are needed.
+    /// Takes the first whole frame off and returns its request, or `None` if more bytes are needed.
     ///
-    /// - `Malformed` where its payload is no request: the frame is taken off, and the feed goes on.
-    /// - `TooLarge` where a length above [`MAX_PAYLOAD`](crate::MAX_PAYLOAD) stands first: the feed
-    ///   has failed.
-    /// - `NoMemory` where a growth was refused: the feed has failed.
+    /// - `Malformed` if its payload is no request: the frame is taken off, and the feed can continue.
+    /// - `TooLarge` if a length above [`MAX_PAYLOAD`](crate::MAX_PAYLOAD) comes first: the feed has failed.
+    /// - `NoMemory` if memory runs out: the feed has failed.
     pub fn next(&mut self) -> Result<Option<Request>, Refusal>
         // A feed that has failed says so again.
         ensures failed { IfSome self.old.failure (λ f. (result ≡ Err (refusal_of f))
             × (self.new ≡ self.old)) }
-        // What it answers, and what it leaves.
+        // The result, and what is left.
         ensures next { self.old.failure ≡ None → IsNextRequest self.old.bytes result self.new }
-        // None comes exactly where no whole frame and no length above the limit stands first.
+        // None exactly if the bytes begin with neither a whole frame nor a length above the limit.
         ensures none { self.old.failure ≡ None
             → (result ≡ Ok None ↔ IsPartial self.old.bytes) }
-        // So does a refusal of such a length.
+        // `TooLarge` exactly if they begin with such a length.
         ensures too_large { self.old.failure ≡ None
             → (result ≡ Err Refusal.TooLarge ↔ HasLongLength self.old.bytes) }
         // A malformed frame is refused as one, unless memory runs out.
         ensures malformed { (x rest : List ℕ) → self.old.failure ≡ None
             → HasFrame self.old.bytes x rest → Malformed x
             → (result ≡ Err Refusal.Malformed) ⊎ (result ≡ Err Refusal.NoMemory) }
-        // So what stands first is one frame.
+        // So the bytes begin with at most one frame.
         ensures first { NoFrameBeginsAnother }
     {
         match self.frames.next() {
@@ -118,8 +116,7 @@ impl Feed {
         }
     }
 
-    /// Whether it hasn't failed and no byte of an unfinished frame is held: here the stream may
-    /// end.
+    /// Whether it hasn't failed and no byte of an unfinished frame is held: the stream may end here.
     pub fn is_between(&self) -> bool
         ensures { IsTrue result ↔ (self.now ≡ empty) }
     {
@@ -127,7 +124,7 @@ impl Feed {
     }
 }
 
-/// The refusal that tells a failure.
+/// The refusal of a failure.
 fn refusal(failure: Failure) -> Refusal
     ensures { result ≡ refusal_of failure }
 {

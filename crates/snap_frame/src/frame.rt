@@ -9,12 +9,12 @@ use std::alloc::AllocError;
 /// The most bytes of a frame's payload.
 pub const MAX_PAYLOAD: usize = 66_000;
 
-/// How many bytes of length stand before a payload.
+/// The bytes of a payload's length before it.
 const HEAD_LEN: usize = 4;
 
-/// Writes the length of a payload behind what the buffer holds, and makes room for the payload, so
-/// that nothing behind it can fail. Where memory is refused the buffer's bytes are as they were; none
-/// is asked for where there is room for all of it.
+/// Appends the length of a payload to the buffer, and reserves room for the payload, so that no
+/// later step can fail. If memory runs out the buffer's bytes are unchanged. No memory is asked for
+/// if there is room for all of it.
 pub(crate) fn start_frame(payload_len: usize, out: &mut BytesMut) -> Result<(), AllocError>
     requires { payload_len ≤ max_payload }
     ensures head { OnOk result (out.new.items ≡ out.old.items ++ to_be_bytes w32 payload_len) }

@@ -1,4 +1,4 @@
-//! Frames cut out of a stream that comes in pieces.
+//! Frames cut out of a stream that arrives in pieces.
 ghost use Rattle.std.specs.Prelude.{
   ◌≡◌,
   ◌≤◌,
@@ -34,13 +34,13 @@ use tokio_util::codec::{Decoder, LengthDelimitedCodec};
 /// Why a feed takes no more bytes.
 #[derive(Clone, Copy, Debug, PartialEq, Eq, Drop)]
 pub enum Failure {
-    /// A growth of memory was refused while a frame was taken off.
+    /// Memory ran out while a frame was taken off.
     NoMemory,
-    /// A length above [`MAX_PAYLOAD`] stood first.
+    /// A length above [`MAX_PAYLOAD`] came first.
     TooLarge,
 }
 
-/// The bytes of a stream that came and weren't taken off.
+/// The bytes of a stream that arrived and weren't taken off.
 #[derive(Drop)]
 pub(crate) struct FrameBuffer {
     codec: LengthDelimitedCodec,
@@ -60,7 +60,7 @@ impl Model for FrameBuffer {
 }
 
 impl FrameBuffer {
-    /// Holds nothing. Takes no memory.
+    /// An empty buffer. It takes no memory.
     pub fn new(alloc: Global) -> FrameBuffer
         ensures { result ≡ empty }
     {
@@ -73,7 +73,7 @@ impl FrameBuffer {
         }
     }
 
-    /// Puts a piece behind what is held. For want of memory it changes nothing.
+    /// Appends a piece to what is held. If memory runs out nothing changes.
     pub fn push(&mut self, piece: &[u8]) -> Result<(), Failure>
         ensures ok { OnOk result ((self.old.failure ≡ None)
             × (self.new ≡ record { bytes = self.old.bytes ++ piece.now; failure = None })) }
@@ -90,7 +90,7 @@ impl FrameBuffer {
         }
     }
 
-    /// Takes the first whole frame off, and gives its payload.
+    /// Takes the first whole frame off, and returns its payload.
     pub fn next(&mut self) -> Result<Option<BytesMut>, Failure>
         ensures failed { IfSome self.old.failure (λ f. (result ≡ Err f) × (self.new ≡ self.old)) }
         ensures next { self.old.failure ≡ None → TakesOff self.old.bytes result self.new }
@@ -107,7 +107,7 @@ impl FrameBuffer {
         }
     }
 
-    /// From here on it answers that memory was refused.
+    /// From now on every call returns `NoMemory`.
     pub fn fail(&mut self)
         ensures { self.new.failure ≡ Some Failure.NoMemory }
     {
@@ -124,7 +124,7 @@ impl FrameBuffer {
     }
 }
 
-/// No byte is above 255.
+/// Shows that no byte is above 255.
 fn all_bytes(bytes: &BytesMut) -> usize
     ensures { IsBytes bytes.now.items }
 {

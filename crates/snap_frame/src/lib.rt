@@ -1,13 +1,13 @@
-//! Frames and messages: bytes of a stream to requests and replies, and back (docs/FORMATS.md,
-//! "Frames and messages").
+//! The wire format: reads requests and replies from the bytes of a stream, and writes them
+//! (docs/FORMATS.md, "Frames and messages").
 //!
-//! Nothing above this crate knows the grammar. A [`Feed`] takes the pieces of a stream as they come
-//! and gives the requests of its frames, in order; a [`ReplyFeed`] gives the replies. However the
-//! bytes were cut, the answers are the same. [`write_request`] and [`write_reply`] append one
-//! frame.
+//! Nothing above this crate knows the grammar. A [`Feed`] takes the pieces of a stream as they
+//! arrive and returns the requests of its frames, in order; a [`ReplyFeed`] returns the replies.
+//! The result doesn't depend on how the stream was cut into pieces. [`write_request`] and
+//! [`write_reply`] append one frame.
 //!
-//! The words of the contracts stand in `specs/Messages.antt` (payloads and frames) and
-//! `specs/Stream.antt` (what stands first among the bytes that are held).
+//! Contracts use the definitions of `specs/Messages.antt` (payloads and frames) and
+//! `specs/Stream.antt` (the first frame of the bytes that are held).
 #![tactic(auto)]
 
 mod entries;

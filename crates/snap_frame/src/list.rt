@@ -1,4 +1,4 @@
-//! The list that a reply says: entries of one kind, one behind the other.
+//! The list in a reply: entries of one kind, one after the other.
 ghost use Rattle.std.specs.Prelude.{
   ◌≡◌,
   ◌+◌,
@@ -38,13 +38,13 @@ const LIST_HEAD_LEN: usize = 2;
 
 /// An entry of a list.
 pub(crate) trait Entry {
-    /// Its bytes.
+    /// Its bytes in the frame.
     ghost bytes: { Self → List ℕ };
 
-    /// Whether it may stand in a reply.
+    /// Whether a reply may have this entry.
     ghost may_stand: { Self → Type 0 };
 
-    /// Takes the first entry off, or answers `None` where none stands first.
+    /// Takes the first entry off, or returns `None` if the bytes don't begin with one.
     fn take_first(rest: &mut Bytes) -> Result<Option<Self>, AllocError>
         ensures some { IfOk result (λ o. IfSome o (λ e. Self.may_stand e
             × (rest.old ≡ Self.bytes e ++ rest.new))) }
@@ -57,7 +57,7 @@ pub(crate) trait Entry {
         ensures len { result ≡ length (Self.bytes self.now) }
         ensures fits { result ≤ longest_entry };
 
-    /// Writes it. There is room for it.
+    /// Writes it. The buffer has room for it.
     fn put(&self, out: &mut BytesMut)
         requires may { Self.may_stand self.now }
         requires room { length (Self.bytes self.now) ≤ out.old.spare }
@@ -65,7 +65,7 @@ pub(crate) trait Entry {
         ensures room { out.new.spare + length (Self.bytes self.now) ≡ out.old.spare };
 }
 
-/// How many entries a payload says that it has, or `None` where it may not.
+/// The count of entries in a payload, or `None` if it is missing or out of bounds.
 fn entry_count(payload: &[u8]) -> Option<u8>
     ensures some { IfSome result (λ n. (1 ≤ n) × (n ≤ MAX_COUNT)
         × (payload.now ≡ slice_index payload.now 0 ∷ n ∷ drop 2 payload.now)) }
@@ -82,7 +82,7 @@ fn entry_count(payload: &[u8]) -> Option<u8>
     Some(count)
 }
 
-/// The count of a payload's entries and the bytes behind it, or `None` where it may not be.
+/// The count of entries in a payload and the bytes after it, or `None` if it is missing or out of bounds.
 fn split_list(mut payload: BytesMut) -> Result<Option<(u8, Bytes)>, AllocError>
     ensures some { IfOk result (λ o. IfSome o (λ list. (1 ≤ list.0) × (list.0 ≤ MAX_COUNT)
         × (payload.items ≡ slice_index payload.items 0 ∷ list.0 ∷ list.1))) }
@@ -99,7 +99,7 @@ fn split_list(mut payload: BytesMut) -> Result<Option<(u8, Bytes)>, AllocError>
     }
 }
 
-/// The entries, `count` of them and nothing behind, or `None` where they aren't so.
+/// Reads `count` entries, or returns `None` if the bytes aren't exactly that many entries.
 fn read_entries<E: Entry + Drop>(
     alloc: Global,
     count: u8,
@@ -124,7 +124,7 @@ fn read_entries<E: Entry + Drop>(
     Ok(Some(entries))
 }
 
-/// The entries of a list's payload, or `None` where it has none or they aren't so.
+/// Reads the entries of a list's payload, or returns `None` if it isn't a list of them.
 pub(crate) fn read_list<E: Entry + Drop>(payload: BytesMut) -> Result<Option<Vec<E>>, AllocError>
     requires apart { Separate E.bytes E.may_stand }
     ensures some { IfOk result (λ o. IfSome o (λ es. AreEntries E.may_stand es.items
@@ -141,7 +141,7 @@ pub(crate) fn read_list<E: Entry + Drop>(payload: BytesMut) -> Result<Option<Vec
     read_entries(alloc, count, entries)
 }
 
-/// How many bytes the entries have together.
+/// How many bytes all entries have together.
 fn entries_len<E: Entry>(entries: &[E]) -> usize
     requires few { length entries.now ≤ MAX_COUNT }
     requires each { All E.may_stand entries.now }
@@ -155,7 +155,7 @@ fn entries_len<E: Entry>(entries: &[E]) -> usize
     len
 }
 
-/// Writes the entries. There is room for them.
+/// Writes the entries. The buffer has room for them.
 fn put_entries<E: Entry>(entries: &[E], out: &mut BytesMut)
     requires each { All E.may_stand entries.now }
     requires room { length (flat_map E.bytes entries.now) ≤ out.old.spare }
@@ -166,7 +166,7 @@ fn put_entries<E: Entry>(entries: &[E], out: &mut BytesMut)
     }
 }
 
-/// Writes the frame of a list of this kind, as [`write_reply`](crate::write_reply) writes one.
+/// Appends the frame of a list of this kind, as [`write_reply`](crate::write_reply) appends one.
 pub(crate) fn append_list<E: Entry>(
     kind: u8,
     entries: &[E],

@@ -1,4 +1,4 @@
-//! The entries of a scan of some segments: one for each of them, which it names, in ascending order.
+//! The entries of a scan of some segments: each names its segment, in ascending order.
 ghost use Rattle.std.specs.Prelude.{◌≡◌, ◌↔◌, ℕ, List, ◌∷◌, length, flat_map, slice_index};
 ghost use Rattle.std.specs.Prelude.{IfOk, IfSome, IfNone, IsTrue};
 ghost use Rattle.snap_frame.specs.Messages.{named_bytes, IsNamedValue, Ascend, AreEntries};
@@ -21,8 +21,7 @@ pub struct NamedValue {
     pub value: Bytes,
 }
 
-/// The bytes of an entry before its value: the segment, and what the entry of a snapshot begins
-/// with.
+/// The bytes of an entry before its value: the segment, and the head of a snapshot's entry.
 const NAMED_HEAD_LEN: usize = 1 + VALUE_HEAD_LEN;
 
 impl Entry for NamedValue {
@@ -72,8 +71,8 @@ fn ascend(values: &[NamedValue]) -> bool
     true
 }
 
-/// The entries of the payload of a scan of some segments, or `None` where it has none, or they aren't
-/// so or don't ascend.
+/// Reads the entries of the payload of a scan of some segments, or returns `None` if it isn't a
+/// list of them, or they don't ascend.
 #[tactic(auto, using(crate::proofs::Behind::named_apart))]
 pub(crate) fn read_named(payload: BytesMut) -> Result<Option<Vec<NamedValue>>, AllocError>
     ensures some { IfOk result (λ o. IfSome o (λ vs. AreEntries IsNamedValue vs.items

@@ -1,4 +1,4 @@
-//! Numbers at the front of bytes, the highest byte first.
+//! Big-endian numbers at the front of bytes.
 ghost use Rattle.std.specs.Prelude.{◌≡◌, ◌≤◌, ◌++◌, length, drop};
 ghost use Rattle.std.specs.Int.{w16, w32, w64, to_be_bytes};
 

@@ -1,4 +1,4 @@
-//! Replies: what the server answers, and its payload.
+//! Replies and their payloads.
 ghost use Rattle.std.specs.Prelude.{
   ◌≡◌,
   ◌≤◌,
@@ -39,21 +39,21 @@ use snap_history::LAST_NUMBER;
 use snap_scan::SegmentValue;
 use std::alloc::AllocError;
 
-/// What the server answers to a request (docs/FORMATS.md, "Frames and messages").
+/// The server's answer to a request (docs/FORMATS.md, "Frames and messages").
 #[derive(Debug, PartialEq, Eq, Drop)]
 pub enum Reply {
-    /// The segment holds this number, with the value of the update. At most
-    /// [`LAST_NUMBER`].
+    /// The segment has this number, with the value of the update. At most [`LAST_NUMBER`].
     Stored(u64),
     /// All segments at one moment, in order, 1 to [`MAX_COUNT`](snap_history::MAX_COUNT) of them.
     Snapshot(Vec<SegmentValue>),
-    /// All segments, each as it was when the server looked, in order, 1 to [`MAX_COUNT`](snap_history::MAX_COUNT) of
-    /// them.
+    /// All segments in order, each as it was when the server read it, 1 to
+    /// [`MAX_COUNT`](snap_history::MAX_COUNT) of them.
     Status(Vec<SegmentStatus>),
-    /// The segments that were asked for, at one moment, in ascending order, 1 to [`MAX_COUNT`](snap_history::MAX_COUNT) of
-    /// them.
+    /// The segments that were asked for, at one moment, in ascending order, 1 to
+    /// [`MAX_COUNT`](snap_history::MAX_COUNT) of them.
     Part(Vec<NamedValue>),
-    /// Refused, with the number that the refusal has to tell.
+    /// Refused for this reason. `detail` is a number that depends on the reason, such as the
+    /// segment's number.
     Refused { why: Refusal, detail: u64 },
 }
 
@@ -67,13 +67,13 @@ const PART: u8 = 0x84;
 
 const REFUSED: u8 = 0xE0;
 
-/// The bytes of a payload that says a number was stored.
+/// The bytes of the payload of `Stored`.
 const STORED_LEN: usize = 9;
 
-/// The bytes of a payload that says a refusal.
+/// The bytes of the payload of `Refused`.
 const REFUSED_LEN: usize = 10;
 
-/// The number of a payload whose kind is that of a stored number.
+/// Reads a payload whose kind is `Stored`.
 fn read_stored(payload: &[u8]) -> Option<Reply>
     requires long { 0 < length payload.now }
     requires stored { slice_index payload.now 0 ≡ 0x81 }
@@ -90,7 +90,7 @@ fn read_stored(payload: &[u8]) -> Option<Reply>
     Some(Reply::Stored(number))
 }
 
-/// The code and the detail of a payload whose kind is that of a refusal.
+/// Reads a payload whose kind is `Refused`.
 fn read_refused(payload: &[u8]) -> Option<Reply>
     requires long { 0 < length payload.now }
     requires refused { slice_index payload.now 0 ≡ 0xE0 }
@@ -142,7 +142,7 @@ fn read_part(payload: BytesMut) -> Result<Option<Reply>, AllocError>
     }
 }
 
-/// The reply of a payload, or `None` where no reply has it.
+/// Reads a payload, or returns `None` if it is no reply's.
 pub(crate) fn read_reply(payload: BytesMut) -> Result<Option<Reply>, AllocError>
     ensures reply { IfOk result (λ r. IfSome r (Says payload.items)) }
     ensures nothing { IfOk result (λ r. IfNone r (SaysNothing payload.items)) }
@@ -161,11 +161,11 @@ pub(crate) fn read_reply(payload: BytesMut) -> Result<Option<Reply>, AllocError>
     }
 }
 
-/// Writes the frame of a reply behind what the buffer holds.
+/// Appends the frame of a reply to the buffer.
 ///
 /// Its numbers, lengths and counts are within the limits of replies, so its payload fits a frame.
-/// The only refusal is [`Refusal::NoMemory`], and the buffer's bytes are then as they were. It doesn't
-/// come where the buffer has room for the frame.
+/// The only error is [`Refusal::NoMemory`], and then the buffer's bytes are unchanged. There is
+/// none if the buffer has room for the frame.
 #[tactic(auto, using(crate::proofs::Lengths::says_fits))]
 pub fn write_reply(reply: &Reply, out: &mut BytesMut) -> Result<(), Refusal>
     requires { IsInLimits reply.now }

@@ -1,4 +1,4 @@
-//! Replies out of a stream that comes in pieces: the client's half.
+//! Replies out of a stream that arrives in pieces: the client's half.
 ghost use Rattle.std.specs.Prelude.{
   ◌≡◌,
   ◌++◌,
@@ -31,19 +31,19 @@ use crate::reply::{Reply, read_reply};
 use std::alloc::{AllocError, Global};
 use std::marker::Model;
 
-/// Why no reply was given.
+/// Why no reply was returned.
 #[derive(Clone, Copy, Debug, PartialEq, Eq, Drop)]
 pub enum ReplyFault {
     /// A frame's payload is no reply.
     BadReply,
-    /// The feed has failed, and answers so from then on.
+    /// The feed has failed, and returns this from then on.
     Failed(Failure),
 }
 
-/// Takes the pieces of a stream as they come, and gives the replies of its frames.
+/// Takes the pieces of a stream as they arrive, and returns the replies of its frames.
 ///
-/// It holds the bytes that came and weren't taken off. Once it has failed it answers the same to
-/// every call.
+/// It holds the bytes that arrived and weren't taken off. Once it has failed every call returns the
+/// same fault.
 #[derive(Drop)]
 pub struct ReplyFeed {
     frames: FrameBuffer,
@@ -58,7 +58,7 @@ impl Model for ReplyFeed {
 }
 
 impl ReplyFeed {
-    /// Holds nothing. It takes no memory before the first piece comes.
+    /// An empty feed. It takes no memory before the first piece.
     pub fn new(alloc: Global) -> ReplyFeed
         ensures { result ≡ empty }
     {
@@ -67,10 +67,10 @@ impl ReplyFeed {
         }
     }
 
-    /// Puts a piece of the stream behind what is held.
+    /// Appends a piece of the stream to what is held.
     ///
-    /// `NoMemory` where a growth was refused: nothing changes, and the same piece may be pushed
-    /// again. A feed that has failed answers its failure.
+    /// `NoMemory` if memory runs out: nothing changes, and the piece may be pushed again. A feed
+    /// that has failed returns its failure.
     pub fn push(&mut self, piece: &[u8]) -> Result<(), Failure>
         ensures ok { OnOk result ((self.old.failure ≡ None)
             × (self.new ≡ record { bytes = self.old.bytes ++ piece.now; failure = None })) }
@@ -81,24 +81,23 @@ impl ReplyFeed {
         self.frames.push(piece)
     }
 
-    /// Takes the first whole frame off and gives its reply, or answers `None` where more bytes are
-    /// needed.
+    /// Takes the first whole frame off and returns its reply, or `None` if more bytes are needed.
     ///
-    /// `BadReply` where its payload is no reply: the frame is taken off, and the feed goes on. The
-    /// other faults are those of [`Feed::next`](crate::Feed::next).
+    /// `BadReply` if its payload is no reply: the frame is taken off, and the feed can continue.
+    /// The other faults are those of [`Feed::next`](crate::Feed::next).
     pub fn next(&mut self) -> Result<Option<Reply>, ReplyFault>
         // A feed that has failed says so again.
         ensures failed { IfSome self.old.failure (λ f. (result ≡ Err (ReplyFault.Failed f))
             × (self.new ≡ self.old)) }
-        // What it answers, and what it leaves.
+        // The result, and what is left.
         ensures next { self.old.failure ≡ None → IsNextReply self.old.bytes result self.new }
-        // None comes exactly where no whole frame and no length above the limit stands first.
+        // None exactly if the bytes begin with neither a whole frame nor a length above the limit.
         ensures none { self.old.failure ≡ None
             → (result ≡ Ok None ↔ IsPartial self.old.bytes) }
-        // So does a failure for such a length.
+        // A failure as `TooLarge` exactly if they begin with such a length.
         ensures too_large { self.old.failure ≡ None
             → (result ≡ Err (ReplyFault.Failed Failure.TooLarge) ↔ HasLongLength self.old.bytes) }
-        // A frame that says no reply is refused, unless memory runs out.
+        // A frame that is no reply is refused, unless memory runs out.
         ensures bad { (x rest : List ℕ) → self.old.failure ≡ None
             → HasFrame self.old.bytes x rest → SaysNothing x
             → (result ≡ Err ReplyFault.BadReply)

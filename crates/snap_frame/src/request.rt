@@ -1,4 +1,4 @@
-//! Requests: what a client asks, and its payload.
+//! Requests and their payloads.
 ghost use Rattle.std.specs.Prelude.{
   ◌≡◌,
   ◌<◌,
@@ -29,7 +29,7 @@ use snap_disk::Refusal;
 use snap_scan::SegmentSet;
 use std::alloc::AllocError;
 
-/// What a client asks of the server (docs/FORMATS.md, "Frames and messages").
+/// A client's request to the server (docs/FORMATS.md, "Frames and messages").
 #[derive(Debug, PartialEq, Eq, Drop)]
 pub enum Request {
     /// Store a value as this number of a segment. A value that is too long for a segment is a
@@ -44,7 +44,7 @@ pub enum Request {
     Scan,
     /// The numbers and fences of all segments, one after the other.
     Status,
-    /// The numbers and values of these segments at one moment. It names one or more.
+    /// The numbers and values of these segments at one moment. It names at least one.
     Part(SegmentSet),
 }
 
@@ -59,13 +59,13 @@ const PART: u8 = 4;
 /// The bytes of an update's payload before its value: its kind, the segment and the number.
 const UPDATE_HEAD_LEN: usize = 10;
 
-/// The bytes of a payload that asks a scan of some segments: its kind and the set.
+/// The bytes of the payload of a scan of some segments: its kind and the set.
 const PART_LEN: usize = 3;
 
 /// The most bytes of a value that fits into an update's frame.
 pub const MAX_UPDATE_VALUE: usize = MAX_PAYLOAD - UPDATE_HEAD_LEN;
 
-/// The segment and the number that an update's payload begins with.
+/// Reads the segment and the number at the start of an update's payload.
 fn update_head(payload: &[u8]) -> (u8, u64)
     requires long { 10 ≤ length payload.now }
     requires update { slice_index payload.now 0 ≡ 1 }
@@ -74,7 +74,7 @@ fn update_head(payload: &[u8]) -> (u8, u64)
     (payload[1], first_u64(&payload[2..]))
 }
 
-/// The scan of some segments that a payload of this kind asks, or `None` where it names none.
+/// Reads the payload of a scan of some segments, or returns `None` if it names none.
 fn read_part(payload: &[u8]) -> Option<Request>
     requires long { length payload.now ≡ 3 }
     requires part { slice_index payload.now 0 ≡ 4 }
@@ -90,7 +90,7 @@ fn read_part(payload: &[u8]) -> Option<Request>
     Some(Request::Part(set))
 }
 
-/// The request of a payload, or `None` where no request has it.
+/// Reads a payload, or returns `None` if it is no request's.
 pub(crate) fn read_request(mut payload: BytesMut) -> Result<Option<Request>, AllocError>
     ensures request { IfOk result (λ r. IfSome r (Asks payload.items)) }
     ensures malformed { IfOk result (λ r. IfNone r (Malformed payload.items)) }
@@ -117,12 +117,12 @@ pub(crate) fn read_request(mut payload: BytesMut) -> Result<Option<Request>, All
     }
 }
 
-/// Writes the frame of a request behind what the buffer holds.
+/// Appends the frame of a request to the buffer.
 ///
 /// The payload has at most [`MAX_PAYLOAD`] bytes, so an update's value at most
-/// [`MAX_UPDATE_VALUE`], and a scan of some segments names one or more. The only refusal is
-/// [`Refusal::NoMemory`], and the buffer's bytes are then as they were. It doesn't come where the
-/// buffer has room for the frame.
+/// [`MAX_UPDATE_VALUE`], and a scan of some segments names at least one. The only error is
+/// [`Refusal::NoMemory`], and then the buffer's bytes are unchanged. There is none if the buffer
+/// has room for the frame.
 pub fn write_request(request: &Request, out: &mut BytesMut) -> Result<(), Refusal>
     requires fits { length (payload request.now) ≤ max_payload }
     requires askable { IsAskable request.now }

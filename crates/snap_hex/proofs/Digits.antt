@@ -1,4 +1,4 @@
--- The digits of a value, piece by piece.
+-- The digits of a value are those of its pieces.
 use Rattle.std.proofs.Common.{◌≡◌, ℕ, zero, suc, ◌/◌, ◌%◌, ◌<◌, List, [], ◌∷◌, ◌++◌, length, take}
 use Rattle.std.proofs.Common.{drop, slice_index, refl, sym, ap, ◌∙◌, append_assoc, append-nil}
 use Rattle.std.proofs.Common.{arith}
@@ -13,14 +13,14 @@ encode_split t (suc k) [] = refl
 encode_split t (suc k) (x ∷ xs) =
     ap (λ rest. slice_index t (x / 16) ∷ slice_index t (x % 16) ∷ rest) (encode_split t k xs)
 
--- one piece on
+-- after one more piece
 pub digits_on : (out old xs whole : List ℕ) (k : ℕ) → out ++ encode_lower xs ≡ old ++ whole
     → (out ++ encode_lower (take k xs)) ++ encode_lower (drop k xs) ≡ old ++ whole
 digits_on out old xs whole k e =
     append_assoc out (encode_lower (take k xs)) (encode_lower (drop k xs))
     ∙ ap (λ t. out ++ t) (encode_split lower_digits k xs) ∙ e
 
--- nothing is left
+-- after the last piece
 pub digits_end : (out old xs whole : List ℕ) → length xs ≡ 0 → out ++ encode_lower xs ≡ old ++ whole
     → out ≡ old ++ whole
 unfolding encode_with

@@ -1,4 +1,4 @@
--- Values as text.
+-- The text of a value.
 use Rattle.std.specs.Prelude.{◌≡◌, ◌≢◌, ◌⊎◌, ℕ, List, [], ◌∷◌, Ok, codes}
 use Rattle.hex.specs.Hex.{decode_of, encode_lower}
 

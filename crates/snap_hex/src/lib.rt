@@ -1,6 +1,6 @@
 //! Values as text: two hexadecimal digits for each byte, and `-` for the empty value.
 //!
-//! So a value stands in the words of a command, in the lines of a script, and in what is printed
+//! Values have this form in arguments, in the lines of a script, and in what is printed
 //! (docs/FORMATS.md). `specs/Text.antt` says which text goes with which bytes.
 #![tactic(auto)]
 

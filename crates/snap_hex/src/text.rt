@@ -1,4 +1,4 @@
-//! Bytes of text to a value and back.
+//! Converts values to text and back.
 ghost use Rattle.std.specs.Prelude.{◌≡◌, ◌≤◌, ◌++◌, length, List, ℕ, IfOk, MatchOption, OnOk};
 ghost use Rattle.hex.specs.Hex.{encode_lower};
 ghost use Rattle.snap_hex.specs.Text.{IsHex, hex_text};
@@ -6,8 +6,8 @@ ghost use Rattle.snap_hex.specs.Text.{IsHex, hex_text};
 use hex::FromHexError;
 use std::alloc::{AllocError, Global};
 
-/// The value that a word stands for: pairs of hexadecimal digits of either case, or `-` for the
-/// empty value. `None` where the word is neither; the empty word is none.
+/// The value that a word encodes: pairs of hexadecimal digits of either case, or `-` for the empty
+/// value. `None` for any other word, also the empty one.
 pub fn read_hex(alloc: Global, word: &[u8]) -> Result<Option<Vec<u8>>, AllocError>
     ensures { IfOk result (λ found. MatchOption found ((bs : List ℕ) → IsHex word.now bs → ⊥)
         (λ v. IsHex word.now v.items)) }
@@ -25,10 +25,11 @@ pub fn read_hex(alloc: Global, word: &[u8]) -> Result<Option<Vec<u8>>, AllocErro
     }
 }
 
-/// How many bytes [`put_hex`] turns into digits at a time.
+/// How many bytes [`put_hex`] converts at a time.
 const PIECE: usize = 64;
 
-/// Appends a value's text, in lower case. After a refused growth a beginning of it may stand there.
+/// Appends a value's text, in lower case. If memory runs out, a beginning of it may have been
+/// appended.
 pub fn put_hex(out: &mut Vec<u8>, bytes: &[u8]) -> Result<(), AllocError>
     ensures { OnOk result (out.new.items ≡ out.old.items ++ hex_text bytes.now) }
 {
@@ -44,14 +45,14 @@ pub fn put_hex(out: &mut Vec<u8>, bytes: &[u8]) -> Result<(), AllocError>
     Ok(())
 }
 
-/// Appends the digits of a piece.
+/// Appends the digits of at most 64 bytes.
 fn put_piece(out: &mut Vec<u8>, piece: &[u8]) -> Result<(), AllocError>
     requires { length piece.now ≤ 64 }
     ensures { OnOk result (out.new.items ≡ out.old.items ++ encode_lower piece.now) }
 {
     let mut digits = [0; 2 * PIECE];
     let digits = &mut digits[..2 * piece.len()];
-    // They have the length that is asked for, so this is never refused.
+    // The buffer has the length that is required, so this never fails.
     let _ = hex::encode_to_slice(piece, &mut *digits);
     out.extend_from_slice(digits)
 }

@@ -12,12 +12,12 @@ module _ {S : Type 0} (answers : S → Request (List ℕ) → Response → S →
   chain_joins old between new (x ∷ xs) ys (next, answer, rest) chain =
       (next, answer, chain_joins next between new xs ys rest chain)
 
-  -- more calls behind those that were answered
+  -- more calls after those that were answered
   pub answered_joins : (old between new : S) → Answered answers old between → Answered answers between new
       → Answered answers old new
   answered_joins old between new (xs, first) (ys, then) =
       (xs ++ ys, chain_joins old between new xs ys first then)
 
-  -- none
+  -- no call
   pub answered_none : (s : S) → Answered answers s s
   answered_none s = ([], refl)

@@ -1,12 +1,12 @@
-//! What a site does beside its answers.
+//! A task that runs beside the requests.
 
-/// What is done about once a second while a site serves, whether somebody calls or not.
+/// A task that runs about once a second while a site serves, with or without requests.
 pub trait Beat {
-    /// A second has passed since the last time, or more. Nobody is answered meanwhile.
+    /// Runs at least a second after the last time. No request is answered meanwhile.
     fn beat(&self);
 }
 
-/// Nothing.
+/// Does nothing.
 impl Beat for () {
     fn beat(&self) {}
 }

@@ -1,4 +1,4 @@
-//! The listener, and whether somebody may wait in its queue.
+//! The listener, and whether a connection may wait in its queue.
 
 ghost use Rattle.std.specs.Prelude.{◌≡◌, ◌↔◌, IfOk, IsNone};
 
@@ -7,21 +7,21 @@ use mio::{Interest, Registry, Token};
 use std::io::{self, ErrorKind};
 use std::time::Duration;
 
-/// How long a listener rests that couldn't accept, in milliseconds.
+/// How long to wait after a failed accept, in milliseconds.
 const REST: u64 = 100;
 
-/// Whether somebody may wait to be accepted.
+/// Whether a connection may wait to be accepted.
 #[derive(Clone, Copy, Debug, PartialEq, Eq, Drop)]
 pub(crate) enum Queue {
-    /// Nobody, until the system tells.
+    /// None does, until the system reports one.
     Empty,
-    /// Perhaps: the system tells of a caller once, so they are asked for until nobody is there.
+    /// Perhaps: the system reports only once that there are some, so the site accepts until none is left.
     Perhaps,
-    /// Perhaps, but the last one couldn't be accepted.
+    /// Perhaps, but the last accept failed.
     Rests,
 }
 
-/// A listener over TCP that waits for nobody.
+/// A TCP listener that doesn't block.
 #[derive(Drop)]
 pub(crate) struct Callers {
     listener: TcpListener,
@@ -29,7 +29,7 @@ pub(crate) struct Callers {
 }
 
 impl Callers {
-    /// Has the system tell of callers under this token.
+    /// Registers the listener, so that the system reports new connections under this token.
     pub(crate) fn new(
         registry: &Registry,
         token: Token,
@@ -45,14 +45,14 @@ impl Callers {
         })
     }
 
-    /// The system told that somebody calls.
+    /// Notes that the system reported a new connection.
     pub(crate) fn ring(&mut self)
         ensures { self.new ≡ record self.old { queue = Queue.Perhaps } }
     {
         self.queue = Queue::Perhaps;
     }
 
-    /// How long to wait at most before the next one is asked for; `None` where the system tells of them.
+    /// The longest wait before the next accept; `None` if the system reports when there is one.
     pub(crate) fn rest(&self) -> Option<Duration>
         ensures { IsNone result ↔ (self.now.queue ≡ Queue.Empty) }
     {
@@ -63,8 +63,8 @@ impl Callers {
         }
     }
 
-    /// The next one that waits. `None` where nobody does, or where the system couldn't accept one: then it is
-    /// asked again after a rest, and nothing is wrong with the others.
+    /// Accepts the next connection. `None` if there is none, or if the accept failed: then it is
+    /// tried again later, and the other connections aren't affected.
     pub(crate) fn next(&mut self) -> Option<TcpStream> {
         if let Queue::Empty = self.queue {
             return None;
@@ -79,13 +79,13 @@ impl Callers {
     }
 }
 
-/// Whether somebody may wait still after an error of this kind.
+/// Whether a connection may still wait after an error of this kind.
 fn queue_after(kind: ErrorKind) -> Queue
     ensures { (result ≡ Queue.Empty) ↔ (kind ≡ ErrorKind.WouldBlock) }
 {
     match kind {
         ErrorKind::WouldBlock => Queue::Empty,
-        // Who called is gone, or a signal came.
+        // The caller has closed, or a signal arrived.
         ErrorKind::ConnectionAborted | ErrorKind::Interrupted => Queue::Perhaps,
         _ => Queue::Rests,
     }

@@ -12,25 +12,25 @@ use std::io::{self, ErrorKind, Read};
 use std::net::Shutdown;
 use std::time::{Duration, Instant};
 
-/// How many steps a connection takes at a time, so that one peer doesn't hold up the others.
+/// The most steps that a connection takes in a row, so that one peer can't starve the others.
 const STEPS: u32 = 32;
 
-/// A head of a request may have so many bytes, and so may each of its parts that have a limit of their own.
+/// The limit of a request's head in bytes, and of each part of it that has a limit of its own.
 const MAX_HEAD: usize = 8 * 1024;
 
-/// No path takes a body; a longer one is refused.
+/// The limit of a request's body in bytes. No path takes a body.
 const MAX_BODY: usize = 1024;
 
-/// While more bytes than this wait to be sent, no request is read.
+/// The number of bytes to be sent above which no request is read.
 const MAX_PENDING: usize = 1024;
 
-/// The least room that a read is given.
+/// The least space that a read gets, in bytes.
 const READ_SIZE: usize = 1024;
 
-/// So much is read at most of a peer that goes on sending behind the end.
+/// The most bytes that are read of a peer that still sends after the end of the connection's last response.
 const MAX_DRAINED: usize = 64 * 1024;
 
-/// What a step came to.
+/// The result of a step.
 #[derive(Clone, Copy, Debug, PartialEq, Eq, Drop)]
 pub(crate) enum Step {
     /// There may be more to do at once.
@@ -41,15 +41,15 @@ pub(crate) enum Step {
     Over,
 }
 
-/// A socket that doesn't wait, and what was read from it and is to be written.
+/// A connection: a socket that doesn't block, with the bytes that were read and those to be written.
 #[derive(Drop)]
 pub(crate) struct Guest {
     stream: TcpStream,
     connection: Connection,
-    /// When it last got on.
+    /// The time of its last progress.
     moved: Instant,
-    /// Nothing more is written. What comes still is read and dropped, since a close with unread bytes would
-    /// take from the peer what it hasn't read.
+    /// Whether nothing more is written. Bytes that still arrive are read and dropped: a close with
+    /// unread bytes would discard what the peer hasn't read.
     leaves: bool,
     drained: usize,
 }
@@ -68,7 +68,7 @@ fn config() -> Config {
     }
 }
 
-/// What a failed read or write comes to.
+/// The step after a failed read or write.
 fn step_after(error: &io::Error) -> Step {
     match error.kind() {
         ErrorKind::WouldBlock => Step::Waits,
@@ -78,7 +78,7 @@ fn step_after(error: &io::Error) -> Step {
 }
 
 impl Guest {
-    /// One that has just come.
+    /// A connection that was just accepted.
     pub(crate) fn new(alloc: Global, keys: RandomState, stream: TcpStream, now: Instant) -> Guest {
         Guest {
             stream,
@@ -89,7 +89,7 @@ impl Guest {
         }
     }
 
-    /// Has the system report when it can be read or written, under this token.
+    /// Registers the socket, so that the system reports under this token when it can be read or written.
     pub(crate) fn register(&mut self, registry: &Registry, token: Token) -> io::Result<()> {
         registry.register(
             &mut self.stream,
@@ -98,7 +98,7 @@ impl Guest {
         )
     }
 
-    /// Has the system report once more what can be done already.
+    /// Makes the system report again what can be done already.
     pub(crate) fn report_again(&mut self, registry: &Registry, token: Token) -> io::Result<()> {
         registry.reregister(
             &mut self.stream,
@@ -107,12 +107,12 @@ impl Guest {
         )
     }
 
-    /// How long it hasn't got on.
+    /// The time since its last progress.
     pub(crate) fn rest(&self, now: Instant) -> Duration {
         now.duration_since(self.moved)
     }
 
-    /// Reads, answers and writes as far as its socket lets it, and some steps at most.
+    /// Reads, answers and writes as far as its socket lets it, [`STEPS`] steps at most.
     pub(crate) fn go_on<S: Service>(&mut self, service: &mut S, now: Instant) -> Step
         ensures { Answered S.answers service.old service.new }
     {
@@ -126,7 +126,7 @@ impl Guest {
         Step::Again
     }
 
-    /// It got on. What is read behind the end counts for nothing.
+    /// Notes progress. Reads after the last response don't count.
     fn moves(&mut self, now: Instant)
         ensures stays { self.old.leaves ≡ false → self.new ≡ record self.old { moved = now } }
         ensures leaves { self.old.leaves ≡ true → self.new ≡ self.old }
@@ -136,7 +136,7 @@ impl Guest {
         }
     }
 
-    /// Answers what came, and then reads or writes once.
+    /// Answers what has arrived, and then reads or writes once.
     fn step<S: Service>(&mut self, service: &mut S) -> Step
         ensures { Answered S.answers service.old service.new }
     {
@@ -169,16 +169,16 @@ impl Guest {
         }
     }
 
-    /// All is written. The peer learns so by the end of the stream.
+    /// Closes the writing side: all is written, and the peer reads the end of the stream.
     fn leave(&mut self)
         ensures { self.new.leaves ≡ true }
     {
         self.leaves = true;
-        // Where it fails the peer is gone, and the next read finds so.
+        // If it fails the peer has closed, and the next read finds so.
         let _ = self.stream.shutdown(Shutdown::Write);
     }
 
-    /// Reads once what comes behind the end, until the peer has ended too.
+    /// Reads once, and drops, what arrives after the last response, until the peer has closed too.
     fn drain(&mut self) -> Step {
         let mut piece = [0u8; READ_SIZE];
         match self.stream.read(&mut piece) {

@@ -13,13 +13,13 @@ use std::alloc::Global;
 use std::hash::RandomState;
 use std::time::{Duration, Instant};
 
-/// So many connections are open at most. One more takes the place of the one that hasn't got on for longest.
+/// The most connections that are open. A further one replaces the one whose last progress was longest ago.
 pub const MAX_GUESTS: usize = 64;
 
-/// One that hasn't got on for so long is closed, in seconds.
+/// The time without progress after which a connection is closed, in seconds.
 const MAX_REST: u64 = 10;
 
-/// Connections under keys, which are the tokens of their events.
+/// A table of connections. Their keys are the tokens of their events.
 #[derive(Drop)]
 pub(crate) struct Guests {
     alloc: Global,
@@ -29,7 +29,7 @@ pub(crate) struct Guests {
 }
 
 impl Guests {
-    /// With none yet. The peers choose the names of headers, so these are kept under secret keys.
+    /// An empty table. Peers choose the names of headers, so these are hashed with secret keys.
     pub(crate) fn new(alloc: Global, keys: RandomState) -> Guests {
         Guests {
             alloc,
@@ -38,8 +38,8 @@ impl Guests {
         }
     }
 
-    /// Takes a connection in. Where no memory is left for it, or the system refuses to watch it, it is closed, and the
-    /// others go on.
+    /// Adds a connection. If memory for it runs out, or the system can't register it, it is closed;
+    /// the others aren't affected.
     pub(crate) fn welcome(&mut self, registry: &Registry, stream: TcpStream, now: Instant) {
         self.make_room(now);
         if self.guests.len() >= MAX_GUESTS || self.guests.reserve(1).is_err() {
@@ -52,7 +52,7 @@ impl Guests {
         }
     }
 
-    /// Lets the one go that hasn't got on for longest, where all places are taken.
+    /// If all places are taken, closes the connection whose last progress was longest ago.
     fn make_room(&mut self, now: Instant)
         ensures { slab_len self.new.guests ≤ slab_len self.old.guests }
     {
@@ -64,7 +64,7 @@ impl Guests {
         }
     }
 
-    /// The key of the one that hasn't got on for longest.
+    /// The key of the connection whose last progress was longest ago.
     fn slowest(&self, now: Instant) -> Option<usize> {
         let mut slowest = None;
         let mut longest = Duration::ZERO;
@@ -80,7 +80,7 @@ impl Guests {
         slowest
     }
 
-    /// Gives one its steps, and lets it go at its end.
+    /// Gives a connection its steps, and drops it if it has ended.
     pub(crate) fn go_on<S: Service>(
         &mut self,
         registry: &Registry,
@@ -103,7 +103,7 @@ impl Guests {
         }
     }
 
-    /// Lets those go that haven't got on for too long.
+    /// Closes the connections without progress for [`MAX_REST`] seconds.
     pub(crate) fn let_slow_go(&mut self, now: Instant)
         ensures { slab_len self.new.guests ≤ slab_len self.old.guests }
     {

@@ -1,10 +1,10 @@
-//! The thread behind `--http`: connections of browsers and scrapes, on one thread, which answers them by an
-//! [`http_server::Service`].
+//! The HTTP server of `--http`: serves the connections of browsers and scrapers on one thread, by
+//! an [`http_server::Service`].
 //!
-//! [`Site`] owns a listener over TCP and at most [`MAX_GUESTS`] connections. Each is a value of the crate
-//! `http_server`, which reads requests and encodes responses; here its bytes are moved, and it is decided how
-//! long it stays. A peer that sends nothing, reads nothing or sends what is no HTTP holds a place for a while, and
-//! nobody up.
+//! [`Site`] owns a TCP listener and at most [`MAX_GUESTS`] connections. The crate `http_server`
+//! reads requests and encodes responses; this one moves the bytes and decides how long a connection
+//! stays. A peer that sends nothing, reads nothing or sends no HTTP occupies one of the places for
+//! at most some seconds, and blocks no other peer.
 #![tactic(auto)]
 
 mod beat;

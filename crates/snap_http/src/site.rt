@@ -17,25 +17,25 @@ use std::rt::Clock;
 use std::sync::Wait;
 use std::time::{Duration, Instant};
 
-/// The tokens of the bell and of the listener. Connections have their keys as tokens.
+/// The tokens of the waker and of the listener. A connection's token is its key.
 const BELL: Token = Token(usize::MAX);
 
 const CALLERS: Token = Token(usize::MAX - 1);
 
-/// How many events one wait tells at most.
+/// The most events of one wait.
 const MAX_EVENTS: usize = 64;
 
-/// How many callers are taken in between two waits at most.
+/// The most connections that are accepted between two waits.
 const MAX_CALLERS: u32 = 16;
 
-/// The seconds between two beats: so long it waits at most, and then looks which connections have been slow for too long.
+/// The seconds between two beats, and so the longest wait. Idle connections are closed as often.
 const BEAT_REST: u64 = 1;
 
-/// What answers HTTP at one address.
+/// An HTTP server at one address.
 #[derive(Drop)]
 pub struct Site {
     poll: Poll,
-    /// What the last wait told. Taken at the beginning, so that a wait needs no memory.
+    /// The events of the last wait. Allocated at the start, so that a wait takes no memory.
     events: Events,
     callers: Callers,
     guests: Guests,
@@ -46,7 +46,7 @@ pub struct Site {
     beaten: Instant,
 }
 
-/// Gives each connection its steps that was reported.
+/// Gives its steps to each connection of which there is an event.
 fn take_events<S: Service>(
     events: &Events,
     poll: &Poll,
@@ -67,8 +67,8 @@ fn take_events<S: Service>(
 }
 
 impl Site {
-    /// A site at this listener, which waits for nobody, and what stops it. It allocates its lists here. An error is the
-    /// system's, or want of memory.
+    /// A site at this listener, which doesn't block, and the handle that stops it. It allocates its
+    /// lists here. An error is the system's, or that memory ran out.
     pub fn new(
         rt: &(impl Net + RandomSource + Clock),
         alloc: Global,
@@ -92,9 +92,9 @@ impl Site {
         Ok((site, stop))
     }
 
-    /// Answers requests by this service until it is stopped: then `Ok`, and what wasn't written is lost. Nothing that
-    /// a peer does ends it, and no want of memory. An error is that the system lets it wait no longer. About once a second
-    /// it gives a beat.
+    /// Answers requests by this service until it is stopped; then it returns `Ok`, and what wasn't
+    /// written is lost. About once a second it runs `beat`. It returns an error only if the
+    /// system's wait for events fails, never because of a peer or because memory ran out.
     pub fn serve<X: Wait + Clock, S: Service, B: Beat>(
         &mut self,
         rt: &X,
@@ -124,13 +124,13 @@ impl Site {
         unreachable!()
     }
 
-    /// Waits until something is to be done.
+    /// Waits for events.
     fn wait(&mut self) -> io::Result<()> {
         let most = self.longest_wait();
         self.poll.poll(&mut self.events, Some(most))
     }
 
-    /// How long to wait for something to be done.
+    /// The longest wait for events.
     fn longest_wait(&self) -> Duration {
         match self.callers.rest() {
             Some(rest) => rest,
@@ -140,7 +140,7 @@ impl Site {
         }
     }
 
-    /// Gives a beat where one is due.
+    /// Runs `beat` if a second has passed.
     fn keep_time<B: Beat>(&mut self, beat: &B) {
         if self.time.duration_since(self.beaten) >= Duration::from_secs(BEAT_REST) {
             self.beaten = self.time;
@@ -148,14 +148,14 @@ impl Site {
         }
     }
 
-    /// Where the clock fails, no time has passed.
+    /// Reads the clock. If that fails, no time has passed.
     fn look_at_clock<X: Clock>(&mut self, rt: &X) {
         if let Ok(now) = Instant::now(rt) {
             self.time = now;
         }
     }
 
-    /// Takes in those that wait to be accepted, some at most: the next wait is short then.
+    /// Accepts connections that wait, [`MAX_CALLERS`] at most.
     fn take_callers(&mut self) {
         for _ in 0..MAX_CALLERS {
             let Some(stream) = self.callers.next() else {

@@ -1,15 +1,15 @@
--- A document that grows, some tokens at a time.
+-- Documents that grow by some tokens at a time.
 use Rattle.std.proofs.Common.{◌≡◌, ℕ, zero, suc, refl, ◌+◌, ◌<◌, List, [], ◌∷◌, ◌++◌, length, take}
 use Rattle.std.proofs.Common.{Result, Ok, Err, OnOk, get_or, ap, sym, ◌∙◌, arith, append-nil, append_assoc}
 use Rattle.std.proofs.lemmas.List.{length-take-le, take_more}
 use Rattle.snap_json.specs.Each.{each_from}
 
--- more tokens behind those that were written
+-- more tokens after those that were written
 pub wrote : {A : Type 0} (old xs ys before after : List A) → before ≡ old ++ xs → after ≡ before ++ ys
     → after ≡ old ++ (xs ++ ys)
 wrote old xs ys before after e f = f ∙ ap (λ l. l ++ ys) e ∙ append_assoc old xs ys
 
--- the same of the last call
+-- more tokens by the last call, if it succeeded
 pub wrote_last : {A T E : Type 0} (r : Result T E) (old xs ys before after : List A) → before ≡ old ++ xs
     → OnOk r (after ≡ before ++ ys) → OnOk r (after ≡ old ++ (xs ++ ys))
 wrote_last (Ok x) old xs ys before after e f = wrote old xs ys before after e f
@@ -24,7 +24,7 @@ each_push f i j (y ∷ xs) x e =
     ap (λ l. f i y ++ l) (each_push f (i + 1) j xs x at)
     ∙ sym (append_assoc (f i y) (each_from f (i + 1) xs) (f j x))
 
--- what is said of the first k of these and of the next one, behind what stood there
+-- the elements' tokens up to and with the next one, after `old`
 pub each_next : {X Y : Type 0} (f : ℕ → X → List Y) (xs : List X) (k : ℕ) (x : X)
     (old before after : List Y) → after ≡ before ++ f k x → k < length xs → x ≡ get_or xs k x
     → before ≡ old ++ each_from f 0 (take k xs) → after ≡ old ++ each_from f 0 (take (k + 1) xs)
@@ -34,7 +34,7 @@ each_next f xs k x old before after now low is e =
     let more = ap (each_from f 0) first ∙ each_push f 0 k (take k xs) x (omega arith) in
     wrote old (each_from f 0 (take k xs)) (f k x) before after e now ∙ ap (λ l. old ++ l) (sym more)
 
--- what stands at a place is the same, whatever stands for a place that isn't there
+-- the element at a place inside the list doesn't depend on the default
 pub same_place : {X : Type 0} (xs : List X) (k : ℕ) (d e : X) → k < length xs
     → get_or xs k d ≡ get_or xs k e
 same_place [] k d e low = absurd (omega arith)

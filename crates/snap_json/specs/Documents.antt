@@ -1,4 +1,4 @@
--- JSON documents of what a server holds (docs/FORMATS.md, "JSON"), by their tokens.
+-- The JSON documents of values, statuses and health (docs/FORMATS.md, "JSON"), by their tokens.
 use Rattle.std.specs.Prelude.{ℕ, Bool, true, false, List, [], ◌∷◌, ◌++◌, codes, if◌then◌else◌}
 use Rattle.std.specs.List.{list_any}
 use Rattle.std.specs.Fmt.{decimal}
@@ -12,12 +12,12 @@ use Rattle.snap_frame.specs.declared.named.NamedValue.{NamedValue}
 use Rattle.snap_frame.specs.segment_value.SegmentValue.{SegmentValue}
 use Rattle.snap_json.specs.Each.{each_from}
 
--- the bytes as `text` where they are UTF-8, and else as `base64`
+-- the bytes as `text` if they are UTF-8, and else as `base64`
 abbrev pub bytes_tokens : List ℕ → List Token
 bytes_tokens bytes = if is_utf8 bytes then key (codes "text") ∷ string bytes ∷ []
     else key (codes "base64") ∷ string (encode_of standard bytes) ∷ []
 
--- what an object of segment i says first
+-- the beginning of segment i's object
 abbrev pub head_tokens : ℕ → ℕ → List Token
 head_tokens i k = begin_object ∷ key (codes "segment") ∷ number (decimal i) ∷ key (codes "number") ∷ number (decimal k) ∷ []
 
@@ -25,19 +25,19 @@ head_tokens i k = begin_object ∷ key (codes "segment") ∷ number (decimal i) 
 abbrev pub entry_tokens : (i k : ℕ) → List ℕ → List Token
 entry_tokens i k bytes = head_tokens i k ++ (bytes_tokens bytes ++ end_object ∷ [])
 
--- of the entry at place i of a snapshot, which is segment i's
+-- the object of the entry at place i of a snapshot
 abbrev pub value_tokens : ℕ → SegmentValue → List Token
 value_tokens i v = entry_tokens i v.number v.value
 
--- of an entry that names its segment
+-- the object of an entry that names its segment
 abbrev pub named_tokens : NamedValue → List Token
 named_tokens v = entry_tokens v.segment v.number v.value
 
--- the number of segment i, and whether it is fenced
+-- the object of segment i's status
 abbrev pub status_tokens : ℕ → SegmentStatus → List Token
 status_tokens i s = head_tokens i s.number ++ (key (codes "fenced") ∷ boolean s.is_fenced ∷ end_object ∷ [])
 
--- for a segment that is fenced, which one it is
+-- the index of segment i, if it is fenced
 abbrev pub fence_tokens : ℕ → SegmentStatus → List Token
 fence_tokens i s = if s.is_fenced then number (decimal i) ∷ [] else []
 
@@ -45,12 +45,12 @@ fence_tokens i s = if s.is_fenced then number (decimal i) ∷ [] else []
 abbrev pub line_of : List Token → List ℕ
 line_of tokens = print tokens ++ 10 ∷ []
 
--- the document that lists what these tokens say of segments
+-- the document with a list of segments
 abbrev pub list_text : List Token → List ℕ
 list_text tokens = line_of (begin_object ∷ key (codes "segments") ∷ begin_array
     ∷ (tokens ++ end_array ∷ end_object ∷ []))
 
--- what a document of a server's health says first
+-- the beginning of a document of a server's health
 abbrev pub health_tokens : Bool → List Token
 health_tokens b = begin_object ∷ key (codes "healthy") ∷ boolean b ∷ []
 
@@ -61,6 +61,6 @@ abbrev pub fenced_text : List SegmentStatus → List ℕ
 fenced_text statuses = line_of (health_tokens false ++ (key (codes "fenced") ∷ begin_array
     ∷ (each_from fence_tokens 0 statuses ++ end_array ∷ end_object ∷ [])))
 
--- that no segment is fenced, or which ones are
+-- the document of a server's health: no segment is fenced, or these are
 abbrev pub health_text : List SegmentStatus → List ℕ
 health_text statuses = if list_any (λ s. s.is_fenced) statuses then fenced_text statuses else healthy_text

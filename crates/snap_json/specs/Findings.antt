@@ -1,4 +1,4 @@
--- The document of what a check finds in a file (docs/FORMATS.md, "JSON"), by its tokens.
+-- The document of what a check found in a file (docs/FORMATS.md, "JSON"), by its tokens.
 use Rattle.std.specs.Prelude.{ℕ, List, [], ◌∷◌, ◌++◌, codes, Option, Some, None}
 use Rattle.std.specs.Fmt.{decimal}
 use Rattle.json.specs.Token.{Token, begin_object, end_object, begin_array, end_array, key, string, number, null}
@@ -12,7 +12,7 @@ use Rattle.snap_slot.specs.declared.slot.Slot.{Slot}
 use Rattle.snap_slot.specs.declared.slot.Slot.TheVariants.{Closed, Open, Bad}
 use Rattle.snap_json.specs.Documents.{line_of}
 
--- which segment the file is
+-- the place of the file's segment
 abbrev pub place_tokens : ℕ → ℕ → List Token
 place_tokens i n = key (codes "index") ∷ number (decimal i) ∷ key (codes "count") ∷ number (decimal n) ∷ []
 
@@ -43,12 +43,12 @@ abbrev pub answer_tokens : Option Found → List Token
 answer_tokens None = key (codes "answer") ∷ null ∷ []
 answer_tokens (Some found) = key (codes "answer") ∷ number (decimal found.number) ∷ []
 
--- the slots, and the number that they answer
+-- the slots, and the number that a restart would recover
 abbrev pub slots_tokens : Findings → List Token
 slots_tokens f = key (codes "slots") ∷ begin_array ∷ (slot_tokens 0 f.slots.0 ++ (slot_tokens 1 f.slots.1
     ++ (slot_tokens 2 f.slots.2 ++ end_array ∷ answer_tokens f.answer)))
 
--- what stands behind the header, which only an open header has
+-- the tokens after the header: only an open header has any
 abbrev pub behind_tokens : Header → Findings → List Token
 behind_tokens header.Closed f = []
 behind_tokens (header.Open i n) f = slots_tokens f

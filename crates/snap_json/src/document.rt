@@ -1,4 +1,4 @@
-//! The documents.
+//! The documents of values, statuses and health.
 ghost use Rattle.std.specs.Prelude.{◌≡◌, ◌++◌, ◌∷◌, [], false, IfOk, OnOk, codes, flat_map};
 ghost use Rattle.std.specs.List.{list_any};
 ghost use Rattle.json.specs.Token.{begin_array, begin_object, end_array, end_object, key};
@@ -12,7 +12,7 @@ use json::Writer;
 use snap_frame::{NamedValue, SegmentStatus, SegmentValue};
 use std::alloc::{AllocError, Global};
 
-/// All segments at one moment, in order, each with its number and value.
+/// The document of a scan: the number and value of each segment, in order.
 pub fn scan_document(alloc: Global, values: &[SegmentValue]) -> Result<Vec<u8>, AllocError>
     ensures { IfOk result (λ text. text.items
         ≡ list_text (each_from value_tokens 0 values.now)) }
@@ -22,7 +22,7 @@ pub fn scan_document(alloc: Global, values: &[SegmentValue]) -> Result<Vec<u8>, 
     end_list(writer)
 }
 
-/// Some segments at one moment, in the order given, each with its number and value.
+/// The document of a scan of some segments: the number and value of each, in the order given.
 pub fn part_document(alloc: Global, values: &[NamedValue]) -> Result<Vec<u8>, AllocError>
     ensures { IfOk result (λ text. text.items ≡ list_text (flat_map named_tokens values.now)) }
 {
@@ -31,7 +31,7 @@ pub fn part_document(alloc: Global, values: &[NamedValue]) -> Result<Vec<u8>, Al
     end_list(writer)
 }
 
-/// All segments in order, each with its number and whether it is fenced.
+/// The document of a status: the number of each segment, in order, and whether it is fenced.
 pub fn status_document(alloc: Global, statuses: &[SegmentStatus]) -> Result<Vec<u8>, AllocError>
     ensures { IfOk result (λ text. text.items
         ≡ list_text (each_from status_tokens 0 statuses.now)) }
@@ -41,7 +41,7 @@ pub fn status_document(alloc: Global, statuses: &[SegmentStatus]) -> Result<Vec<
     end_list(writer)
 }
 
-/// Whether no segment is fenced, and else which are.
+/// The document of a server's health: whether no segment is fenced, and if one is, which ones are.
 pub fn health_document(alloc: Global, statuses: &[SegmentStatus]) -> Result<Vec<u8>, AllocError>
     ensures { IfOk result (λ text. text.items ≡ health_text statuses.now) }
 {
@@ -59,7 +59,7 @@ fn is_any_fenced(statuses: &[SegmentStatus]) -> bool
     statuses.iter().any(|status| status.is_fenced)
 }
 
-/// That no segment is fenced.
+/// The document of a healthy server.
 fn healthy_document(alloc: Global) -> Result<Vec<u8>, AllocError>
     ensures { IfOk result (λ text. text.items ≡ healthy_text) }
 {
@@ -68,7 +68,7 @@ fn healthy_document(alloc: Global) -> Result<Vec<u8>, AllocError>
     line_of(writer)
 }
 
-/// Which segments are fenced.
+/// The document of a server with fenced segments, which lists them.
 fn fenced_document(alloc: Global, statuses: &[SegmentStatus]) -> Result<Vec<u8>, AllocError>
     ensures { IfOk result (λ text. text.items ≡ fenced_text statuses.now) }
 {
@@ -77,7 +77,7 @@ fn fenced_document(alloc: Global, statuses: &[SegmentStatus]) -> Result<Vec<u8>,
     end_list(writer)
 }
 
-/// Begins a document that lists which segments are fenced.
+/// Begins a document that lists the fenced segments.
 fn begin_fences(alloc: Global) -> Result<Writer, AllocError>
     ensures tokens { IfOk result (λ writer. writer.tokens
         ≡ health_tokens false ++ key (codes "fenced") ∷ begin_array ∷ []) }
@@ -113,7 +113,7 @@ fn put_values(alloc: Global, writer: &mut Writer, values: &[SegmentValue]) -> Re
     Ok(())
 }
 
-/// Appends an object for each value, under the index of the segment that it names.
+/// Appends an object for each value, with the index of the segment that it names.
 fn put_part(alloc: Global, writer: &mut Writer, values: &[NamedValue]) -> Result<(), AllocError>
     ensures tokens { OnOk result (writer.new.tokens
         ≡ writer.old.tokens ++ flat_map named_tokens values.now) }
@@ -126,7 +126,7 @@ fn put_part(alloc: Global, writer: &mut Writer, values: &[NamedValue]) -> Result
     Ok(())
 }
 
-/// Appends an object for each segment's fence.
+/// Appends an object for each segment's status.
 fn put_statuses(writer: &mut Writer, statuses: &[SegmentStatus]) -> Result<(), AllocError>
     ensures tokens { OnOk result (writer.new.tokens
         ≡ writer.old.tokens ++ each_from status_tokens 0 statuses.now) }
@@ -173,7 +173,7 @@ fn end_list(mut writer: Writer) -> Result<Vec<u8>, AllocError>
     line_of(writer)
 }
 
-/// The document as a line.
+/// The document with its line feed.
 pub(crate) fn line_of(writer: Writer) -> Result<Vec<u8>, AllocError>
     ensures { IfOk result (λ text. text.items ≡ writer.before ++ line_of writer.tokens) }
 {

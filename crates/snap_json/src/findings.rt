@@ -1,4 +1,4 @@
-//! What a check finds in a file, as a document.
+//! The document of what a check found in a file.
 ghost use Rattle.std.specs.Prelude.{◌≡◌, ◌++◌, IfOk, OnOk};
 ghost use Rattle.snap_json.specs.Findings.{answer_tokens, contents_tokens, findings_document};
 ghost use Rattle.snap_json.specs.Findings.{flaw_tokens, header_tokens, place_tokens, slot_tokens};
@@ -9,7 +9,8 @@ use json::Writer;
 use snap_slot::{Findings, Flaw, Found, Header, Slot};
 use std::alloc::{AllocError, Global};
 
-/// What was found in a file: its header, and where that is open its slots and the number that it answers.
+/// The document of a file: its header, and if that is open its slots and the number that a restart
+/// would recover.
 pub fn findings_document(alloc: Global, findings: &Findings) -> Result<Vec<u8>, AllocError>
     ensures { IfOk result (λ text. text.items ≡ findings_document findings.now) }
 {
@@ -23,7 +24,7 @@ pub fn findings_document(alloc: Global, findings: &Findings) -> Result<Vec<u8>, 
     line_of(writer)
 }
 
-/// Writes what the header says.
+/// Writes the header.
 fn put_header(writer: &mut Writer, header: &Header) -> Result<(), AllocError>
     ensures tokens { OnOk result (writer.new.tokens
         ≡ writer.old.tokens ++ header_tokens header.now) }
@@ -40,7 +41,7 @@ fn put_header(writer: &mut Writer, header: &Header) -> Result<(), AllocError>
     }
 }
 
-/// Writes which segment the file is.
+/// Writes the place of the file's segment.
 fn put_place(writer: &mut Writer, index: u8, count: u8) -> Result<(), AllocError>
     ensures tokens { OnOk result (writer.new.tokens
         ≡ writer.old.tokens ++ place_tokens index count) }
@@ -52,7 +53,7 @@ fn put_place(writer: &mut Writer, index: u8, count: u8) -> Result<(), AllocError
     writer.u64(count.into())
 }
 
-/// Writes the slots, and the number that they answer.
+/// Writes the slots, and the number that a restart would recover.
 fn put_slots(writer: &mut Writer, findings: &Findings) -> Result<(), AllocError>
     ensures tokens { OnOk result (writer.new.tokens
         ≡ writer.old.tokens ++ slots_tokens findings.now) }
@@ -67,7 +68,7 @@ fn put_slots(writer: &mut Writer, findings: &Findings) -> Result<(), AllocError>
     put_answer(writer, &findings.answer)
 }
 
-/// Writes what one slot is.
+/// Writes one slot.
 fn put_slot(writer: &mut Writer, index: u64, slot: &Slot) -> Result<(), AllocError>
     ensures tokens { OnOk result (writer.new.tokens
         ≡ writer.old.tokens ++ slot_tokens index slot.now) }
@@ -81,7 +82,7 @@ fn put_slot(writer: &mut Writer, index: u64, slot: &Slot) -> Result<(), AllocErr
     writer.end_object()
 }
 
-/// Writes the state of a slot, and what belongs to it.
+/// Writes the state of a slot, with its number and length or its flaw.
 fn put_state(writer: &mut Writer, slot: &Slot) -> Result<(), AllocError>
     ensures tokens { OnOk result (writer.new.tokens
         ≡ writer.old.tokens ++ state_tokens slot.now) }
@@ -107,7 +108,7 @@ fn put_contents(writer: &mut Writer, number: u64, length: u64) -> Result<(), All
     writer.u64(length)
 }
 
-/// Writes what is wrong with a bad slot.
+/// Writes the flaw of a bad slot.
 fn put_flaw(writer: &mut Writer, flaw: Flaw) -> Result<(), AllocError>
     ensures tokens { OnOk result (writer.new.tokens
         ≡ writer.old.tokens ++ flaw_tokens flaw) }
@@ -123,7 +124,7 @@ fn put_flaw(writer: &mut Writer, flaw: Flaw) -> Result<(), AllocError>
     })
 }
 
-/// Writes the number that a file answers, or that it has none.
+/// Writes the number that a restart would recover from the file, or null.
 fn put_answer(writer: &mut Writer, answer: &Option<Found>) -> Result<(), AllocError>
     ensures tokens { OnOk result (writer.new.tokens
         ≡ writer.old.tokens ++ answer_tokens answer.now) }

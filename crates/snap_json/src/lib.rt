@@ -1,8 +1,9 @@
-//! What a server holds, as JSON documents (docs/FORMATS.md, "JSON"), and a value as quoted text.
+//! JSON documents of values, statuses, health and files (docs/FORMATS.md, "JSON"), and values as
+//! quoted text.
 //!
-//! Each document is one object on one line. A value stands as text where its bytes are UTF-8, and
-//! else in base64; the name of its member says which. What a check finds in a file is one too.
-//! `specs/Documents.antt` and `specs/Findings.antt` have the tokens of each document.
+//! Each document is one object on one line. A value is written as text if its bytes are UTF-8, and
+//! else in base64; the name of its member says which. `specs/Documents.antt` and
+//! `specs/Findings.antt` have the tokens of each document.
 #![tactic(auto)]
 
 mod document;

@@ -1,4 +1,4 @@
-//! What a document says of one segment.
+//! The objects of single segments.
 ghost use Rattle.std.specs.Prelude.{◌≡◌, ◌++◌, ◌∷◌, [], IfOk, OnOk};
 ghost use Rattle.json.specs.Print.{print};
 ghost use Rattle.json.specs.Token.{end_object};
@@ -10,8 +10,8 @@ use json::Writer;
 use snap_frame::SegmentStatus;
 use std::alloc::{AllocError, Global};
 
-/// Appends the object of one segment to the text: what [`scan_document`](crate::scan_document) says of it, and
-/// no line feed.
+/// Appends the object of one segment, as in [`scan_document`](crate::scan_document), without a line
+/// feed.
 pub fn append_value(
     alloc: Global,
     text: Vec<u8>,
@@ -44,7 +44,7 @@ pub(crate) fn put_value(
     writer.end_object()
 }
 
-/// Writes one segment's number and fence.
+/// Writes one segment's number, and whether it is fenced.
 pub(crate) fn put_status(
     writer: &mut Writer,
     index: usize,
@@ -60,7 +60,7 @@ pub(crate) fn put_status(
     writer.end_object()
 }
 
-/// Writes one segment's index, where it is fenced.
+/// Writes one segment's index if it is fenced.
 pub(crate) fn put_fence(
     writer: &mut Writer,
     index: usize,
@@ -90,7 +90,7 @@ fn put_head(writer: &mut Writer, index: usize, number: u64) -> Result<(), AllocE
     writer.u64(number)
 }
 
-/// Writes bytes as text where they are UTF-8, and else in base64.
+/// Writes bytes as text if they are UTF-8, and else in base64.
 fn put_bytes(alloc: Global, writer: &mut Writer, bytes: &[u8]) -> Result<(), AllocError>
     ensures tokens { OnOk result (writer.new.tokens ≡ writer.old.tokens ++ bytes_tokens bytes.now) }
     ensures before { writer.new.before ≡ writer.old.before }

@@ -1,4 +1,4 @@
-//! A value as printable text.
+//! Values as quoted text.
 ghost use Rattle.std.specs.Prelude.{◌≡◌, IfOk, IfSome, false, is_some, option_map};
 ghost use Rattle.snap_json.specs.Quotation.{are_plain, is_plain, is_printable, is_white, quote_of};
 ghost use Rattle.snap_json.specs.Quotation.{quoted};
@@ -6,11 +6,12 @@ ghost use Rattle.snap_json.specs.Quotation.{quoted};
 use json::Writer;
 use std::alloc::{AllocError, Global};
 
-/// The byte that begins each control character of two bytes, and others.
+/// The first byte of the control characters that have two bytes, and of others.
 const LEAD: u8 = 194;
 
-/// The value between quotes as in JSON, where it is printable: UTF-8 without control characters but
-/// tabs and the ends of lines. So it is one line, and does nothing to a terminal.
+/// The value between quotes, as in JSON, if it is printable: UTF-8 without control characters but
+/// tabs and line ends. The result is one line, and has no effect on a terminal. `None` if the value
+/// isn't printable.
 pub fn quote(alloc: Global, value: &[u8]) -> Result<Option<Vec<u8>>, AllocError>
     ensures { IfOk result (λ text. option_map (λ t. t.items) text ≡ quote_of value.now) }
 {
@@ -20,7 +21,7 @@ pub fn quote(alloc: Global, value: &[u8]) -> Result<Option<Vec<u8>>, AllocError>
     Ok(Some(quoted(alloc, text)?))
 }
 
-/// The value as text, where it is printable.
+/// The value as text, if it is printable.
 fn printable(value: &[u8]) -> Option<&str>
     ensures text { IfSome result (λ text. text.now ≡ value.now) }
     ensures is { is_some result ≡ is_printable value.now }
@@ -43,7 +44,7 @@ fn quoted(alloc: Global, text: &str) -> Result<Vec<u8>, AllocError>
     Ok(writer.into_inner())
 }
 
-/// No byte is of a control character, but for tabs and the ends of lines.
+/// Whether no byte belongs to a control character, except for tabs and line ends.
 fn are_plain(bytes: &[u8]) -> bool
     ensures { result ≡ are_plain false bytes.now }
 {
@@ -57,8 +58,8 @@ fn are_plain(bytes: &[u8]) -> bool
     true
 }
 
-/// The byte is of no control character, but for a tab or the end of a line. `is_behind` says that
-/// [`LEAD`] stands before it.
+/// Whether the byte belongs to no control character, or is a tab or line end. `is_behind`: the byte
+/// before it is [`LEAD`].
 fn is_plain(is_behind: bool, byte: u8) -> bool
     ensures { result ≡ is_plain is_behind byte }
 {
@@ -66,7 +67,7 @@ fn is_plain(is_behind: bool, byte: u8) -> bool
     is_white(byte) || !is_control
 }
 
-/// A tab or the end of a line.
+/// Whether the byte is a tab or line end.
 fn is_white(byte: u8) -> bool
     ensures { result ≡ is_white byte }
 {

@@ -1,4 +1,4 @@
--- What is shown has no byte below 32.
+-- Shown text has no byte below 32.
 use Rattle.std.proofs.Common.{arith, append_assoc, refl, ◌≡◌, ◌≤◌, ◌+◌, ◌/◌, ◌%◌, ◌==◌, ℕ, zero}
 use Rattle.std.proofs.Common.{suc, Bool, true, false, List, [], ◌∷◌, ◌++◌, All, chars, codes, cond}
 use Rattle.std.proofs.Common.{flat_map, nat_le, nat_lt, slice_index_or}
@@ -33,7 +33,7 @@ one_of : (t : Bool) {a b : List ℕ} → Seen a → Seen b → Seen (cond t a b)
 one_of true first other = first
 one_of false first other = other
 
--- a text that is written out
+-- a literal text
 literal : (bytes : List ℕ) → list_all (nat_le 32) bytes ≡ true → Seen bytes
 literal bytes is = record {
   every = λ k d within.
@@ -99,7 +99,7 @@ name_is_seen Info = literal (codes "INFO") refl
 name_is_seen Debug = literal (codes "DEBUG") refl
 name_is_seen Trace = literal (codes "TRACE") refl
 
--- a line is one line
+-- the line of a record is one line
 pub one_line : (stamp : List ℕ) (level : Level) (target text : List ℕ)
     → IsOneLine (log_line stamp level target text)
 one_line stamp level target text =

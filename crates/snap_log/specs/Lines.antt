@@ -1,4 +1,4 @@
--- What a log was made with.
+-- The settings of a log.
 use Rattle.log.specs.declared.level.LevelFilter.{LevelFilter}
 use Rattle.snap_log.specs.declared.lines.Lines.{Lines}
 

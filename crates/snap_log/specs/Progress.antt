@@ -1,11 +1,11 @@
--- What the writing thread tells of lost lines.
+-- Reports of lost lines.
 use Rattle.std.specs.Prelude.{◌≡◌, ◌-◌, ◌<◌, ◌⊎◌, ℕ, List, Option}
 use Rattle.std.specs.Io.KnownBytes.{Appends}
 use Rattle.snap_log.specs.declared.output.Progress.{Progress}
 use Rattle.snap_log.specs.Line.{lost_line, on_its_own}
 
--- It told of no more lines than before; or more were lost than it had told of, and standard error got
--- the line that says how many.
+-- Either nothing more is reported; or more lines were lost than reported before, and standard error
+-- got the line that reports the difference.
 abbrev pub TellsLost : (lost : ℕ) (old new : Progress) (before after : Option (List ℕ)) → Type 0
 TellsLost lost old new before after =
     (new.told ≡ old.told)

@@ -1,4 +1,4 @@
-//! Where standard error goes.
+//! Where standard error leads: to the journal of systemd or elsewhere.
 ghost use Rattle.std.specs.Prelude.{◌≡◌, ◌↔◌, IfOk, IsTrue};
 ghost use Rattle.snap_log.specs.Line.{stream_text};
 
@@ -7,30 +7,31 @@ use std::fs;
 use std::os::unix::fs::MetadataExt;
 use std::rt::{Env, Files};
 
-/// Where the lines go. That decides what they begin with.
+/// Where the log's lines go, which decides how they begin.
 #[derive(Clone, Copy, Debug, PartialEq, Eq)]
 pub enum Destination {
-    /// The journal of systemd, which keeps itself when each line came: a line begins with its priority,
-    /// as `<4>`, which the journal takes off.
+    /// The journal of systemd. It records the time itself, so a line begins with its priority, such
+    /// as `<4>`, which the journal removes.
     Journal,
     /// A terminal, a file or a pipe: a line begins with the time.
     Other,
 }
 
-/// The variable by which systemd tells which stream it gave a program for the journal.
+/// The variable in which systemd names the stream that it connected to the journal.
 const JOURNAL_STREAM: &str = "JOURNAL_STREAM";
 
-/// The most bytes that the variable has: two numbers of up to 20 digits, and a colon.
+/// The longest value of the variable in bytes: two numbers of up to 20 digits, and a colon.
 const LONGEST: usize = 41;
 
-/// Standard error, as a path that leads to whatever it is, a socket too.
+/// Standard error as a path, which works for a socket too.
 const STANDARD_ERROR: &str = "/proc/self/fd/2";
 
 impl Destination {
-    /// Where standard error goes: to the journal, if the variable `JOURNAL_STREAM` names it. It takes
-    /// more than the variable, which programs inherit whose standard error goes elsewhere.
+    /// Finds out where standard error goes. It is the journal if the variable `JOURNAL_STREAM`
+    /// names this very stream: a program may inherit the variable although its standard error goes
+    /// elsewhere.
     ///
-    /// What can't be looked up is not the journal: without `/proc`, and where there is no memory.
+    /// If that can't be found out, without `/proc` or without memory, it is [`Destination::Other`].
     pub fn of_standard_error<R: Env + Files>(rt: &R, alloc: Global) -> Destination {
         let mut named = [0u8; LONGEST];
         let Ok(len) = rt.var(JOURNAL_STREAM, &mut named) else {
@@ -46,7 +47,7 @@ impl Destination {
     }
 }
 
-/// Whether the text of the variable names the stream with these numbers, as `DEVICE:INODE`.
+/// Whether `named`, the variable's value, is `DEVICE:INODE` with these numbers.
 fn is_named(alloc: Global, named: &[u8], device: u64, inode: u64) -> Result<bool, AllocError>
     ensures { IfOk result (λ is. IsTrue is ↔ (named.now ≡ stream_text device inode)) }
 {

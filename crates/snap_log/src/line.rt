@@ -6,8 +6,8 @@ use log::Level;
 use std::alloc::{AllocError, Global};
 use std::fmt::Write;
 
-/// The line `LEVEL target: text`, behind what it begins with. Characters that would break it, or that aren't
-/// seen, stand in it escaped: a line feed as `\n`, others as `\u{1b}`. A backslash stays as it is.
+/// The line `LEVEL target: text`, after its time or priority. Characters that would break the line,
+/// or that are invisible, are escaped: a line feed as `\n`, others as `\u{1b}`. A backslash isn't.
 pub(crate) fn line_of(
     alloc: Global,
     stamp: &str,
@@ -29,7 +29,8 @@ pub(crate) fn line_of(
     Ok(line)
 }
 
-/// Appends a text as it is shown in a line. After a refused growth a beginning of it may stand there.
+/// Appends a text with its hidden characters escaped. If memory runs out, a beginning of it may
+/// have been appended.
 fn push_shown(line: &mut String, text: &str) -> Result<(), AllocError>
     ensures { OnOk result (string_bytes line.new ≡ string_bytes line.old ++ shown_text text.now) }
 {
@@ -39,7 +40,7 @@ fn push_shown(line: &mut String, text: &str) -> Result<(), AllocError>
     Ok(())
 }
 
-/// Appends a character as it is shown in a line.
+/// Appends a character, escaped if it is hidden.
 fn push_char(line: &mut String, c: char) -> Result<(), AllocError>
     ensures { OnOk result (string_bytes line.new ≡ string_bytes line.old ++ shown_char c) }
 {
@@ -50,7 +51,7 @@ fn push_char(line: &mut String, c: char) -> Result<(), AllocError>
     }
 }
 
-/// Appends a character that can't stand in a line, by its letter or its number.
+/// Appends the escape of a character: a letter or its number.
 fn push_hidden(line: &mut String, c: char) -> Result<(), AllocError>
     ensures { OnOk result (string_bytes line.new ≡ string_bytes line.old ++ hidden_text c) }
 {
@@ -62,7 +63,7 @@ fn push_hidden(line: &mut String, c: char) -> Result<(), AllocError>
     }
 }
 
-/// Whether a character is a control character, or one that Unicode has for the end of a line.
+/// Whether a character is escaped: a control character, or one that ends a line in Unicode.
 fn is_hidden(c: char) -> bool
     ensures { result ≡ is_hidden c }
 {

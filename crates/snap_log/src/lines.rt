@@ -17,22 +17,22 @@ use std::rt::Clock;
 use std::sync::atomic::{AtomicU64, Ordering};
 use std::sync::{Arc, Wait};
 
-/// How many lines wait at most until they are written, but for those that threads hand over at the
-/// same moment.
+/// The most lines that wait to be written. Threads that send at the same moment may exceed it by
+/// one each.
 const MAX_WAITING: usize = 4_096;
 
-/// A line on its way to the thread that writes it.
+/// A line on its way to the writing thread.
 #[derive(Drop)]
 pub(crate) struct Line {
     /// The whole line, with its line feed.
     pub(crate) text: String,
-    /// How many lines had been lost before it.
+    /// How many lines had been lost before this one was sent.
     pub(crate) lost: u64,
     ghost one_line: { ∥ IsOneLine (string_bytes text) ∥₁ },
 }
 
-/// Takes the records of a program, up to a level, and hands a line for each to the thread that
-/// writes them. Threads share it by reference.
+/// Takes the records of a program up to a level, and sends a line for each to the writing thread.
+/// Threads share it by reference.
 #[derive(Drop)]
 pub struct Lines<'a, R: Wait + Clock> {
     rt: &'a R,
@@ -43,7 +43,7 @@ pub struct Lines<'a, R: Wait + Clock> {
     lost: Arc<AtomicU64, Global>,
 }
 
-/// The lines that wait until they are written, for [`write_lines`](crate::write_lines).
+/// The lines to be written, for [`write_lines`](crate::write_lines).
 #[derive(Drop)]
 pub struct Waiting {
     pub(crate) alloc: Global,
@@ -55,8 +55,8 @@ pub struct Waiting {
 impl<'a, R: Wait + Clock> Lines<'a, R> {
     ghost use Rattle.snap_log.specs.Lines.{lines_level};
 
-    /// A log of the records up to a level, and where its lines come out. An error is that there was no
-    /// memory for it.
+    /// A log of the records up to a level, and the receiving side of its lines. Fails only if
+    /// memory runs out.
     pub fn new(
         rt: &'a R,
         alloc: Global,
@@ -84,12 +84,12 @@ impl<'a, R: Wait + Clock> Lines<'a, R> {
         Ok((log, waiting))
     }
 
-    /// How many lines were lost up to now.
+    /// How many lines were lost so far.
     pub fn lost(&self) -> u64 {
         self.lost.load(Ordering::SeqCst)
     }
 
-    /// Hands the line of a record over, and says whether it did.
+    /// Sends the line of a record. Returns whether it was sent.
     fn hand_over<D: Display, K: Source, S: Spans>(&self, record: &Record<'_, D, K, S>) -> bool {
         if self.to.len() >= MAX_WAITING {
             return false;
@@ -120,8 +120,8 @@ impl<'a, R: Wait + Clock> Lines<'a, R> {
     }
 }
 
-/// A record above the level costs a comparison. Of one that is logged, the line is lost and counted
-/// where 4,096 lines wait, where there is no memory for it, and where nobody writes lines any more.
+/// A record above the level costs a comparison. The line of a logged record is lost, and counted,
+/// if 4,096 lines wait, if memory runs out, or if the writing thread has ended.
 impl<'a, R: Wait + Clock> Log for Lines<'a, R> {
     ghost use Rattle.snap_log.specs.Lines.{lines_level};
 

@@ -1,4 +1,4 @@
-//! What a record says.
+//! The text of a record.
 use log::Record;
 use log::kv::{self, Source, Value, VisitSource};
 use log::span::Spans;
@@ -18,7 +18,7 @@ impl<'a, 'r, D: Display, K: Source, S: Spans> Display for Message<'a, 'r, D, K, 
     }
 }
 
-/// Writes pairs behind a message.
+/// Appends pairs to a message.
 struct Pairs<'f, W> {
     f: &'f mut Formatter<W>,
 }

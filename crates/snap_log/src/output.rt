@@ -1,4 +1,4 @@
-//! The thread that writes the lines.
+//! The writing thread.
 ghost use Rattle.std.specs.Prelude.{◌≡◌, ◌≤◌, IfOk, not, string_bytes, true};
 ghost use Rattle.std.specs.Io.KnownBytes.{Appends};
 ghost use Rattle.snap_log.specs.Line.{lost_line, on_its_own};
@@ -15,20 +15,20 @@ use std::rt::Clock;
 use std::sync::Wait;
 use std::sync::atomic::Ordering;
 
-/// How far the lines are written.
+/// The state of the writing thread.
 #[derive(Drop)]
 struct Progress {
-    /// How many lost lines were told of.
+    /// How many lost lines have been reported.
     told: u64,
-    /// Whether a part of a line may stand there without its end.
+    /// Whether the last line may have been written in part, without its line feed.
     is_torn: bool,
 }
 
-/// Writes the lines, until no more will come: all that log to them are gone, and none waits.
+/// Writes the lines. It returns once every sender has been dropped and no line waits.
 ///
-/// Where lines were lost, a line says how many before the next one that wasn't, or at once where none
-/// waits: `WARN log: lines lost: 12`. It comes whatever the level of the log is; one that there is no
-/// memory for comes later. A line that can't be written whole is lost too, and what is written next
+/// If lines were lost, a line says how many, before the next one that wasn't, or at once if none
+/// waits: `WARN log: lines lost: 12`. It is written at every level of the log; if memory runs out
+/// for it, it is written later. A line that can't be written whole is lost too, and the next one
 /// begins on a line of its own.
 pub fn write_lines<R: Wait + Clock, E: Write>(rt: &R, waiting: &Waiting, errors: &mut E) {
     let mut progress = Progress {
@@ -52,7 +52,7 @@ pub fn write_lines<R: Wait + Clock, E: Write>(rt: &R, waiting: &Waiting, errors:
     tell_lost(rt, waiting, lost, &mut progress, errors);
 }
 
-/// Writes how many lines were lost since that was last told, if any, of so many in all.
+/// Writes how many lines were lost since the last such report, if any. `lost` is the total.
 fn tell_lost<R: Clock, E: Write>(
     rt: &R,
     waiting: &Waiting,
@@ -80,7 +80,7 @@ fn tell_lost<R: Clock, E: Write>(
     }
 }
 
-/// The line that says how many lines were lost.
+/// The line that reports `lost` lost lines.
 fn lost_line(alloc: Global, stamp: &str, lost: u64) -> Result<String, AllocError>
     ensures { IfOk result (λ line. string_bytes line ≡ lost_line stamp.now lost) }
 {
@@ -88,7 +88,7 @@ fn lost_line(alloc: Global, stamp: &str, lost: u64) -> Result<String, AllocError
     line_of(alloc, stamp, Level::Warn, "log", text.as_str())
 }
 
-/// Writes a line, behind a line feed where the one before was torn. Says whether it was taken whole.
+/// Writes a line, after a line feed if the last one was torn. Returns whether it was written whole.
 fn write_line<E: Write>(errors: &mut E, is_torn: &mut bool, line: &str) -> bool
     ensures torn { is_torn.new ≡ not result }
     ensures whole { result ≡ true → Appends (E.contents errors.old) (E.contents errors.new)

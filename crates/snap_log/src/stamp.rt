@@ -1,4 +1,4 @@
-//! What stands in front of a line: the time, or the journal's priority.
+//! The beginning of a line: the time, or the journal's priority.
 ghost use Rattle.std.specs.Prelude.{◌≡◌, []};
 ghost use Rattle.std.specs.Fmt.InlineText.{inline_text};
 
@@ -8,11 +8,11 @@ use log::Level;
 use std::fmt::InlineText;
 use std::rt::Clock;
 
-/// The room for a time and a space.
+/// The size of the buffer for a time and a space.
 const ROOM: usize = 32;
 
-/// The time of a line: now and a space, as `2026-11-25T16:47:28.123Z `. It is empty where the line
-/// goes to the journal, and the clock isn't asked; and where the clock can't be read.
+/// The current time and a space, such as `2026-11-25T16:47:28.123Z `. Empty if the clock can't be
+/// read, and for the journal, for which the clock isn't read.
 pub(crate) fn stamp<R: Clock>(rt: &R, destination: Destination) -> InlineText<ROOM>
     ensures { destination ≡ Destination.Journal → inline_text result ≡ [] }
 {
@@ -25,7 +25,7 @@ pub(crate) fn stamp<R: Clock>(rt: &R, destination: Destination) -> InlineText<RO
     }
 }
 
-/// What a line of this level begins with, at this time: of one that goes to the journal its priority there.
+/// The beginning of a line: for the journal the priority of its level, else this time.
 pub(crate) fn beginning<'a>(destination: Destination, level: Level, time: &'a str) -> &'a str {
     match destination {
         Destination::Journal => priority_of(level),
@@ -33,7 +33,7 @@ pub(crate) fn beginning<'a>(destination: Destination, level: Level, time: &'a st
     }
 }
 
-/// The priority of a level as the journal reads it in front of a line: a number of syslog's.
+/// The priority of a level as the journal expects it at the start of a line: a number of syslog's.
 fn priority_of(level: Level) -> &'static str {
     match level {
         Level::Error => "<3>",
@@ -43,7 +43,7 @@ fn priority_of(level: Level) -> &'static str {
     }
 }
 
-/// A time by RFC 3339 in UTC, cut to milliseconds, and a space.
+/// A time in RFC 3339 format, in UTC and cut to milliseconds, and a space.
 fn stamp_of(now: Timestamp) -> InlineText<ROOM> {
     InlineText::of(format_args!("{now:.3} "))
 }

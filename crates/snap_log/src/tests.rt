@@ -1,10 +1,10 @@
-//! What comes out of a log.
+//! Tests of whole logs.
 use crate::{Destination, Lines, write_lines};
 use log::{LevelFilter, debug, error, info, warn};
 use snap_stream::TestStream;
 use std::test::Fail;
 
-/// What stands on standard error, of which so many bytes are taken at most.
+/// A standard error that takes at most `passes` bytes.
 fn stream(rt: &HostRuntime, passes: usize) -> TestStream {
     TestStream {
         bytes: Vec::new(rt.alloc()),

@@ -1,4 +1,4 @@
--- What holds of an order.
+-- The limits of an order's fields.
 use Rattle.std.specs.Prelude.{◌≡◌, ◌⊎◌, Bool, false, true, ℕ, ◌+◌, ◌^◌, ◌<◌, ◌≤◌, List, length, All, IfSome}
 use Rattle.snap_frame.specs.Messages.{max_payload, payload, IsAskable}
 use Rattle.snap_frame.specs.declared.request.Request.{Request}
@@ -20,11 +20,11 @@ use Rattle.snap_order.specs.declared.order.Source.TheVariants as source
 use Rattle.snap_order.specs.declared.order.TheConstants.{MAX_ADDRESSES, MAX_CLIENTS, MAX_EVERY, MAX_IDLE, MAX_TIMEOUT, MODE_BITS}
 use Rattle.snap_order.specs.declared.order.FileOrder.TheVariants.{Format, Put, Get, Check, Slot}
 
--- there are 1 to 16 segments, and this is one of them
+-- segment `index` is one of `count`, and a server can have `count` segments
 abbrev pub IsPlace : ℕ → ℕ → Type 0
 IsPlace index count = (index < count) × (count ≤ MAX_COUNT)
 
--- its place is one, and its slot one of a file
+-- its place is one of a server's, and its slot one of a file's
 abbrev pub IsFileWithinLimits : FileOrder → Type 0
 IsFileWithinLimits (Format file index count) = IsPlace index count
 IsFileWithinLimits (Put file index count) = IsPlace index count
@@ -32,12 +32,12 @@ IsFileWithinLimits (Get file index count) = IsPlace index count
 IsFileWithinLimits (Check file is_json) = Unit {0}
 IsFileWithinLimits (Slot file slot) = slot < SLOT_COUNT
 
--- it is 1 to this many
+-- n is 1 to `most`
 abbrev pub IsOneTo : ℕ → ℕ → Type 0
 IsOneTo most n = (1 ≤ n) × (n ≤ most)
 
--- there are addresses and scanners, and no more than a server may have; the limits that are given are
--- within theirs
+-- its addresses and scanners are at least one and within their limits, and so is each limit that is
+-- given
 pub record KeepsLimits (s : Serving) : Type 0 where
   pub addresses : IsOneTo MAX_ADDRESSES (length s.addresses.items)
   pub mode : s.socket_mode ≤ MODE_BITS
@@ -46,40 +46,40 @@ pub record KeepsLimits (s : Serving) : Type 0 where
   pub clients : IfSome s.clients (IsOneTo MAX_CLIENTS)
   pub idle : IfSome s.idle (IsOneTo MAX_IDLE)
 
--- the same, and there are files, and no more than a server may have
+-- it also has files, and as many as a server may have at most
 pub record IsServable (s : Serving) : Type 0 where
   pub files : 1 ≤ length s.files.items
   pub few_files : length s.files.items ≤ MAX_COUNT
   pub limits : KeepsLimits s
 
--- The request that is sent for it. Of a put it is the one that asks for the number that is there.
+-- The request that is sent first: for a put the one for the current number.
 abbrev pub request_of : Question → Request
 request_of (question.Request r) = r
 request_of question.Health = request.Status
 request_of (question.Get segment) = request.Part (record { bits = 2 ^ segment })
 request_of (question.Put p) = request.Status
 
--- the value that the words gave fits an update
+-- a value given as an argument fits an update
 abbrev pub FitsUpdate : Source → Type 0
 FitsUpdate source.Input = Unit {0}
 FitsUpdate (source.Words bytes) = length bytes ≤ MAX_UPDATE_VALUE
 
--- a segment that is named in a set can be, and a put's value fits, with a number behind the one it is given
+-- a get's segment fits a set, a put's value fits an update, and its `after` has a next number
 abbrev pub IsWithin : Question → Type 0
 IsWithin (question.Request r) = Unit {0}
 IsWithin question.Health = Unit {0}
 IsWithin (question.Get segment) = segment < MAX_COUNT
 IsWithin (question.Put p) = FitsUpdate p.value × IfSome p.after (λ k. k + 1 < 2 ^ 64)
 
--- the answer lists segments
+-- the reply lists segments
 abbrev pub lists_segments : Question → Bool
 lists_segments (question.Request (request.Update i k bytes)) = false
 lists_segments (question.Request r) = true
 lists_segments question.Health = true
 lists_segments asked = false
 
--- its request fits a frame and is one that may be asked, and it is tried once or more, within a time that
--- may be given; the answer is printed in lines of hexadecimal text where it lists no segments
+-- its request fits a frame and is a valid one, its tries and times are within their limits, and a
+-- reply that lists no segments is printed in lines of hexadecimal text
 pub record IsCallable (c : Calling) : Type 0 where
   pub fits : length (payload (request_of c.question)) ≤ max_payload
   pub askable : IsAskable (request_of c.question)
@@ -90,19 +90,19 @@ pub record IsCallable (c : Calling) : Type 0 where
   pub timeout : IfSome c.timeout (IsOneTo MAX_TIMEOUT)
   pub layout : (c.layout ≡ Lines) ⊎ (lists_segments c.question ≡ true)
 
--- a server is tried once or more, within a time that may be given
+-- the tries and times are within their limits
 pub record IsDumpable (d : Dumping) : Type 0 where
   pub tries : 1 ≤ d.tries
   pub few_tries : d.tries ≤ MAX_TRIES
   pub wait : IfSome d.wait (IsOneTo MAX_TIMEOUT)
   pub timeout : IfSome d.timeout (IsOneTo MAX_TIMEOUT)
 
--- each segment that is named may be one of a server's, and the time between two looks is one that may be given
+-- each named segment can be one of a server's, and the time between two polls is within its limits
 pub record IsWatchable (w : Watching) : Type 0 where
   pub segments : All (λ s. s < MAX_COUNT) w.segments.items
   pub every : IfSome w.every (IsOneTo MAX_EVERY)
 
--- a count that is given is one of segments
+-- the count is one of segments, if it is given
 abbrev pub IsLoadable : Loading → Type 0
 IsLoadable l = IfSome l.count (IsOneTo MAX_COUNT)
 
@@ -119,7 +119,7 @@ IsWithinLimits (order.Dump d) = IsDumpable d
 IsWithinLimits (order.Load l) = IsLoadable l
 IsWithinLimits order.Script = Unit {0}
 
--- the path of its file
+-- the path of the order's file
 abbrev pub file_of : FileOrder → List ℕ
 file_of (Format file index count) = file.now
 file_of (Put file index count) = file.now

@@ -1,10 +1,9 @@
-//! The texts of addresses.
+//! Addresses of servers as text.
 
-/// What stands before the path of a Unix socket.
+/// Begins the address of a Unix socket.
 const UNIX: &str = "unix:";
 
-/// The path of the Unix socket that this address names, behind `unix:`; `None` where it names a host and
-/// a port.
+/// The path of a Unix socket's address: the text after `unix:`. `None` for a host and a port.
 pub fn socket_path(address: &str) -> Option<&str> {
     address.strip_prefix(UNIX)
 }

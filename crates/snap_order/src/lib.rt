@@ -1,7 +1,8 @@
-//! What the program `snapd` can be asked to do, how it can end, and what to do about a file that was
+//! The parsed command line of `snapd`, its exit statuses, and the advice about a file that was
 //! refused.
 //!
-//! It hands on what an order speaks of: the requests to a server, and the limits of all layers.
+//! It re-exports the types that an order uses: the requests to a server, and the limits of all
+//! layers.
 #![tactic(auto)]
 
 mod address;

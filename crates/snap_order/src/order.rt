@@ -1,31 +1,30 @@
-//! What the program can be asked to do.
+//! The parsed command line.
 
 use bytes::Bytes;
 use snap_frame::Request;
 
-/// The most connections that a server can be told to have open at once.
+/// The largest limit of open connections that a server takes.
 pub const MAX_CLIENTS: u32 = 1_000_000;
 
-/// The longest that a server can be told to wait for a connection that says nothing, in seconds: 365
-/// days.
+/// The longest idle timeout of a server's connections, in seconds: 365 days.
 pub const MAX_IDLE: u32 = 31_536_000;
 
 /// The most addresses that a server listens at.
 pub const MAX_ADDRESSES: usize = 16;
 
-/// The bits of a mode that say who may read, write and run a file.
+/// The permission bits of a mode: read, write and run, for user, group and others.
 pub const MODE_BITS: u16 = 0o777;
 
-/// What the words of the program ask for.
+/// A parsed command line.
 #[derive(Drop)]
 pub enum Order<'a> {
     /// A command on one file.
     File(FileOrder<'a>),
-    /// Carry a file of the old format over to a new file.
+    /// Convert a file of the old format to a new file.
     Migrate(Migration<'a>),
     /// Make the files of a folder.
     Init(Founding<'a>),
-    /// Say how the files of a folder are.
+    /// Report on the files of a folder.
     Doctor(Examination<'a>),
     /// Serve segments to clients.
     Serve(Serving<'a>),
@@ -34,20 +33,20 @@ pub enum Order<'a> {
         folder: &'a str,
         serving: Serving<'a>,
     },
-    /// Ask a server.
+    /// Send a request to a server.
     Call(Calling<'a>),
-    /// Show what a server holds, anew at each change.
+    /// Show the segments of a server, and each change.
     Watch(Watching<'a>),
-    /// Print all that a server or a folder holds, as a dump.
+    /// Print all values of a server or a folder as a dump.
     Dump(Dumping<'a>),
-    /// Make a folder of what a dump holds.
+    /// Make a folder of the values of a dump.
     Load(Loading<'a>),
     /// Run the script on standard input.
     Script,
 }
 
-/// A command on one file. `index` and `count` are the place of the file's segment among the
-/// segments that one server serves.
+/// A command on one file. `index` and `count` are the place of the file's segment among those of
+/// its server.
 #[derive(Clone, Copy)]
 pub enum FileOrder<'a> {
     /// Make and format the file.
@@ -58,13 +57,13 @@ pub enum FileOrder<'a> {
     Get { file: &'a str, index: u8, count: u8 },
     /// Show what the file holds, slot by slot: in lines, or as one JSON document.
     Check { file: &'a str, is_json: bool },
-    /// Print the value in this slot, whatever the others hold: below [`snap_slot::SLOT_COUNT`].
+    /// Print the value of one slot, whatever the others hold. `slot` is less than
+    /// [`snap_slot::SLOT_COUNT`].
     Slot { file: &'a str, slot: u8 },
 }
 
-/// Carries the number and value of one file over to another: `old` is the path of a file of the old
-/// format, and `new` that of the file to be made. `index` and `count` are the place of their
-/// segment, which stays.
+/// Converts a file of the old format, at the path `old`, to a new file at the path `new`, with the
+/// same number and value. `index` and `count` are the place of their segment, which stays.
 #[derive(Clone, Copy)]
 pub struct Migration<'a> {
     pub old: &'a str,
@@ -76,133 +75,134 @@ pub struct Migration<'a> {
 /// Makes the file of each segment in a folder.
 #[derive(Clone, Copy)]
 pub struct Founding<'a> {
-    /// The path of the folder, which is made where it isn't there.
+    /// The path of the folder, which is made if it doesn't exist.
     pub folder: &'a str,
-    /// How many segments there are to be: 1 to 16.
+    /// The number of segments: 1 to 16.
     pub count: u8,
-    /// Whether a file that is missing is made, empty, where another one holds a value.
+    /// Whether a missing file is made, empty, although another one holds a value.
     pub is_missing_empty: bool,
 }
 
-/// Says of a folder how its files and its file system are.
+/// Reports on the files and the file system of a folder.
 #[derive(Clone, Copy)]
 pub struct Examination<'a> {
     /// The path of the folder.
     pub folder: &'a str,
-    /// Whether it stores some values in a file of its own there, and says how long that took.
+    /// Whether it also stores some values there, in a file of its own, and prints the times.
     pub is_measured: bool,
 }
 
 /// Serves the segments of some files to clients that connect.
 #[derive(Drop)]
 pub struct Serving<'a> {
-    /// Where it listens, in order, as texts for the system, which may not take them: 1 to
-    /// [`MAX_ADDRESSES`].
+    /// The addresses that it listens at, in order: 1 to [`MAX_ADDRESSES`] texts, which the system
+    /// may refuse.
     pub addresses: Vec<&'a str>,
-    /// The mode of each Unix socket's file, which is that of who may connect: of [`MODE_BITS`].
+    /// The mode of each Unix socket's file, which says which users may connect. Only [`MODE_BITS`]
+    /// are set.
     pub socket_mode: u16,
     /// The path of each segment's file, in order of segment: 1 to 16.
     pub files: Vec<&'a str>,
-    /// How many requests are answered at the same moment: 1 to 16.
+    /// How many threads answer requests: 1 to 16.
     pub scanners: u8,
-    /// After how many connections it ends; `None` where it doesn't.
+    /// The number of connections after which it stops; `None` if it serves without end.
     pub connections: Option<u64>,
-    /// The most connections that are open at once: 1 to [`MAX_CLIENTS`]. `None` where it is as many
-    /// as the process may open.
+    /// The most connections that are open at once: 1 to [`MAX_CLIENTS`]. `None` for as many as the
+    /// process may open.
     pub clients: Option<u32>,
-    /// After how many seconds a connection is let go of that said nothing, and for which no request
-    /// is under way: 1 to [`MAX_IDLE`]. `None` where none is.
+    /// The idle timeout in seconds, 1 to [`MAX_IDLE`]: it closes a connection that has been silent
+    /// for that long, unless a request of it is still being answered. `None` if it closes none.
     pub idle: Option<u32>,
-    /// Which lines are written on standard error.
+    /// The level of its log, on standard error.
     pub log: Level,
-    /// Where it answers HTTP, to browsers and monitors, as text for the system, which may not take it. `None`
-    /// where it doesn't.
+    /// The address for HTTP, for browsers and monitors, as text that the system may refuse. `None`
+    /// without HTTP.
     pub http: Option<&'a str>,
 }
 
-/// How much a line of the log matters. A log at one of these levels has the lines of that level and
-/// of those above it here.
+/// The level of a log's line. A log of one level also has the lines of the levels above it in this
+/// list.
 #[derive(Clone, Copy)]
 pub enum Level {
-    /// Somebody has to act.
+    /// An operator has to act.
     Error,
-    /// Somebody should look.
+    /// An operator should check this.
     Warn,
-    /// What an operator wants to know of a server that is well.
+    /// The usual events of a healthy server.
     Info,
-    /// What helps to find a fault.
+    /// Details that help to find a fault.
     Debug,
 }
 
-/// How the answer of a call is printed.
+/// The format of a printed reply.
 #[derive(Clone, Copy, PartialEq, Eq)]
 pub enum Layout {
-    /// In lines, with each value in hexadecimal digits.
+    /// Lines, with each value in hexadecimal digits.
     Lines,
-    /// In lines, with each value as text where it is printable.
+    /// Lines, with each value as text if it is printable.
     Text,
-    /// As one JSON document.
+    /// One JSON document.
     Json,
 }
 
-/// The longest that a call can be told to wait for an answer, and to connect again, in seconds: a day.
+/// The longest `--wait` and `--timeout` of a call, in seconds: a day.
 pub const MAX_TIMEOUT: u32 = 86_400;
 
-/// Asks a server, and prints its answer.
+/// Sends a request to a server, and prints its reply.
 #[derive(Drop)]
 pub struct Calling<'a> {
-    /// Where the server listens, as text for the system, which may not take it.
+    /// The server's address, as text that the system may refuse.
     pub address: &'a str,
-    /// What is asked.
+    /// The request.
     pub question: Question,
-    /// The most connections that are made for each request of it: 1 to [`snap_client::MAX_TRIES`].
+    /// The most connections for each request: 1 to [`snap_client::MAX_TRIES`].
     pub tries: u8,
-    /// For how many seconds it connects again where no answer came: 1 to [`MAX_TIMEOUT`]. `None` where the tries alone
-    /// say how often.
+    /// For how many seconds it connects again while it has no reply: 1 to [`MAX_TIMEOUT`]. `None`
+    /// if only `tries` limits it.
     pub wait: Option<u32>,
-    /// After how many seconds without an answer it ends, all tries together: 1 to [`MAX_TIMEOUT`].
-    /// `None` where it doesn't.
+    /// The timeout in seconds of all tries together: 1 to [`MAX_TIMEOUT`]. `None` without a
+    /// timeout.
     pub timeout: Option<u32>,
-    /// How the answer to a read is printed.
+    /// The format of the reply to a read.
     pub layout: Layout,
 }
 
-/// The longest that a watch can be told to let pass between two looks, in milliseconds: a day.
+/// The longest time between two polls of a watch, in milliseconds: a day.
 pub const MAX_EVERY: u32 = 86_400_000;
 
 /// Shows the segments of a server, and each change of them.
 #[derive(Drop)]
 pub struct Watching<'a> {
-    /// Where the server listens, as text for the system, which may not take it.
+    /// The server's address, as text that the system may refuse.
     pub address: &'a str,
-    /// The segments that are shown, each below [`snap_history::MAX_COUNT`], as they were named. All are where
-    /// none is named.
+    /// The segments that are shown, in the order given, each less than [`snap_history::MAX_COUNT`].
+    /// Empty for all segments.
     pub segments: Vec<u8>,
-    /// How many milliseconds pass between two looks: 1 to [`MAX_EVERY`]. `None` where nobody said.
+    /// The time between two polls in milliseconds: 1 to [`MAX_EVERY`]. `None` if it wasn't given.
     pub every: Option<u32>,
     /// Whether each change is printed as a JSON object.
     pub is_json: bool,
 }
 
-/// Prints a dump of what a server or a folder holds.
+/// Prints a dump of all values of a server or a folder.
 #[derive(Clone, Copy)]
 pub struct Dumping<'a> {
-    /// Who holds it.
+    /// The source of the values.
     pub holder: Holder<'a>,
     /// The most connections that are made to a server: 1 to [`snap_client::MAX_TRIES`].
     pub tries: u8,
-    /// For how many seconds it connects again where no answer came: 1 to [`MAX_TIMEOUT`]. `None` where the tries alone
-    /// say how often.
+    /// For how many seconds it connects again while it has no reply: 1 to [`MAX_TIMEOUT`]. `None`
+    /// if only `tries` limits it.
     pub wait: Option<u32>,
-    /// After how many seconds without an answer of a server it ends, all tries together: 1 to [`MAX_TIMEOUT`].
-    /// `None` where it doesn't.
+    /// The timeout in seconds of all tries together, for a server's reply: 1 to [`MAX_TIMEOUT`].
+    /// `None` without a timeout.
     pub timeout: Option<u32>,
 }
 
-/// Who holds what is dumped.
+/// The source of a dump.
 #[derive(Clone, Copy)]
 pub enum Holder<'a> {
-    /// The server that listens here. The system may not take the text.
+    /// The server at this address, a text that the system may refuse.
     Server { address: &'a str },
     /// The files in the folder at this path.
     Folder { folder: &'a str },
@@ -211,26 +211,26 @@ pub enum Holder<'a> {
 /// Makes a folder with the files of a dump's segments.
 #[derive(Clone, Copy)]
 pub struct Loading<'a> {
-    /// The path of the folder, which isn't there or is empty.
+    /// The path of the folder, which must be missing or empty.
     pub folder: &'a str,
     /// The path of the dump; `-` is standard input.
     pub dump: &'a str,
-    /// How many segments there are to be: 1 to 16. `None` where there are as many as the dump has.
+    /// The number of segments: 1 to 16. `None` for as many as the dump has.
     pub count: Option<u8>,
 }
 
-/// What a call asks of its server, and so how the answer is told.
+/// The request of a call, which also decides how the reply is printed.
 #[derive(Drop)]
 pub enum Question {
-    /// This request, whose reply is printed. It fits a frame: an update's value has at most
-    /// [`snap_frame::MAX_UPDATE_VALUE`] bytes. A scan of some segments names one or more.
+    /// Send this request, and print its reply. It fits a frame: an update's value has at most
+    /// [`snap_frame::MAX_UPDATE_VALUE`] bytes. A scan of some segments names at least one.
     Request(Request),
-    /// Whether a segment is fenced, by a request for the status. The answer is the exit status too.
+    /// Ask for the status, to find out whether a segment is fenced. The exit status says so too.
     Health,
-    /// The value of this segment, by a scan of it alone: what is printed is the value, byte for byte. The
-    /// segment is below [`snap_history::MAX_COUNT`].
+    /// Scan this segment alone, and print its value, byte for byte. It is less than
+    /// [`snap_history::MAX_COUNT`].
     Get { segment: u8 },
-    /// To store a value as a segment's next number.
+    /// Store a value as a segment's next number.
     Put(Putting),
 }
 
@@ -241,8 +241,8 @@ pub struct Putting {
     pub segment: u8,
     /// Where the value comes from.
     pub value: Source,
-    /// The number behind which it is stored, at most `u64::MAX - 1`. `None` where the server is asked for
-    /// the number that is there.
+    /// The number that the value follows: it is stored under the next one. At most `u64::MAX - 1`.
+    /// `None` if the server is first asked for the current number.
     pub after: Option<u64>,
 }
 
@@ -251,7 +251,7 @@ pub struct Putting {
 pub enum Source {
     /// Standard input, up to its end.
     Input,
-    /// The words of the order: at most [`snap_frame::MAX_UPDATE_VALUE`] bytes.
+    /// An argument of the command: at most [`snap_frame::MAX_UPDATE_VALUE`] bytes.
     Words(Bytes),
 }
 
@@ -259,7 +259,7 @@ impl Question {
     ghost use Rattle.std.specs.Prelude.{◌≡◌};
     ghost use Rattle.snap_order.specs.Order.{lists_segments};
 
-    /// The answer lists segments: that of a scan, a part, the status or the health does.
+    /// Whether the reply lists segments, as that of a scan, a part, the status and the health does.
     pub fn lists_segments(&self) -> bool
         ensures { result ≡ lists_segments self.now }
     {

@@ -1,16 +1,16 @@
-//! How the program ends.
+//! Exit statuses.
 ghost use Rattle.std.specs.Prelude.{◌≡◌};
 
 /// How the program ends. [`Status::code`] is the exit status.
 #[derive(Clone, Copy, Debug, PartialEq, Eq)]
 pub enum Status {
-    /// It did what was asked.
+    /// Done.
     Done,
     /// A path, a standard stream, an address or a connection failed.
     Failed,
-    /// The words or a script's line can't be read, or numbers are outside their limits.
+    /// The arguments or a script's line can't be parsed, or a number is outside its limits.
     Misused,
-    /// It was refused by number, the findings end without an answer, or a segment is fenced.
+    /// Refused with a number; or a check found no value to serve, or a segment is fenced.
     Refused,
 }
 
@@ -33,9 +33,9 @@ impl Status {
 /// How a command ended.
 #[derive(Clone, Copy, Debug, PartialEq, Eq)]
 pub struct Exit {
-    /// How the program ends.
+    /// The exit status of the program.
     pub status: Status,
-    /// Whether standard error took the whole line that says why a command ended early. It is true
-    /// where there is no such line.
+    /// Whether standard error took the whole line that says why the command failed; true if it has
+    /// no such line.
     pub is_told: bool,
 }

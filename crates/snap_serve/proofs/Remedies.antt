@@ -1,4 +1,4 @@
--- What standard error gets of a refusal at a file.
+-- The lines on standard error for a refused file.
 use Rattle.std.proofs.Common.{◌≡◌, ◌++◌, ℕ, List, [], Bool, false, Option, Some, None, IfSome, IsNone, String, Global, string_bytes, refl}
 use Rattle.snap_disk.specs.declared.refusal.Refusal.{Refusal}
 use Rattle.snap_stream.specs.Streams.{SaysLines, refused_line}

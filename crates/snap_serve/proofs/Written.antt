@@ -1,4 +1,4 @@
--- What a server has written, step by step.
+-- The text that a server has printed, step by step.
 use Rattle.std.proofs.Common.{◌≡◌, ℕ, List, Option, Some, Ok, Err, inl, inr, ap}
 use Rattle.std.specs.Io.KnownBytes.{Appends}
 use Rattle.std.proofs.KnownBytes.{Appends-trans, Appends-kept}
@@ -38,7 +38,7 @@ module _ {L : Type 0} (site : Site L) (connections : Option ℕ) (r : Report) (o
   listen_failed NoMemory came (inr fails) = inr (inr (fails.0, fails.1, fails.2, inl came))
   listen_failed failure came fails = absurd fails
 
-  -- behind what was printed when it began to listen
+  -- after the text that was printed when it began to listen
   module _ {m : Option (List ℕ)} {l : L} (k : ℕ) (is : IsListening site l r o m)
       (asked : connections ≡ Some k) (came : site.gave l k) where
     pub served_failed : (failure : HostFailure) → PrintFails m n (served_line k) failure
@@ -72,7 +72,7 @@ module _ {L : Type 0} (site : Site L) (connections : Option ℕ) (r : Report) (o
       text = Appends-trans o m n (opening_text r is.places) (served_line k) is.text said;
     }
 
--- the listener's line, behind the report
+-- the listener's line, after the report
 module _ {L : Type 0} (site : Site L) (l : L) (line : List ℕ) (r : Report) (o m n : Option (List ℕ))
     (came : Appends o m (report_text r)) (named : IsNamed site l line) where
   opened : Appends m n line → Appends o n (opening_text r named.0)

@@ -10,7 +10,7 @@ abbrev pub AreScanners : RegistersId → Plan → List Known → Type 0
 AreScanners table plan scanners = (k : ℕ) (b : Known) → slice_get scanners k ≡ Some b
     → IsOf table plan b
 
--- whose registers they are: those of the first
+-- the registers of the first scanner
 abbrev pub table_of : List Known → RegistersId
 table_of [] = no_registers
 table_of (b ∷ rest) = b.table
@@ -19,6 +19,6 @@ abbrev pub plan_of : List Known → Plan
 plan_of [] = no_plan
 plan_of (b ∷ rest) = b.plan
 
--- there are figures for each worker: for each scanner, but the one of an onlooker
+-- there are figures for each worker: for each scanner, except the observer's
 abbrev pub HasFigures : {O : Type 0} (onlooker : Option O) (scanners workers : ℕ) → Type 0
 HasFigures onlooker scanners workers = (onlooker ≡ None → scanners ≤ workers) × (scanners ≤ workers + 1)

@@ -1,4 +1,4 @@
--- How a server ends, and what it has written by then.
+-- How a server ends, and what it has printed by then.
 use Rattle.std.specs.Prelude.{◌≡◌, ◌≢◌, ◌⊎◌, ℕ, Bool, true, List, ◌++◌, flat_map, length, map, slice_get, Option, Some, None, Result, Ok, Err}
 use Rattle.std.specs.Prelude.{codes}
 use Rattle.std.specs.Fmt.{decimal}
@@ -51,7 +51,7 @@ abbrev pub status_at : End → Status
 status_at (Ok k) = status.Done
 status_at (Err failure) = status_of failure
 
--- what is printed
+-- the lines that are printed
 abbrev pub listening_line : Endpoint → List ℕ
 listening_line endpoint = codes "listening " ++ (endpoint_text endpoint ++ codes "\n")
 
@@ -82,17 +82,17 @@ pub record IsReportOf {D : Type 0} (disk : Disk.Ghosts D) (devices : List D) (re
   pub theirs : segments ≡ map (λ (w : WriterState D). w.segment) writers
   pub crash : AreOpened disk devices writers
 
--- the device of this segment, where there is one, has so many bytes
+-- this is the length of this segment's device, if there is one
 abbrev pub IsLengthAt : {D : Type 0} (disk : Disk.Ghosts D) (devices : List D) (segment len : ℕ)
     → Type 0
 IsLengthAt {D} disk devices segment len = (d : D) → slice_get devices segment ≡ Some d
     → len ≡ length (disk.device d).bytes
 
--- the opening of these devices was refused at this segment, whose device has so many bytes, and a
+-- the opening of these devices was refused at this segment, whose device has `len` bytes, and a
 -- crash leaves what one before could
 pub record IsStopOf {D : Type 0} (disk : Disk.Ghosts D) (devices : List D) (segment : ℕ)
     (why : Refusal) (len : ℕ) : Type 0 where
-  -- the devices as they came back
+  -- the devices as they were returned
   pub news : List D
   pub stopped : IsStopped disk devices news why segment
   pub kept : StayKept disk devices news
@@ -100,21 +100,21 @@ pub record IsStopOf {D : Type 0} (disk : Disk.Ghosts D) (devices : List D) (segm
 
 -- ---- where it listens
 
--- where it is to listen, in order
+-- the addresses at which it is to listen, in order
 abbrev pub addresses_of : Serving → List (List ℕ)
 addresses_of order = map (λ address. address.now) order.addresses.items
 
--- a listener that was bound, at the places that it tells itself
+-- a listener that was bound, at the places that it names
 abbrev pub ListensAt : {L : Type 0} (bound : L → Type 0) (is_at : L → List Endpoint → Type 0) → L
     → List Endpoint → Type 0
 ListensAt bound is_at l places = bound l × is_at l places
 
--- so many connections were accepted from this listener, one after another
+-- k connections were accepted from this listener, one after another
 abbrev pub HaveCome : {L : Type 0} → (accepts : L → Result Arrival Unaccepted → L → Type 0) → L
     → ℕ → Type 0
 HaveCome {L} accepts l k = (last : L) × GivesSoMany accepts k l last
 
--- What is known of where a server is to listen.
+-- The place at which a server is to listen, as far as it is known.
 pub record Site (L : Type 0) : Type 1 where
   -- this listener may be the server's own, at these places
   pub listens_at : L → List Endpoint → Type 0
@@ -122,10 +122,10 @@ pub record Site (L : Type 0) : Type 1 where
   pub refuses : Unbound → Type 0
   -- this listener may refuse connections
   pub may_fail : L → Type 0
-  -- so many connections came from this listener
+  -- this many connections were accepted from this listener
   pub gave : L → ℕ → Type 0
 
--- the site of these addresses, where `binder` binds them
+-- the site of these addresses, if `binder` binds them
 abbrev pub site_at : {B L : Type 0} → Bind.Ghosts B L → Locate.Ghosts L → Listen.Ghosts L
     → (binder : B) (addresses : List (List ℕ)) → Site L
 site_at bind locate listen binder addresses = record {
@@ -135,10 +135,10 @@ site_at bind locate listen binder addresses = record {
   gave = HaveCome listen.accepts;
 }
 
--- ---- what it has written
+-- ---- what it has printed
 
--- Of the text no more than a beginning was written: no place but those of the server's listener,
--- and no number but the one that was asked for and has come from it.
+-- No more than a beginning of the text was printed: no place but those of the server's listener,
+-- and no number but the one that was asked for and was accepted from it.
 abbrev pub IsCutShort : {L : Type 0} (site : Site L) (connections : Option ℕ) → Report
     → (out out' : Option (List ℕ)) → Type 0
 IsCutShort {L} site connections report out out' =
@@ -148,11 +148,11 @@ IsCutShort {L} site connections report out out' =
     ⊎ ((k : ℕ) × (connections ≡ Some k) × site.gave l k
     × AppendsBeginning out out' (whole_text report places k))))
 
--- want of memory kept it from a listener
+-- memory ran out before there was a listener
 abbrev pub IsWithoutMemory : {L : Type 0} (site : Site L) → Type 0
 IsWithoutMemory site = (unbound : Unbound) × (unbound.why ≡ fault_of_bind.NoMemory) × site.refuses unbound
 
--- want of memory cuts no line short, and comes before the last one
+-- if memory runs out no line is cut short, and the last one isn't printed
 abbrev pub IsStarved : {L : Type 0} (site : Site L) → Report → (out out' : Option (List ℕ))
     → Type 0
 IsStarved {L} site report out out' = Keeps out out'
@@ -160,8 +160,8 @@ IsStarved {L} site report out out' = Keeps out out'
     ⊎ ((l : L) × (places : List Endpoint) × site.listens_at l places
     × (Appends out out' (report_text report) ⊎ Appends out out' (opening_text report places))))
 
--- What was written of a server whose threads or sockets failed: it said that it listens once it had
--- all that it serves by, and not before.
+-- The text of a server whose threads or sockets failed: it printed `listening` once it had all that
+-- it serves with, and not before.
 abbrev pub IsFaulted : Report → List Endpoint → (out out' : Option (List ℕ)) → ServerFault → Type 0
 IsFaulted report places out out' faults.AcceptFailed = Appends out out' (opening_text report places)
 IsFaulted report places out out' faults.PollFailed = Appends out out' (opening_text report places)
@@ -171,18 +171,18 @@ IsFaulted report places out out' faults.NoMemory = ⊥
 
 -- ---- how it ends
 
--- a server that has served so many connections
+-- a server that has served k connections
 pub record HasServed {L : Type 0} (site : Site L) (connections : Option ℕ) (report : Report)
     (out out' : Option (List ℕ)) (k : ℕ) : Type 0 where
   pub listener : L
   pub places : List Endpoint
   -- the listener is its own, at these places
   pub is_there : site.listens_at listener places
-  -- so many connections were asked for
+  -- k connections were asked for
   pub asked : connections ≡ Some k
-  -- and so many have come from it
+  -- and k were accepted from it
   pub came : site.gave listener k
-  -- all of the text was written
+  -- all of the text was printed
   pub text : Appends out out' (whole_text report places k)
 
 -- a server whose threads or sockets failed
@@ -192,13 +192,12 @@ pub record HasFailed {L : Type 0} (site : Site L) (report : Report) (out out' : 
   pub places : List Endpoint
   -- the listener is its own, at these places
   pub is_there : site.listens_at listener places
-  -- accepting failed only where the listener may fail
+  -- accepting failed only if the listener may fail
   pub deaf : fault ≡ faults.AcceptFailed → site.may_fail listener
-  -- what was written is what is written before such a fault
+  -- the text that is printed before such a fault was printed
   pub text : IsFaulted report places out out' fault
 
--- The server opened its files and then ended so; `out` and `out'` are what the writer held before
--- and after.
+-- The server opened its files and then ended so; `out` and `out'` are what the writer held before and after.
 abbrev pub EndsServing : {L : Type 0} (site : Site L) (connections : Option ℕ) → Report
     → (out out' : Option (List ℕ)) → End → Type 0
 EndsServing site connections report out out' (Ok k) =
@@ -212,7 +211,7 @@ EndsServing site connections report out out' (Err (Output error)) =
 EndsServing site connections report out out' (Err (Server fault)) =
     HasFailed site report out out' fault
 
--- The same from the opening of its devices on.
+-- The whole server, with the opening of its devices, ended so.
 abbrev pub EndsHost : {D L : Type 0} (disk : Disk.Ghosts D) (devices : List D) (site : Site L)
     (connections : Option ℕ) (out out' : Option (List ℕ)) → End → Type 0
 EndsHost disk devices site connections out out' (Err (Refused segment why len)) =
@@ -223,17 +222,17 @@ EndsHost disk devices site connections out out' end =
 
 -- ---- the steps
 
--- these lines name the places at which the listener is
+-- these lines name the places of the listener
 abbrev pub IsNamed : {L : Type 0} (site : Site L) → L → (lines : List ℕ) → Type 0
 IsNamed site l lines = (places : List Endpoint) × site.listens_at l places × (lines ≡ listening_text places)
 
--- a text was not written whole
+-- a text was not printed whole
 abbrev pub PrintFails : (out out' : Option (List ℕ)) (text : List ℕ) → HostFailure → Type 0
 PrintFails out out' text (Output error) = AppendsBeginning out out' text
 PrintFails out out' text NoMemory = Keeps out out'
 PrintFails out out' text failure = ⊥
 
--- an address was not bound, or there was no memory for that or for the lines that name them
+-- an address was not bound, or memory ran out for that or for the lines that name the addresses
 abbrev pub ListenFails : {L : Type 0} (site : Site L) → HostFailure → Type 0
 ListenFails site (Address unbound) = site.refuses unbound
 ListenFails {L} site NoMemory = IsWithoutMemory site
@@ -244,11 +243,11 @@ abbrev failure_by : BindFault → Unbound → HostFailure
 failure_by fault_of_bind.NoMemory unbound = NoMemory
 failure_by why unbound = Address unbound
 
--- what the program ends with where this was not bound
+-- the failure of the program for an address that wasn't bound
 abbrev pub unbound_failure : Unbound → HostFailure
 unbound_failure unbound = failure_by unbound.why unbound
 
--- what the program ends with where its server ended so
+-- the failure of the program for a fault of its server
 abbrev pub failure_of : RunFault → HostFailure
 failure_of (run.Announcement error) = Output error
 failure_of (run.Server faults.NoMemory) = NoMemory
@@ -256,15 +255,14 @@ failure_of (run.Server fault) = Server fault
 
 -- ---- standard error
 
--- of a refusal at this segment, what stands behind the refusal's line: a line that names the file,
--- save for want of memory
+-- the text after the line of a refusal at this segment: a line that names the file, unless memory ran out
 abbrev pub IsRemedy : {F : Type 0} (path : F → List ℕ) (files : List F) (segment : ℕ) → Refusal
     → List ℕ → Type 0
 IsRemedy path files segment why more = (file : _) → slice_get files segment ≡ Some file
     → why ≢ refusal.NoMemory → NamesFile (path file) more
 
--- what standard error got of the failure: of a refusal its line, and the remedy where it took all.
--- Of the others it got a line that begins `snapd: `, with a text of the system in it.
+-- The lines on standard error for a failure: for a refusal its line, and the remedy if all of it
+-- was written; for the others a line that begins `snapd: `, with a text of the system in it.
 abbrev pub SaysFailure : {F : Type 0} (path : F → List ℕ) (files : List F) → HostFailure
     → (is_told : Bool) (old new : Option (List ℕ)) → Type 0
 SaysFailure path files (Refused segment why len) is_told old new =
@@ -274,7 +272,7 @@ SaysFailure path files NoMemory is_told old new =
     SaysLines (refused_line refusal.NoMemory) is_told old new
 SaysFailure path files failure is_told old new = Complains None is_told old new
 
--- what it got at the end: nothing where it didn't end early
+-- the lines on standard error at the end: none if it didn't end early
 abbrev pub SaysEnd : {F : Type 0} (path : F → List ℕ) (files : List F) → End → (is_told : Bool)
     (old new : Option (List ℕ)) → Type 0
 SaysEnd path files (Ok k) is_told old new = (is_told ≡ true) × Keeps old new
@@ -282,14 +280,14 @@ SaysEnd path files (Err failure) is_told old new = SaysFailure path files failur
 
 -- ---- all of it
 
--- Status, standard error and what was written tell of one end: `errs` and `errs'` are what standard
--- error held before and after, `out` and `out'` what the writer did.
+-- The status, standard error and the printed text agree on one end: `errs` and `errs'` are what
+-- standard error held before and after, `out` and `out'` what the writer did.
 pub record TellsItsEnd {D L : Type 0} (disk : Disk.Ghosts D) (devices : List D) (site : Site L)
     (order : Serving) (ended : Exit) (errs errs' out out' : Option (List ℕ)) : Type 0 where
   pub end : End
   -- the status is the end's
   pub status : ended.status ≡ status_at end
-  -- standard error got what is said of such an end
+  -- standard error got the lines of such an end
   pub says : SaysEnd (λ file. file.now) order.files.items end ended.is_told errs errs'
-  -- and the server came to that end, with what was written then
+  -- and the server came to that end, with the text that was printed then
   pub ends : EndsHost disk devices site order.connections out out' end

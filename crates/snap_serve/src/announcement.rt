@@ -1,4 +1,4 @@
-//! What a server says once it is ready.
+//! The lines that a server prints once it is ready.
 ghost use Rattle.std.specs.Prelude.{◌≡◌, IfOk, string_bytes};
 ghost use Rattle.std.specs.Io.KnownBytes.{Appends};
 ghost use Rattle.snap_serve.specs.Serve.{listening_line, listening_text};
@@ -10,14 +10,14 @@ use snap_server::{Announce, Endpoint};
 use std::alloc::{AllocError, Global};
 use std::io::{self, Write};
 
-/// Writes lines that were made before, so that no want of memory keeps them back, and tells who watches.
+/// Prints lines that were made before, so that it needs no memory, and then notifies `watch`.
 #[derive(Drop)]
 pub(crate) struct Announcement<H: Drop> {
     pub(crate) lines: String,
     pub(crate) watch: H,
 }
 
-/// A line for each place at which a listener is.
+/// Makes a line for each place at which the server listens.
 pub(crate) fn lines_of(alloc: Global, endpoints: &[Endpoint]) -> Result<String, AllocError>
     ensures { IfOk result (λ lines. string_bytes lines ≡ listening_text endpoints.now) }
 {
@@ -29,7 +29,7 @@ pub(crate) fn lines_of(alloc: Global, endpoints: &[Endpoint]) -> Result<String, 
     Ok(lines)
 }
 
-/// The line of one place.
+/// Makes the line of one place.
 fn line_of(alloc: Global, endpoint: &Endpoint) -> Result<String, AllocError>
     ensures { IfOk result (λ line. string_bytes line ≡ listening_line endpoint.now) }
 {

@@ -1,4 +1,4 @@
-//! Where a server listens.
+//! The addresses at which a server listens.
 ghost use Rattle.std.specs.Prelude.{ℕ, List, IfOk, IfErr, map};
 ghost use Rattle.snap_serve.specs.declared.bind.Unbound.{Unbound};
 
@@ -10,24 +10,24 @@ use std::io::{self, ErrorKind};
 use std::net::{Net, ToSocketAddrs};
 use std::rt::{Clock, Files};
 
-/// Which of some addresses could not be bound, and why.
+/// The first address that couldn't be bound, and why.
 #[derive(Drop)]
 pub struct Unbound {
-    /// Its place among them.
+    /// Its place in the list of addresses.
     pub place: usize,
-    /// Why.
+    /// Why it couldn't be bound.
     pub why: BindFault,
 }
 
 /// Binds addresses.
 pub trait Bind {
-    /// What gives the connections that come to the addresses, and tells which ones are bound.
+    /// Accepts the connections at all bound addresses, and names these.
     type Listener: Listen + Locate;
 
-    // Which listeners may be bound to some texts.
+    // The listeners that may result from binding some texts.
     ghost binds: { Self → List (List ℕ) → Self.Listener → Type 0 } = { λ _ _ _. Unit {0} };
 
-    // Why some texts may be refused.
+    // The errors that may result from binding some texts.
     ghost refuses: { Self → List (List ℕ) → Unbound → Type 0 } = { λ _ _ _. Unit {0} };
 
     /// Binds these addresses, which are texts for the system: all, or none.
@@ -38,7 +38,7 @@ pub trait Bind {
             refuses self.now (map (λ a. a.now) addresses.now.items) unbound) };
 }
 
-/// Binds addresses over TCP, and paths of Unix sockets.
+/// Binds TCP addresses, and paths of Unix sockets.
 #[derive(Drop)]
 pub struct Network<'a, X: Net + Files<File = File> + Clock> {
     net: &'a X,
@@ -46,7 +46,7 @@ pub struct Network<'a, X: Net + Files<File = File> + Clock> {
 }
 
 impl<'a, X: Net + Files<File = File> + Clock> Network<'a, X> {
-    /// Binds by this handle. The file of a Unix socket gets this mode.
+    /// Binds by the handle `net`. The file of a Unix socket gets this mode.
     pub fn new(net: &'a X, socket_mode: u32) -> Network<'a, X> {
         Network { net, socket_mode }
     }
@@ -68,7 +68,7 @@ impl<'a, X: Net + Files<File = File> + Clock> Network<'a, X> {
         Ok(())
     }
 
-    /// A name is looked up, and its addresses are tried in order. The error is the last one's.
+    /// Resolves a name, and tries its addresses in order. The error is the last one's.
     fn bind_tcp(&self, address: &str) -> io::Result<Tcp> {
         let mut why = io::Error::from(ErrorKind::InvalidInput);
         for candidate in address.to_socket_addrs(self.net)? {
@@ -84,7 +84,7 @@ impl<'a, X: Net + Files<File = File> + Clock> Network<'a, X> {
 impl<'a, X: Net + Files<File = File> + Clock> Bind for Network<'a, X> {
     type Listener = Listeners<'a, X>;
 
-    /// A text that begins with `unix:` names a path, and any other one a host and a port.
+    /// Binds a text that begins with `unix:` as a path, and any other one as a host and a port.
     fn bind(&self, alloc: Global, addresses: &Vec<&str>) -> Result<Listeners<'a, X>, Unbound> {
         let mut listeners = match Listeners::new(self.net, alloc) {
             Ok(listeners) => listeners,

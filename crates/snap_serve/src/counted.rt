@@ -1,10 +1,10 @@
-//! A listener whose connections are counted.
+//! A listener that counts.
 
 use snap_figures::Figures;
 use snap_server::{Arrival, Listen, Unaccepted};
 use std::marker::Model;
 
-/// A listener that counts the connections that it gives. In all else it is the listener that it was made of.
+/// A listener that counts the connections that it accepts. In all else it is the inner listener.
 #[derive(Drop)]
 pub(crate) struct CountedListener<'a, L: Drop> {
     listener: L,
@@ -20,7 +20,7 @@ impl<'a, L: Drop> Model for CountedListener<'a, L> {
 impl<'a, L: Drop> CountedListener<'a, L> {
     ghost use Rattle.std.specs.Prelude.{◌≡◌};
 
-    /// This listener, whose connections are counted here.
+    /// Wraps `listener`, and counts in `figures`.
     pub(crate) fn new(listener: L, figures: &'a Figures) -> CountedListener<'a, L>
         ensures { result ≡ listener }
     {

@@ -1,4 +1,4 @@
-//! Why a server did not serve.
+//! Why a server ended early.
 ghost use Rattle.std.specs.Prelude.{◌≡◌, IfSome, string_bytes};
 ghost use Rattle.snap_serve.specs.Serve.{IsRemedy, SaysFailure, status_of};
 ghost use Rattle.snap_stream.specs.Streams.{file_line};
@@ -17,26 +17,26 @@ use std::io::{self, Write};
 /// Why a server ended early.
 #[derive(Drop)]
 pub enum HostFailure {
-    /// The file of this segment, of so many bytes, was refused, or there was no memory at it.
+    /// The file of this segment, with `len` bytes, was refused, or memory ran out when it was opened.
     Refused {
         segment: usize,
         why: Refusal,
         len: u64,
     },
-    /// No memory.
+    /// Memory ran out.
     NoMemory,
     /// An address couldn't be bound.
     Address(Unbound),
     /// The writer failed.
     Output(io::Error),
-    /// No more connections could be accepted or watched.
+    /// A thread couldn't be started, or connections could no longer be accepted or polled.
     Server(ServerFault),
 }
 
 impl HostFailure {
-    /// Says on standard error why the server ended, as one line that begins `snapd: `. Behind the
-    /// line of a file's refusal one more names the file and says what to do.
-    /// `causes` has what the system said of each segment's device.
+    /// Prints on standard error why the server ended, as one line that begins `snapd: `. After a
+    /// refused file a second line names the file and says what to do. `causes` has the system's
+    /// message for each segment's device.
     pub fn report<C: Cause, E: Write>(
         &self,
         alloc: Global,
@@ -79,7 +79,7 @@ impl HostFailure {
     }
 }
 
-/// The address of this place, as it was given.
+/// The address at this place of the command line.
 fn address_at<'a>(order: &Serving<'a>, place: usize) -> &'a str {
     match order.addresses.get(place) {
         Some(address) => *address,
@@ -87,7 +87,7 @@ fn address_at<'a>(order: &Serving<'a>, place: usize) -> &'a str {
     }
 }
 
-/// What to do where an address couldn't be bound.
+/// The advice after an address that couldn't be bound.
 fn advice_on(address: &str, why: &BindFault) -> &'static str {
     match why {
         BindFault::System(_) if socket_path(address).is_none() => {
@@ -105,7 +105,7 @@ fn advice_on(address: &str, why: &BindFault) -> &'static str {
     }
 }
 
-/// The end of a server whose stream or socket failed.
+/// The exit of a server whose stream or socket failed.
 fn failed(is_told: bool) -> Exit
     ensures status { result.status ≡ Status.Failed }
     ensures told { result.is_told ≡ is_told }
@@ -116,8 +116,8 @@ fn failed(is_told: bool) -> Exit
     }
 }
 
-/// The line behind that of a refusal at this segment, whose file has so many bytes, or none for
-/// want of memory. It is empty where the refusal is want of memory.
+/// The line after a file's refusal, or `None` if memory for it runs out. It is empty if the refusal
+/// itself is `NoMemory`. `len` is the file's length in bytes.
 fn remedy_line<C: Cause>(
     alloc: Global,
     files: &Vec<&str>,
@@ -152,7 +152,7 @@ fn line_of(alloc: Global, file: &str, text: &String) -> Option<String>
     }
 }
 
-/// What to do about a file of so many bytes that was refused.
+/// The advice after a file's refusal. `len` is the file's length in bytes.
 fn remedy_of<C: Cause>(
     alloc: Global,
     file: &str,
@@ -170,7 +170,7 @@ fn remedy_of<C: Cause>(
     }
 }
 
-/// Of a file that isn't this segment's, by its length.
+/// The advice about a file that isn't this segment's, by its length.
 fn of_wrong(
     alloc: Global,
     file: &str,
@@ -185,13 +185,13 @@ fn of_wrong(
     }
 }
 
-/// Of a file without a byte, which is what a `format` leaves that was cut off.
+/// The advice about an empty file: a `format` that was cut off leaves one.
 fn of_empty(alloc: Global, file: &str, segment: usize, count: usize) -> Result<String, AllocError> {
     let command = words_of_format(alloc, file, segment, count)?;
     empty_remedy(alloc, command.as_str())
 }
 
-/// Of a file that is another segment's, or none.
+/// The advice about a file that is another segment's, or no segment's.
 fn of_another(
     alloc: Global,
     file: &str,
@@ -201,7 +201,7 @@ fn of_another(
     format!(in alloc; "it isn't the file of segment {segment} of {count}: see snapd check {file}")
 }
 
-/// Of a file whose header's gate is closed.
+/// The advice about a file whose header's gate is closed.
 fn of_unformatted(
     alloc: Global,
     file: &str,
@@ -212,7 +212,7 @@ fn of_unformatted(
     unformatted_remedy(alloc, command.as_str())
 }
 
-/// The words that format a file as this segment's.
+/// The command that formats a file as this segment's.
 fn words_of_format(
     alloc: Global,
     file: &str,
@@ -222,7 +222,7 @@ fn words_of_format(
     format_command(alloc, file, segment as u64, count as u64)
 }
 
-/// Of a file whose device failed, with what the system said of that.
+/// The advice about a file whose device failed, with the system's message.
 fn of_failed(alloc: Global, cause: Option<String>) -> Result<String, AllocError> {
     match cause {
         Some(cause) => format!(in alloc; "{cause}: look after its disk, and start again"),
@@ -232,7 +232,7 @@ fn of_failed(alloc: Global, cause: Option<String>) -> Result<String, AllocError>
     }
 }
 
-/// What the system said of this segment's device.
+/// The system's message for this segment's device.
 fn cause_of<C: Cause>(alloc: Global, causes: &[C], segment: usize) -> Option<String> {
     causes.get(segment)?.text(alloc)
 }

@@ -1,10 +1,9 @@
-//! Everything between a server's files and its clients: [`host`] opens the files, prints what it
-//! found, listens, and serves.
+//! Runs a server: [`host`] opens its files, prints what it found, listens, and serves.
 //!
-//! Each worker is a desk with a scanner of its own, and each segment's updates are stored by a
-//! thread of its own; who looks from outside has a scanner and a thread too. What the system gives, how an
-//! address is bound, who is told of connections and of updates, who looks, and the limits come from the
-//! caller ([`Edge`]).
+//! Each worker is a desk with a scanner of its own, and each segment has a storer thread. An
+//! observer, such as the HTTP server, has a scanner and a thread too. The caller supplies the
+//! system's handle, the binding of addresses, the callbacks for connections and updates, the
+//! observer, and the limits ([`Edge`]).
 #![tactic(auto)]
 
 mod announcement;

@@ -1,11 +1,11 @@
-//! What a server tells, as lines of the log.
+//! A server's events, as lines of the log.
 
 use log::{Log, debug, info, warn};
 use snap_server::{Ended, Ending, Note};
 use snap_session::End;
 
-/// Logs a note: what keeps callers out is a warning, and how a connection ended is for debugging, save
-/// where want of memory ended it.
+/// Logs an event of a server. It is a warning if connections can't be accepted; the end of a
+/// connection is for debugging, except a close because memory ran out, which is a warning.
 pub fn log_note<L: Log>(log: &L, note: &Note) {
     match *note {
         Note::Ended(ended) => log_end(log, ended),
@@ -29,7 +29,7 @@ fn log_end<L: Log>(log: &L, ended: Ended) {
     }
 }
 
-/// How a connection ended.
+/// The text of a connection's end.
 fn text_of(how: Ending) -> &'static str {
     match how {
         Ending::Session(End::Closed) => "closed",

@@ -1,19 +1,19 @@
-//! Who looks at a running server from outside.
+//! The observer of a running server.
 
 use snap_session::Service;
 use std::rt::Clock;
 use std::sync::Wait;
 
-/// Looks at a running server, on a thread of its own and by a scanner of its own: so it holds nobody up.
+/// Observes a running server, on a thread and with a scanner of its own, so it blocks no worker.
 pub trait Onlook {
-    /// Looks by this service, which hands nothing over and stores nothing, until it is stopped.
+    /// Observes by this service, which answers at once and stores nothing, until it is stopped.
     fn look<X: Wait + Clock, S: Service + Drop>(&self, rt: &X, service: S);
 
-    /// Has it end: a look that is under way returns soon, and one that comes returns at once.
+    /// Stops it: a running `look` returns soon, and a later one returns at once.
     fn stop(&self);
 }
 
-/// Nobody.
+/// No observer.
 #[derive(Drop)]
 pub struct NoOnlooker;
 

@@ -1,4 +1,4 @@
-//! What a server prints.
+//! The lines that a server prints.
 ghost use Rattle.std.specs.Prelude.{OnOk, IfErr, string_bytes};
 ghost use Rattle.std.specs.Io.KnownBytes.{Appends};
 ghost use Rattle.snap_stream.specs.Streams.{AppendsBeginning};
@@ -11,7 +11,7 @@ use snap_stream::write_whole;
 use std::alloc::Global;
 use std::io::{self, Write};
 
-/// Writes what was found in the files.
+/// Prints what was found in the files.
 pub(crate) fn print_report<W: Write>(
     alloc: Global,
     report: &Report,
@@ -31,7 +31,7 @@ pub(crate) fn print_report<W: Write>(
     }
 }
 
-/// Says how many connections were served.
+/// Prints how many connections were served.
 pub(crate) fn print_served<W: Write>(
     alloc: Global,
     served: u64,
@@ -51,8 +51,8 @@ pub(crate) fn print_served<W: Write>(
     }
 }
 
-/// Writes a text at once and flushes it, which no clause can tell: a flush leaves what the writer
-/// holds the same.
+/// Prints a whole text and flushes it. No clause says that it is flushed, since a flush doesn't
+/// change what the writer holds.
 pub(crate) fn print_line<W: Write>(text: &String, writer: &mut W) -> io::Result<()>
     ensures whole { OnOk result
         (Appends (W.contents writer.old) (W.contents writer.new) (string_bytes text.now)) }

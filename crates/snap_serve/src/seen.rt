@@ -1,4 +1,4 @@
-//! A server that somebody looks at from outside.
+//! A server with an observer.
 ghost use Rattle.std.specs.Prelude.{◌≡◌, ◌-◌, ◌≤◌, Some, IfOk, IfErr, length};
 ghost use Rattle.std.specs.Thread.{IsSync, IsSend};
 ghost use Rattle.snap_server.specs.Announced.{Announced};
@@ -17,14 +17,14 @@ use std::sync::Wait;
 use std::thread;
 use std::thread::Threads;
 
-/// Who looks, and by which scanner.
+/// An observer, and the service by which it reads.
 #[derive(Drop)]
 pub(crate) struct View<'a, M: Memory, O> {
     lookout: Lookout<M>,
     onlooker: &'a O,
 }
 
-/// Takes the last desk for who looks; the others are the workers'. None where there is no desk.
+/// Takes the last desk for the observer; the others are the workers'. `None` if there is no desk.
 pub(crate) fn take_view<'a, R: Wait + Copy + Clock, M: Memory, D: Disk + Drop, O>(
     desks: &mut Vec<Desk<R, M, D>>,
     onlooker: &'a O,
@@ -41,7 +41,7 @@ pub(crate) fn take_view<'a, R: Wait + Copy + Clock, M: Memory, D: Disk + Drop, O
     }
 }
 
-/// Serves as [`run`] does, while somebody looks from a thread of its own. That ends once the server has.
+/// Serves as [`run`] does, while the observer runs in a thread of its own, which ends once the server has.
 pub(crate) fn run_seen<X, L, S, B, M, O, G, N, T, A>(
     rt: &X,
     alloc: Global,

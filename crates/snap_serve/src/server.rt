@@ -29,44 +29,44 @@ use std::sync::Wait;
 use std::thread::Threads;
 use std::time::Duration;
 
-/// The rest after a fault of the listener, in milliseconds: with the longer ones behind further
-/// faults accepting ends after three minutes.
+/// The pause after a first fault of the listener, in milliseconds. With the longer ones after
+/// further faults, accepting ends after three minutes.
 const FAULT_REST: u64 = 20;
 
-/// What a server meets at its edge.
+/// The environment of a server.
 #[derive(Drop)]
 pub struct Edge<'a, B, G, N, H: Drop, C, O> {
     /// Binds the addresses.
     pub bind: &'a B,
-    /// Is told of each request before it is answered and after.
+    /// Is called before each request is answered and after.
     pub gate: &'a G,
-    /// Is told of each connection that has ended, and of the accepting.
+    /// Is notified of each connection that has ended, and of the state of accepting.
     pub note: &'a N,
-    /// Is told of the start, of the end, and of each update.
+    /// Is notified of the start, of the end, and of each update.
     pub watch: H,
-    /// What the workers count, each for itself: as many as there are scanners.
+    /// The server's metrics, with a place for each worker.
     pub figures: &'a Figures,
-    /// Who looks at the server from outside, by one scanner more, where somebody does.
+    /// The observer, if there is one. It takes one more scanner.
     pub onlooker: Option<&'a O>,
-    /// What the system said of each segment's device when a call of it failed.
+    /// The system's message for each segment's device, after a failed call.
     pub causes: &'a [C],
     /// How many connections may be open at once.
     pub clients: usize,
-    /// How long a connection may say nothing; without end where none is given.
+    /// The idle timeout of a connection; `None` for no limit.
     pub idle: Option<Duration>,
 }
 
-/// Serves the order's segments, one device for each of its files in order, and says how the program
-/// ends.
+/// Serves the order's segments, with one device for each of its files, in order, and returns the
+/// program's exit.
 ///
-/// All files are opened first. Then the report of the opening is written, and the address is bound.
-/// Once all threads are there, `listening ADDRESS` is written, with the address that the listener
-/// which is served on tells of itself; then as many connections are served as the order says, or
-/// without end; and at the end `served K` is written. Each of the three is flushed.
-/// Nothing is served before the report and the line are out.
+/// All files are opened first. Then the report of the opening is printed, and the addresses are
+/// bound. Once all threads run, `listening ADDRESS` is printed for each address that the listener
+/// names. Then as many connections are served as the order says, or without end; at the end comes a
+/// line `served K`. Each of the three is flushed. Nothing is served before the report and
+/// `listening` are printed.
 ///
-/// Why it ended early goes to `errors`, as one line that begins `snapd: `; behind the line of a
-/// file's refusal one more names the file and says what to do.
+/// If it ends early, `errors` gets the reason as one line that begins `snapd: `; after a refused
+/// file a second line names the file and says what to do.
 pub fn host<X, D, B, G, N, H, C, O, W, E>(
     rt: &X,
     alloc: Global,
@@ -94,7 +94,8 @@ where
     requires figures { order.now.scanners ≤ edge.figures.now.workers }
     requires note { N.IsAlwaysCallable edge.note.now }
 
-    // The status, `errors` and the writer tell of one end, to which these devices and this site led.
+    // The status, `errors` and the writer agree on one end, which is possible with these devices
+    // and this site.
     ensures ends { TellsItsEnd D.Disk devices.items
         (site_at B.Bind B.Listener.Locate B.Listener.Listen edge.entry.bind.now
         (addresses_of order.now)) order.now result (E.contents errors.old) (E.contents errors.new)
@@ -110,7 +111,7 @@ where
     }
 }
 
-/// Opens, reports, listens, serves, and says how many connections were served.
+/// Opens, reports, listens, serves, and returns how many connections were served.
 fn open_and_serve<X, D, B, G, N, H, C, O, W>(
     rt: &X,
     alloc: Global,
@@ -150,8 +151,8 @@ where
     }
 }
 
-/// How many scanners there are: one for each worker, and one more where somebody looks from outside. That one
-/// is a worker's less where there can be no more.
+/// How many scanners there are: one for each worker, and one for the observer. If that would be too
+/// many, there is one worker less.
 fn seats_of(order: &Serving<'_>, is_seen: bool) -> usize
     requires { IsServable order.now }
     ensures some { 0 < result }
@@ -167,7 +168,7 @@ fn seats_of(order: &Serving<'_>, is_seen: bool) -> usize
     }
 }
 
-/// How many bytes the device of this segment has, or 0 where there is none.
+/// The length of this segment's device in bytes, or 0 if there is none.
 fn length_at<D: Disk>(devices: &Vec<D>, segment: usize) -> u64
     ensures { IsLengthAt D.Disk devices.now.items segment result }
 {
@@ -177,7 +178,7 @@ fn length_at<D: Disk>(devices: &Vec<D>, segment: usize) -> u64
     }
 }
 
-/// Reports, listens, serves, and says how many connections were served.
+/// Reports, listens, serves, and returns how many connections were served.
 #[tactic(auto, using(crate::proofs::Written::report_failed))]
 fn serve_opened<X, D, B, G, N, H, C, O, W>(
     rt: &X,
@@ -261,7 +262,7 @@ where
     }
 }
 
-/// What the program ends with where its server ended so.
+/// The failure of the program for a fault of its server.
 fn failure_of(fault: RunFault) -> HostFailure
     ensures { result ≡ failure_of fault }
 {
@@ -272,7 +273,7 @@ fn failure_of(fault: RunFault) -> HostFailure
     }
 }
 
-/// What the program ends with where an address was not bound.
+/// The failure of the program for an address that wasn't bound.
 fn unbound_failure(unbound: Unbound) -> HostFailure
     ensures { result ≡ unbound_failure unbound }
 {
@@ -282,7 +283,7 @@ fn unbound_failure(unbound: Unbound) -> HostFailure
     }
 }
 
-/// Binds the addresses, and makes the lines that say where the listener really is.
+/// Binds the addresses, and makes the lines with the real addresses of the listener.
 fn listen<B: Bind>(
     alloc: Global,
     addresses: &Vec<&str>,

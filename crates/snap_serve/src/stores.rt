@@ -1,4 +1,4 @@
-//! The threads that store, and the workers' desks.
+//! The storer threads, and the workers' desks.
 ghost use Rattle.std.specs.Prelude.{◌≡◌, ◌+◌, ◌≤◌, length, Some, IfOk, IfErr, OnOk};
 ghost use Rattle.snap_memory.specs.Rule.{segments};
 ghost use Rattle.snap_service.specs.Memory.{AreWriters, IsOf};
@@ -27,7 +27,7 @@ use std::rt::Clock;
 use std::sync::Wait;
 use std::thread::Threads;
 
-/// A segment's storer in a thread of the server.
+/// A segment's storer, run by a thread of the server.
 #[derive(Drop)]
 struct Storing<R: Wait + Copy, M: Memory, D: Disk + Drop, H: Drop> {
     store: Storer<R, M, D>,
@@ -48,7 +48,7 @@ impl<R: Wait + Copy, M: Memory, D: Disk + Drop, H: Watch + Drop> Background
     }
 }
 
-/// A storer for each writer of the memory, and their windows in the same order.
+/// Makes a storer for each writer of the memory, and their windows in the same order.
 fn open_stores<R: Wait + Copy, M: Memory, D: Disk + Drop, H: Watch + Copy + Drop>(
     rt: R,
     alloc: Global,
@@ -91,7 +91,7 @@ fn add_store<R: Wait + Copy, M: Memory, D: Disk + Drop, H: Watch + Copy + Drop>(
     Ok(())
 }
 
-/// A desk for each scanner.
+/// Makes a desk for each scanner.
 fn open_desks<R: Wait + Copy + Clock, M: Memory, D: Disk + Drop>(
     rt: R,
     alloc: Global,
@@ -109,7 +109,7 @@ fn open_desks<R: Wait + Copy + Clock, M: Memory, D: Disk + Drop>(
     Ok(desks)
 }
 
-/// The desk of this worker, with windows of its own.
+/// Makes the desk of this worker, with windows of its own.
 fn open_desk<R: Wait + Copy + Clock, M: Memory, D: Disk + Drop>(
     rt: R,
     alloc: Global,
@@ -123,7 +123,7 @@ fn open_desk<R: Wait + Copy + Clock, M: Memory, D: Disk + Drop>(
     Ok(Desk::new(rt, alloc, worker, windows.clone()?, scanner))
 }
 
-/// The desks and storers of a server over the memory of these writers and scanners.
+/// Makes the desks and storers of a server over the memory of these writers and scanners.
 fn open_parts<M, X, D, H>(
     rt: X,
     alloc: Global,
@@ -150,7 +150,7 @@ where
     Ok((desks, stores))
 }
 
-/// Each desk, which from now on counts what it answers, in the figures of its worker.
+/// Wraps each desk, so that its answers are counted in its worker's figures.
 fn count_all<'f, S: Drop>(
     alloc: Global,
     desks: Vec<S>,
@@ -166,8 +166,8 @@ fn count_all<'f, S: Drop>(
     Ok(services)
 }
 
-/// Serves the memory of these writers and scanners, as [`run`] does. Where somebody looks from outside, the
-/// last scanner is theirs.
+/// Serves the memory of these writers and scanners, as [`run`] does. If there is an observer, it
+/// gets the last scanner.
 fn serve_memory<M, X, D, L, G, N, H, O, A, T>(
     rt: &X,
     alloc: Global,
@@ -228,8 +228,8 @@ where
     }
 }
 
-/// Serves this store, as [`run`] does: a worker for each scanner, and a thread that stores for each
-/// writer. Where somebody looks from outside, the last scanner is theirs.
+/// Serves this store, as [`run`] does: with a worker for each scanner, and a storer thread for each
+/// writer. If there is an observer, it gets the last scanner.
 pub(crate) fn serve_store<X, D, L, G, N, H, O, A, T>(
     rt: &X,
     alloc: Global,

@@ -1,25 +1,26 @@
-//! Who is told of a server's start and end, and of updates.
+//! Notifications of a server's start and end, and of updates.
 
 use snap_disk::Refusal;
 use snap_server::RunFault;
 
-/// Is told that a server has begun and how it ended, on its own thread, and of each update of a segment once
-/// it is done, on the thread that stores for it.
+/// Is notified of a server's start and end on the server's own thread, and of each update of a
+/// segment, once it is done, on the segment's storer thread.
 pub trait Watch {
-    /// Connections are taken from now on. `listening` has the lines that say where, as they were printed.
+    /// Connections are accepted from now on. `listening` has the lines with the addresses, as they
+    /// were printed.
     fn begun(&self, listening: &str);
 
-    /// No connection is served any more: so many were, or this is why it ended early. A server that ends
-    /// so need not have begun.
+    /// The server has ended, after this number of served connections, or early for this reason. It
+    /// may have ended before it began.
     fn ended(&self, served: Result<u64, &RunFault>);
 
-    /// The update of this number was answered so: with the segment's number where it holds the value, or
-    /// refused. At [`DeviceFailed`](Refusal::DeviceFailed) the segment takes no other one until a
-    /// restart.
+    /// The update of this number got this result: the segment's number if it has the value, or a
+    /// refusal. After [`DeviceFailed`](Refusal::DeviceFailed) the segment takes no further update
+    /// until a restart.
     fn told(&self, segment: usize, number: u64, told: Result<u64, Refusal>);
 }
 
-/// Watches nothing.
+/// Ignores all notifications.
 #[derive(Clone, Copy, Drop)]
 pub struct NoWatch;
 

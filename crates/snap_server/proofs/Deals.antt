@@ -1,4 +1,4 @@
--- How the calls of a listener follow one another.
+-- The calls of a listener, one after another.
 use Rattle.std.proofs.Common.{◌≡◌, ◌⊎◌, ℕ, zero, suc, nat_lt, if◌then◌else◌, Bool, true, false, List, [], ◌∷◌, length, slice_get, ◌+◌, Some, Result, Ok, Err}
 use Rattle.std.proofs.Common.{IfOk, arith, inl, inr, refl, sym, subst}
 use Rattle.snap_server.specs.declared.listen.Arrival.{Arrival}
@@ -9,12 +9,12 @@ either : (b : Bool) (n : ℕ) → (if b then n else n) ≡ n
 either true n = refl
 either false n = refl
 
--- of however many workers, the first one's turn comes first
+-- among any number of workers, the first turn is the first one's
 pub turn_first : (many : ℕ) → turn_of 0 many ≡ 0
 turn_first many = either (nat_lt 0 many) 0
 
--- So many were dealt and counted, and it is known whose turn is next. `held` are the doors that the
--- dealer has then.
+-- k connections were handed out and counted, and the next turn is known. `held` are the doors that
+-- the dealer has then.
 pub record HasDealt {L H : Type 0} (accepts : L → Result Arrival Unaccepted → L → Type 0)
     (refuses : L → Type 0) (takes : H → Arrival → Type 0) (doors : List H) (k : ℕ) (old new : L)
     (held : List H) (next dealt : ℕ) : Type 0 where
@@ -27,7 +27,7 @@ pub record HasDealt {L H : Type 0} (accepts : L → Result Arrival Unaccepted �
 one_more : (k : ℕ) → k + 1 ≡ suc k
 one_more = grind arith
 
--- one more was given, and handed to the door whose turn it was
+-- one more was accepted, and handed to the door whose turn it was
 pub dealt_more : {L H : Type 0} (accepts : L → Result Arrival Unaccepted → L → Type 0)
     (refuses : L → Type 0) (takes : H → Arrival → Type 0) (doors : List H) (k : ℕ) (a b c : L)
     (held held' : List H) (next next' dealt dealt' : ℕ)
@@ -76,14 +76,14 @@ module _ {L : Type 0} (accepts : L → Result Arrival Unaccepted → L → Type 
   gives_behind a b c arrival before gives =
       (gives.0, vain_behind a b gives.0 before gives.1, gives.2)
 
-  -- what was dealt was accepted
+  -- the connections that were handed out were accepted
   pub deals_accepted : {H : Type 0} (takes : H → Arrival → Type 0) (doors : List H) (k : ℕ)
       (a b : L) → Deals accepts takes doors k a b → GivesSoMany accepts k a b
   deals_accepted takes doors zero a b same = same
   deals_accepted takes doors (suc k) a b (mid, arrival, door, before, gives, turn, taken) =
       (mid, arrival, deals_accepted takes doors k a mid before, gives)
 
-  -- the same, where so many are known at its end
+  -- if the end says how many were handed out, as many were accepted
   pub dealt_accepted : {H E : Type 0} (takes : H → Arrival → Type 0) (doors : List H) (first : L)
       (end : Result ℕ E) → IfOk end (λ k. (left : L) × Deals accepts takes doors k first left)
       → IfOk end (λ k. (left : L) × GivesSoMany accepts k first left)

@@ -1,11 +1,11 @@
--- A list that a loop makes, one by one, of what an iterator gives.
+-- A list that a loop makes, item by item, of an iterator's items.
 use Rattle.std.proofs.Common.{◌≡◌, ℕ, zero, suc, ◌+◌, List, [], ◌∷◌, ◌++◌, length, length-append, map, Bool, true, sym, ap, ◌∙◌}
 use Rattle.std.proofs.Common.{append_assoc, append-nil, arith}
 use Rattle.std.specs.List.{range_with_len}
 use Rattle.std.specs.Bool.{if◌then◌else◌}
 use Rattle.std.proofs.lemmas.List.{map_push, length-map}
 
--- one more is made
+-- one more item is made
 pub made_more : {X Y : Type 0} (f : X → Y) (made new : List X) (x : X) (left rest all : List Y)
     → map f made ++ left ≡ all → new ≡ made ++ x ∷ [] → left ≡ f x ∷ rest → map f new ++ rest ≡ all
 made_more f made new x left rest all had is next =
@@ -25,7 +25,7 @@ pub made_len : {X Y : Type 0} (f : X → Y) (made : List X) (all : List Y) → m
     → length made ≡ length all
 made_len f made all is = sym (length-map made f) ∙ ap length is
 
--- what a push made that was not refused
+-- the list after a push that succeeded
 pub pushed : {X : Type 0} (new made : List X) (x : X) (is_ok : Bool)
     → new ≡ (if is_ok then made ++ x ∷ [] else made) → is_ok ≡ true → new ≡ made ++ x ∷ []
 pushed new made x is_ok by ok = rw ok at by
@@ -35,7 +35,7 @@ counted_more a zero j is = let same : a ≡ j = omega (arith, is) in ap (λ k. k
 counted_more a (suc n) j is =
     ap (λ ks. a ∷ ks) (counted_more (a + 1) n j (omega (arith, is)))
 
--- each has its place as its number, and one more is made
+-- each item's number is its place, and one more is made
 pub numbered_more : {X : Type 0} (f : X → ℕ) (made new : List X) (x : X)
     → map f made ≡ range_with_len 0 (length made) → new ≡ made ++ x ∷ [] → f x ≡ length made
     → map f new ≡ range_with_len 0 (length new)
@@ -49,7 +49,7 @@ numbered_more f made new x had is number =
     ∙ sym (ap (range_with_len 0) long
     ∙ counted_more 0 (length made) (f x) (omega (arith, number)))
 
--- two lists stay as long as each other
+-- two lists of one length are pushed to
 pub pushed_len : {X Y : Type 0} (xs xs' : List X) (ys ys' : List Y) (x : X) (y : Y)
     → length xs ≡ length ys → xs' ≡ xs ++ x ∷ [] → ys' ≡ ys ++ y ∷ [] → length xs' ≡ length ys'
 pushed_len xs xs' ys ys' x y same one two = omega (

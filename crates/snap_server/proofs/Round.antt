@@ -1,4 +1,4 @@
--- How a round gives each connection of the list one turn.
+-- A round gives each connection of the list one turn.
 use Rattle.std.proofs.Common.{◌≡◌, ◌≢◌, ◌⊎◌, ℕ, ◌+◌, ◌<◌, List, [], ◌∷◌, ◌++◌, length, take, drop, get_or, length-take, append-nil}
 use Rattle.std.proofs.Common.{append_assoc, Option, Some, None, IsSome, inl, inr, refl, sym, ◌∙◌, ap, subst, arith, Contains}
 use mathlib.Core.Logic.{∥∥₁_elim}
@@ -34,7 +34,7 @@ contains_or (k ∷ ks) key = elim (cases_eq k key) [
   ]
 ]
 
--- whoever has a value on the list is listed
+-- a connection that is marked as listed is on the list
 on_list : (keys : List ℕ) (old : Slab Connection) (key : ℕ) (c : Connection)
     → ∥ Lists keys old ∥₁ → get old key ≡ Some c → c.stage ≡ Listed
     → (Contains keys key → ⊥) → ⊥
@@ -62,7 +62,7 @@ again_cases Idle key keys listed is = inl is
 again_cases Listed key keys listed is = inr is
 again_cases Over key keys listed is = inl is
 
--- a turn leaves the rest of the list, or that and its key behind
+-- a turn leaves the rest of the list, or that with its key at the end
 pub turned_list : (mid new : Slab Connection) (k : ℕ) (keys listed : List ℕ)
     → (get mid k ≡ None → listed ≡ keys)
     → ((c : Connection) → get mid k ≡ Some c → IsSome (get new k))
@@ -80,7 +80,7 @@ turned_list mid new k keys listed none kept again = by_old (get mid k) refl
     by_old None is = inl (none is)
     by_old (Some c) is = by_new (get new k) refl (kept c is)
 
--- the same of the first one of the list
+-- `turned_list` for the first key of the list
 pub first_list : (items keys rest listed : List ℕ) (k key : ℕ) → items ≡ k ∷ keys
     → (listed ≡ keys) ⊎ (listed ≡ keys ++ k ∷ []) → items ≡ key ∷ rest
     → (listed ≡ rest) ⊎ (listed ≡ rest ++ key ∷ [])
@@ -92,7 +92,7 @@ first_list items keys rest listed k key one left two =
     (subst (λ h. (listed ≡ keys) ⊎ (listed ≡ keys ++ h ∷ [])) head left)
 
 module _ {S : Type 0} (gives : S → Request → Reply → S → Type 0) (most : ℕ) where
-  -- it is taken off the list, has its turn, and may be let go
+  -- it is taken off the list, has its turn, and may be removed
   pub first_turn : (s a t u : S) (items keys rest : List ℕ) (k key : ℕ)
       (old mid new last : Slab Connection) → items ≡ k ∷ keys → a ≡ s
       → ((c : Connection) → get old k ≡ Some c
@@ -115,8 +115,8 @@ module _ {S : Type 0} (gives : S → Request → Reply → S → Type 0) (most :
         others = λ o apart. others_kept o apart ∙ others o apart ∙ others_off o apart;
       })
 
-  -- How far a round has come: each of the first so many keys had its turn, and the others wait
-  -- for theirs before all that were put on the list again.
+  -- How far a round has come: each of the first i keys had its turn, and the others wait for theirs
+  -- before all that were listed again.
   pub record IsRound (keys : List ℕ) (i : ℕ) (s t : S) (old now : Slab Connection)
       (listed : List ℕ) : Type 0 where
     pub again : List ℕ
@@ -191,7 +191,7 @@ module _ {S : Type 0} (gives : S → Request → Reply → S → Type 0) (most :
             ([], [], refl),
           )
 
-  -- all of them had their turn, and nobody else
+  -- all keys of the list had their turn, and no other connection
   pub round_done : (keys : List ℕ) (i : ℕ) (s t : S) (old now : Slab Connection) (listed : List ℕ)
       → IsRound keys i s t old now listed → i ≡ length keys → ∥ Lists keys old ∥₁ → (key : ℕ)
       (c d : Connection) → get old key ≡ Some c → get now key ≡ Some d

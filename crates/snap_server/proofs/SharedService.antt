@@ -26,7 +26,7 @@ module _ {S : Type 0} (gives : S → Request → Reply → S → Type 0) where
   moved t u a b turn =
       let g = turn.goes in (g.payloads, g.replies ++ g.unsaid, g.run)
 
-  -- others' requests were answered
+  -- other sessions' requests were answered
   then_moves : (s t u : S) (talk : Talk) → IsSession gives s t talk → Moves gives t u
       → IsSession gives s u talk
   then_moves s t u talk one others =
@@ -85,11 +85,11 @@ module _ {S : Type 0} (gives : S → Request → Reply → S → Type 0) where
     ];
   }
 
-  -- a session that nothing came to
+  -- a session that didn't change
   pub no_turn : (t : S) (a b : Talk) → b ≡ a → IsTurn gives t t a b
   no_turn t a b same = subst (IsTurn gives t t a) (sym same) (begins gives t a None None)
 
-  -- one is let go
+  -- one is removed
   pub removed_are : (t : S) (old new : Slab Connection) (key : ℕ) → Updates old new key None
       → AreSessions gives t old → AreSessions gives t new
   removed_are t old new key gone are = still_are t old new are (λ k e found. elim (cases_eq k key) [
@@ -97,7 +97,7 @@ module _ {S : Type 0} (gives : S → Request → Reply → S → Type 0) where
     | inr other ↦ inr (e, sym (gone.others k other) ∙ found, refl)
   ])
 
-  -- one is taken in
+  -- one is added
   pub added_are : (t : S) (old new : Slab Connection) (key : ℕ) (d : Connection)
       → Updates old new key (Some d) → d.session ≡ start → AreSessions gives t old
       → AreSessions gives t new
@@ -109,14 +109,14 @@ module _ {S : Type 0} (gives : S → Request → Reply → S → Type 0) where
         | inr other ↦ inr (e, sym (came.others k other) ∙ found, refl)
       ])
 
-  -- there is room for more
+  -- there is capacity for more
   pub same_are : (t : S) (old new : Slab Connection)
       → new ≡ record old { capacity = new.capacity } → AreSessions gives t old
       → AreSessions gives t new
   same_are t old new same are = still_are t old new are (λ k e found.
       inr (e, sym (ap (λ (s : Slab Connection). get s k) same) ∙ found, refl))
 
--- one of a worker's connections had a turn, and says the same of the list: all holds still
+-- one of a worker's connections had a turn, and is marked as before: the invariants still hold
 pub still_holds : {S O : Type 0} {service : Ghosts S O} (self : Sessions S O service) (u : S)
     {key : ℕ} {new : Slab Connection} {was is : Connection}
     → IsStep key self.connections new was is

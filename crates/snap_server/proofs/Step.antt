@@ -1,4 +1,4 @@
--- What a step of one connection leaves of the table.
+-- How a step of one connection changes the table.
 use Rattle.std.proofs.Common.{◌≡◌, ◌↔◌, ◌<◌, ℕ, length, get_or, cond, None, Some, is_some, IsSome, sym, ◌∙◌, ap, subst, arith}
 use Rattle.std.proofs.lemmas.List.{get_or_past}
 use Rattle.std.proofs.lemmas.List.Sums.{sum_by-set}
@@ -21,12 +21,12 @@ pub same_value : (connections : Slab Connection) (key : ℕ) (c d : Connection)
     → get connections key ≡ Some c → get connections key ≡ Some d → c ≡ d
 same_value connections key c d one two = let both : Some c ≡ Some d = sym one ∙ two in cc
 
--- nobody is there
+-- there is no connection
 pub none_there : (connections : Slab Connection) (key : ℕ) → get connections key ≡ None
     → (c : Connection) → get connections key ≡ Some c → ⊥
 none_there connections key none c at = let wrong : None ≡ Some c = sym none ∙ at in absurd cc
 
--- the connection of this key was the one and is the other, and no other one was touched
+-- the connection of this key was `was` and is `is`, and no other one was touched
 pub record IsStep (key : ℕ) (old new : Slab Connection) (was is : Connection) : Type 0 where
   pub before : get old key ≡ Some was
   pub behind : get new key ≡ Some is
@@ -52,7 +52,7 @@ written old key was is at =
       );
     }
 
--- and put on the list behind it
+-- and it was appended to the list
 pub then_listed : {key : ℕ} {old mid : Slab Connection} {was is : Connection}
     → IsStep key old mid was is → (new : Slab Connection) → enlisted is.stage ≡ Listed
     → ((c : Connection) → get mid key ≡ Some c
@@ -71,7 +71,7 @@ pub somebody : {key : ℕ} {old new : Slab Connection} {was is : Connection}
     → IsStep key old new was is → get old key ≡ None → ⊥
 somebody {key} {old} {new} {was} step none = none_there old key none was step.before
 
--- What is known of the two is known of whatever stands at the key.
+-- A property of one of the two is a property of any connection that is found at the key.
 pub of_old : (P : Connection → Type 0) {key : ℕ} {old new : Slab Connection} {was is : Connection}
     → IsStep key old new was is → P was → (c : Connection) → get old key ≡ Some c → P c
 of_old P {key} {old} {new} {was} step known c at =
@@ -88,7 +88,7 @@ pub of_both : (P : Connection → Connection → Type 0) {key : ℕ} {old new : 
 of_both P {was = was} {is = is} step known c d at_c at_d =
     of_new (P c) step (of_old (λ z. P z is) step known c at_c) d at_d
 
--- it says the same of the list
+-- its mark hasn't changed
 pub same_stage : {a b : Stage} → b ≡ a → b ≡ Listed ↔ a ≡ Listed
 same_stage same = (λ on. sym same ∙ on, λ on. same ∙ on)
 

@@ -20,7 +20,7 @@ use Rattle.snap_server.proofs.Step.{IsStep, same_value, none_there, not_both}
 abbrev Apart : ℕ → ℕ → Type 0
 Apart a b = a ≢ b
 
--- the head stands once
+-- the head is in the list once
 head_once : (key : ℕ) (rest : List ℕ) → AllPairs Apart (key ∷ rest) → Contains rest key → ⊥
 head_once key rest once at = once 0 (suc at.0) key (omega arith) (omega (arith, at.1)) (sym at.2)
 
@@ -28,7 +28,7 @@ tail_once : (key : ℕ) (rest : List ℕ) → AllPairs Apart (key ∷ rest) → 
 tail_once key rest once i j d before within =
     once (suc i) (suc j) d (omega (arith, before)) (omega (arith, within))
 
--- as many slots are filled once one was emptied, but one
+-- emptying a filled slot leaves one filled slot less
 emptied : {T : Type 0} (slots : List (Option T)) (key : ℕ) → IsSome (get_or slots key None)
     → count_by is_some (set slots key None) + 1 ≡ count_by is_some slots
 emptied slots key filled =
@@ -37,7 +37,7 @@ emptied slots key filled =
     ap (λ b. cond {A = ℕ} b 1 0) filled in
     omega (arith, one, sum_by-set (λ o. cond (is_some o) 1 0) slots key None None within)
 
--- different keys of filled slots are at most as many as these
+-- there are at least as many filled slots as different keys of filled slots
 keys_fit : {T : Type 0} (keys : List ℕ) (slots : List (Option T)) → AllPairs Apart keys
     → ((key : ℕ) → Contains keys key → IsSome (get_or slots key None))
     → length keys ≤ count_by is_some slots
@@ -50,13 +50,13 @@ keys_fit (k ∷ ks) slots once filled =
     (filled key (Contains-cons k key ks at))) in
     omega (arith, rest, emptied slots k here)
 
--- the list is no longer than there are connections
+-- the list is no longer than the number of connections
 pub lists_fit : (keys : List ℕ) (connections : Slab Connection) → Lists keys connections
     → length keys ≤ slab_len connections
 lists_fit keys connections lists =
     keys_fit keys connections.slots lists.once (λ key at. ap is_some ((lists.same key).0 at).1)
 
--- so there is room for one more that notes that it is on the list
+-- so there is room for one more that is marked as listed
 pub lists_room : (keys : List ℕ) (key : ℕ) (connections : Slab Connection) (room : ℕ)
     → slab_len connections ≤ room → ∥ Lists (keys ++ key ∷ []) connections ∥₁ → length keys < room
 lists_room keys key connections room few lists =
@@ -67,26 +67,26 @@ lists_room keys key connections room few lists =
       length-append keys (key ∷ []),
     ))
 
--- one that isn't idle stays where it is
+-- one that isn't idle keeps its state
 pub enlisted_same : (s : Stage) → (s ≡ Idle → ⊥) → enlisted s ≡ s
 enlisted_same Idle off = absurd (off refl)
 enlisted_same Listed off = refl
 enlisted_same Over off = refl
 
--- who isn't idle is put nowhere
+-- one that isn't idle isn't put on the list
 pub behind_same : (s : Stage) (key : ℕ) (keys : List ℕ) → (s ≡ Idle → ⊥)
     → keys ≡ listed_behind s key keys
 behind_same Idle key keys off = absurd (off refl)
 behind_same Listed key keys off = refl
 behind_same Over key keys off = refl
 
--- one that goes on is on the list then
+-- one that hasn't ended is on the list then
 pub enlisted_going : (s : Stage) → (s ≡ Over → ⊥) → enlisted s ≡ Listed
 enlisted_going Idle off = refl
 enlisted_going Listed off = refl
 enlisted_going Over off = absurd (off refl)
 
--- nobody is on the list
+-- no connection is on the list
 pub none_list : (connections : Slab Connection) → ((key : ℕ) → get connections key ≡ None)
     → Lists [] connections
 none_list connections none = record {
@@ -97,7 +97,7 @@ none_list connections none = record {
   );
 }
 
--- one connection has changed, and says the same of the list
+-- one connection has changed, and is marked as before
 pub lists_kept : (keys : List ℕ) (old new : Slab Connection) (key : ℕ) → KeepsOthers key old new
     → (IsListed old key → IsListed new key) → (IsListed new key → IsListed old key)
     → Lists keys old → Lists keys new
@@ -118,7 +118,7 @@ lists_kept keys old new key others on back lists = record {
       | inr other ↦ (at.0, sym (others k other) ∙ at.1, at.2)
     ]
 
--- it has room for more
+-- there is capacity for more
 pub lists_same : (keys : List ℕ) (old new : Slab Connection)
     → new ≡ record old { capacity = new.capacity } → Lists keys old → Lists keys new
 lists_same keys old new same lists = record {
@@ -188,7 +188,7 @@ lists_rest rest {key} {old} {new} {d = d} step idle lists = record {
           ]
     ]
 
--- a connection is there that says the same of the list as before
+-- the connection of a key has changed, and is marked as before
 pub lists_step : (keys : List ℕ) {key : ℕ} {old new : Slab Connection} {c d : Connection}
     → IsStep key old new c d → (d.stage ≡ Listed ↔ c.stage ≡ Listed) → Lists keys old
     → Lists keys new
@@ -208,7 +208,7 @@ lists_step keys {key} {old} {new} {c} {d} step says lists =
     ))
     lists
 
--- one that isn't on the list is let go
+-- one that isn't on the list is removed
 pub lists_removed : (keys : List ℕ) (old new : Slab Connection) (key : ℕ) (c : Connection)
     → get old key ≡ Some c → c.stage ≢ Listed → Updates old new key None → Lists keys old
     → Lists keys new
@@ -218,7 +218,7 @@ lists_removed keys old new key c at off gone lists =
     (λ p. absurd (none_there new key gone.changed p.0 p.1))
     lists
 
--- one that isn't on the list is taken in
+-- one that isn't on the list is added
 pub lists_added : (keys : List ℕ) (old new : Slab Connection) (key : ℕ) (d : Connection)
     → get old key ≡ None → d.stage ≡ Idle → Updates old new key (Some d) → Lists keys old
     → Lists keys new
@@ -229,7 +229,7 @@ lists_added keys old new key d vacant idle came lists =
     (same_value new key d p.0 came.changed p.1) ∙ p.2)))
     lists
 
--- the first of the list is a connection that is there
+-- the first key of the list has a connection
 pub none_first : (key : ℕ) (rest : List ℕ) (connections : Slab Connection)
     → Lists (key ∷ rest) connections → get connections key ≡ None → ⊥
 none_first key rest connections lists none =

@@ -4,8 +4,7 @@ use Rattle.snap_server.specs.declared.fault.RunFault.{RunFault}
 use Rattle.snap_server.specs.declared.fault.RunFault.TheVariants.{Server, Announcement}
 use Rattle.snap_server.specs.declared.fault.ServerFault.TheVariants as faults
 
--- A server that has served was announced before, once; one that the system or want of memory kept
--- from its threads wasn't.
+-- A server that has served was announced before, once; one that got no thread, no poll or no memory wasn't.
 abbrev pub Announced : {T : Type 0} (announces fails : T → T → Type 0) (old : T)
     → Result ℕ RunFault → (new : T) → Type 0
 Announced announces fails old (Ok k) new = announces old new
@@ -16,7 +15,7 @@ Announced announces fails old (Err (Server faults.NoPoll)) new = old ≡ new
 Announced announces fails old (Err (Server faults.NoThread)) new = old ≡ new
 Announced announces fails old (Err (Server faults.NoMemory)) new = old ≡ new
 
--- whether a server that ended so had begun to serve
+-- a server that ended so had begun to serve
 abbrev pub was_announced : Result ℕ RunFault → Bool
 was_announced (Ok k) = true
 was_announced (Err (Announcement why)) = false
@@ -26,7 +25,7 @@ was_announced (Err (Server faults.NoPoll)) = false
 was_announced (Err (Server faults.NoThread)) = false
 was_announced (Err (Server faults.NoMemory)) = false
 
--- how it ended, where one of its threads may have been the reason
+-- the end of the server, if one of its threads may have failed
 abbrev pub end_of : Result ℕ RunFault → (has_failed : Bool) → Result ℕ RunFault
 end_of served has_failed =
     if has_failed && was_announced served then Err (Server faults.PollFailed) else served

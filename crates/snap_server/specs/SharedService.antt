@@ -8,17 +8,17 @@ use Rattle.snap_session.specs.Turns.{Turns}
 use Rattle.snap_server.specs.declared.connection.Connection.{Connection}
 
 module _ {S : Type 0} (gives : S → Request → Reply → S → Type 0) where
-  -- one session alone went on, while the service went from s to t
+  -- this session alone took a turn, while the service went from s to t
   abbrev pub IsTurn : S → S → Talk → Talk → Type 0
   IsTurn s t old new = Turns Stays gives s t old None None None None new
 
-  -- a session from its start, while the service went from s to t, with others' requests answered
-  -- between its own
+  -- a session from its start, while the service went from s to t, with other sessions' requests
+  -- answered between its own
   abbrev pub IsSession : S → S → Talk → Type 0
   IsSession s t talk = Turns (Moves gives) gives s t start None None None None talk
 
   -- The service is at t, and each connection is a session from its start: all from one state that
-  -- the service was in before the first of them came.
+  -- the service was in before the first of them began.
   pub record AreSessions (t : S) (connections : Slab Connection) : Type 0 where
     pub first : S
     pub moves : Moves gives first t

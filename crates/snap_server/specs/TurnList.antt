@@ -6,34 +6,34 @@ use Rattle.snap_server.specs.declared.connection.Connection.{Connection}
 use Rattle.snap_server.specs.declared.connection.Stage.{Stage}
 use Rattle.snap_server.specs.declared.connection.Stage.TheVariants.{Idle, Listed, Over}
 
--- the connection of this key says that it is on the list
+-- the connection of this key is marked as listed
 abbrev pub IsListed : Slab Connection → ℕ → Type 0
 IsListed connections key =
     (c : Connection) × (get connections key ≡ Some c) × (c.stage ≡ Listed)
 
--- each connection that says so is on the list, and no other key: each once
+-- the list has exactly the keys of the connections that are marked so, each once
 pub record Lists (keys : List ℕ) (connections : Slab Connection) : Type 0 where
   pub once : AllPairs (λ a b. a ≢ b) keys
   pub same : (key : ℕ) → Contains keys key ↔ IsListed connections key
 
--- where a connection stands once it was put on the list: one that has ended isn't put there
+-- the state of a connection once it was put on the list: one that has ended isn't put there
 abbrev pub enlisted : Stage → Stage
 enlisted Idle = Listed
 enlisted Listed = Listed
 enlisted Over = Over
 
--- the list once a connection that stood so was put on it: at its end, unless it is there or has ended
+-- the list once a connection in this state was put on it: appended, unless it is there or has ended
 abbrev pub listed_behind : Stage → ℕ → List ℕ → List ℕ
 listed_behind Idle key keys = keys ++ key ∷ []
 listed_behind Listed key keys = keys
 listed_behind Over key keys = keys
 
--- the list behind a turn of a connection that stands so then: one that has more to do is at its end
+-- the list after the turn of a connection that is then in this state: one that has more to do is appended
 abbrev pub again_behind : Stage → ℕ → List ℕ → List ℕ
 again_behind Idle key keys = keys
 again_behind Listed key keys = keys ++ key ∷ []
 again_behind Over key keys = keys
 
--- no connection but that of this key was touched
+-- no connection except that of this key was touched
 abbrev pub KeepsOthers : ℕ → Slab Connection → Slab Connection → Type 0
 KeepsOthers key old new = (other : ℕ) → other ≢ key → get new other ≡ get old other

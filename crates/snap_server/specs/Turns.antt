@@ -11,8 +11,8 @@ use Rattle.snap_server.specs.declared.connection.Stage.TheVariants.{Idle, Listed
 use Rattle.snap_server.specs.TurnList.{KeepsOthers}
 use Rattle.snap_server.specs.Scene.{scene}
 
--- The rounds of one turn, of pieces of at most so many bytes, by where the connection stands behind
--- it. One that is on the list again took all that a turn may take; another one would wait before the
+-- The rounds of one turn, with pieces of at most `most` bytes, by the connection's state after it.
+-- One that is listed again took all rounds that a turn may take; any other would block before the
 -- last of them, or has ended.
 abbrev pub HadRounds : {S : Type 0} (gives : S → Request → Reply → S → Type 0) (most : ℕ) → Stage
     → Scene S → Scene S → Type 0
@@ -27,8 +27,8 @@ pub record HadTurn {S : Type 0} (gives : S → Request → Reply → S → Type 
       → HadRounds gives most d.stage (scene s c.session) (scene t d.session)
   pub others : KeepsOthers key old new
 
--- What became of a connection that stood so, while the service went from s to t: one that was on the
--- list had one turn, with others' before and behind it, and another one was left alone.
+-- A connection in this state, while the service went from s to t: a listed one had one turn, with
+-- others' before and after it, and any other was left alone.
 abbrev pub HadItsTurn : {S : Type 0} (gives : S → Request → Reply → S → Type 0) (most : ℕ) → Stage
     → S → S → Connection → Connection → Type 0
 HadItsTurn gives most Idle s t c d = d ≡ c

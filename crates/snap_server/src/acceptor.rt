@@ -12,20 +12,19 @@ use crate::note::Note;
 use std::rt::Clock;
 use std::sync::Wait;
 
-/// Deals connections to the workers, in turn.
+/// Hands accepted connections to the workers, in turn.
 #[derive(Drop)]
 pub struct Dealer<'a, H: Hand> {
     intake: Intake<'a>,
     doors: &'a [H],
-    /// The place of the worker that is next, or one behind the last.
+    /// The place of the next worker, or one past the last.
     next: usize,
-    /// How many were dealt.
+    /// How many connections were handed to workers.
     dealt: u64,
 }
 
 impl<'a, H: Hand> Dealer<'a, H> {
-    /// Deals what comes in to the workers behind these doors, from the first one on; none was dealt
-    /// yet.
+    /// A dealer that takes connections from `intake` and begins with the first door.
     pub fn new(intake: Intake<'a>, doors: &'a [H]) -> Dealer<'a, H>
         ensures doors { result.doors ≡ doors.entry }
         ensures first { result.next ≡ 0 }
@@ -39,7 +38,7 @@ impl<'a, H: Hand> Dealer<'a, H> {
         }
     }
 
-    /// Gives the next worker a connection; `false` where that worker has ended.
+    /// Hands a connection to the next worker; `false` if that worker has ended.
     fn deal<X: Wait + Clock>(&mut self, rt: &X, arrival: Arrival) -> bool
         ensures counted { result ≡ true
             → self.new.dealt ≡ min (self.old.dealt + 1) 18446744073709551615 }
@@ -65,7 +64,7 @@ impl<'a, H: Hand> Dealer<'a, H> {
         true
     }
 
-    /// Accepts one connection and deals it.
+    /// Accepts one connection and hands it to the next worker.
     fn accept_one<X: Wait + Clock, L: Listen, N: Fn(&Note)>(
         &mut self,
         rt: &X,
@@ -99,7 +98,7 @@ impl<'a, H: Hand> Dealer<'a, H> {
         }
     }
 
-    /// Accepts so many connections and deals them.
+    /// Accepts `most` connections and hands them to the workers in turn.
     fn accept_so_many<X: Wait + Clock, L: Listen, N: Fn(&Note)>(
         &mut self,
         rt: &X,
@@ -125,8 +124,8 @@ impl<'a, H: Hand> Dealer<'a, H> {
         Ok(())
     }
 
-    /// Accepts so many connections, or without end, and deals them to the workers in turn. The
-    /// faults: 16 in a row of the listener, and a worker that has ended.
+    /// Accepts `connections` connections, or without end if `None`, and hands them to the workers
+    /// in turn. It fails after 16 faults of the listener in a row, or if a worker has ended.
     pub fn accept_all<X: Wait + Clock, L: Listen, N: Fn(&Note)>(
         &mut self,
         rt: &X,

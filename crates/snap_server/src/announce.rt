@@ -1,23 +1,23 @@
-//! What is said once a server is ready.
+//! Announcing that a server is ready.
 ghost use Rattle.std.specs.Prelude.{◌≡◌, OnErr, OnOk};
 
 use std::io;
 
-/// Says that a server is ready.
+/// Announces that a server is ready.
 pub trait Announce<T> {
-    /// What saying it may do.
+    /// The effects of a successful announcement.
     ghost announces: { Self → T → T → Type 0 };
 
-    /// What may have been done where it couldn't be said.
+    /// The effects of a failed one.
     ghost fails: { Self → T → T → Type 0 };
 
-    /// Says so to this one. An error is that it couldn't: then no connection is accepted.
+    /// Announces it to `to`. After an error no connection is accepted.
     fn announce(&self, to: &mut T) -> io::Result<()>
         ensures said { OnOk result (Self.announces self.now to.old to.new) }
         ensures failed { OnErr result (Self.fails self.now to.old to.new) };
 }
 
-/// Says nothing.
+/// Announces nothing.
 #[derive(Clone, Copy, Drop)]
 pub struct NoAnnouncement;
 

@@ -14,51 +14,51 @@ use snap_session::{End, Service, Session, Turn, proceed};
 use std::alloc::Global;
 use std::io;
 
-/// How many bytes one read takes at most.
+/// The most bytes of one read.
 pub const PIECE: usize = 4096;
 
-/// How a connection ended.
+/// Why a connection ended.
 #[derive(Clone, Copy, Debug, PartialEq, Eq, Drop)]
 pub enum Ending {
     /// Its session ended so.
     Session(End),
-    /// The system told that its peer is gone, while a request of it was under way.
+    /// The system reported an error of its socket while a request was under way.
     Lost,
-    /// It said nothing for as long as it might, with no request under way.
+    /// It was silent for its idle timeout, with no request under way.
     Silent,
-    /// The server stops, and nothing of it was under way.
+    /// The server stops, and it had nothing under way.
     Stopped,
 }
 
 /// A connection that has ended.
 #[derive(Clone, Copy, Debug, PartialEq, Eq, Drop)]
 pub struct Ended {
-    /// Who was at its other end.
+    /// Its peer.
     pub peer: Peer,
-    /// How it ended.
+    /// Why it ended.
     pub how: Ending,
 }
 
-/// Where a connection stands between its turns.
+/// The state of a connection between its turns.
 #[derive(Drop)]
 pub enum Stage {
-    /// It waits for the system's report, or for an outcome.
+    /// It waits for an event of its socket, or for an outcome.
     Idle,
-    /// It is on the list of those that get a turn.
+    /// It is on the list of connections that get a turn.
     Listed,
     /// It has ended, and gets no further turn.
     Over,
 }
 
-/// A socket that doesn't wait, and its session. What it holds of what came stays within one frame
-/// and one piece: what a peer sends is read no faster than it takes its replies.
+/// A socket that doesn't block, and its session. It holds at most one frame and one piece of what
+/// arrived: a peer's bytes are read no faster than it takes its replies.
 #[derive(Drop)]
 pub struct Connection {
     socket: Socket,
     peer: Peer,
     session: Session,
     stage: Stage,
-    /// How many looks in a row have found it silent.
+    /// How many idle checks in a row have found it silent.
     looks: u32,
     ghost held: { HoldsFrameAnd PIECE session },
 }
@@ -68,7 +68,7 @@ impl Connection {
     ghost use Rattle.snap_server.specs.TurnList.{enlisted};
     ghost use Rattle.snap_server.specs.Stages.{MayEnd};
 
-    /// Nothing came yet and nothing is owed.
+    /// A connection to which nothing has arrived yet.
     pub fn new(alloc: Global, arrival: Arrival) -> Connection
         ensures session { result.session ≡ start }
         ensures peer { result.peer ≡ arrival.peer }
@@ -84,7 +84,7 @@ impl Connection {
         }
     }
 
-    /// Has the system report when it can be read or written, under this token.
+    /// Registers the socket, so that the system reports under this token when it can be read or written.
     pub fn register(&mut self, registry: &Registry, token: Token) -> io::Result<()>
         ensures session { self.new.session ≡ self.old.session }
         ensures peer { self.new.peer ≡ self.old.peer }
@@ -94,8 +94,7 @@ impl Connection {
         self.socket.register(registry, token, interest)
     }
 
-    /// Notes that it is on the list of those that get a turn, unless it has ended. Whether it has
-    /// to be put there.
+    /// Marks it as listed, unless it is listed or has ended; true if the caller has to put it on the list.
     pub fn enlist(&mut self) -> bool
         ensures idle { result ≡ true ↔ self.old.stage ≡ Stage.Idle }
         ensures listed { self.new ≡ record self.old { stage = enlisted self.old.stage } }
@@ -107,15 +106,15 @@ impl Connection {
         false
     }
 
-    /// Notes that it is on the list no more.
+    /// Marks it as no longer listed.
     pub fn delist(&mut self)
         ensures { self.new ≡ record self.old { stage = Stage.Idle } }
     {
         self.stage = Stage::Idle;
     }
 
-    /// Reads, answers and writes as far as the socket lets it: one turn of its session. The system
-    /// tells no more of a socket's bytes than that some came and some were taken.
+    /// Takes one turn of its session: reads, answers and writes as far as the socket lets it. Of
+    /// the bytes on the socket nothing is known but that some were read and some written.
     pub fn go_on<S: Service>(
         &mut self,
         service: &mut S,
@@ -145,8 +144,8 @@ impl Connection {
         )
     }
 
-    /// Takes the outcome of a request that was handed over: it answers that request, and nothing
-    /// that came behind it. `false` where the connection has ended.
+    /// Answers the request that was handed over, by its outcome, and no later one. `false` if the
+    /// connection has ended.
     pub fn take_outcome<S: Service>(&mut self, service: &mut S, outcome: S::Outcome) -> bool
     where
         S::Outcome: Drop,
@@ -164,8 +163,8 @@ impl Connection {
         !self.is_over()
     }
 
-    /// Looks at it between its turns: how it ends, if it may stay no longer. One that waits for an
-    /// outcome stays, save where its peer is gone, and so does one that is on the list.
+    /// Checks it between its turns: returns why it ends, if it does. It doesn't end while it is
+    /// listed, nor while it waits for an outcome unless its peer is lost.
     pub fn look(&mut self, why: &Look) -> Option<Ending>
         ensures may { IfSome result (λ how. MayEnd how self.new.session) }
         ensures idle { IsSome result → self.new.stage ≡ Stage.Idle }
@@ -184,7 +183,7 @@ impl Connection {
         }
     }
 
-    /// Counts a look that finds it silent with no request under way.
+    /// Counts an idle check that finds it silent with no request under way.
     fn count_silent(&mut self, silence: &Silence) -> Option<Ending>
         requires { self.old.session.asked ≡ None }
         ensures may { IfSome result (λ how. MayEnd how self.new.session) }
@@ -202,9 +201,8 @@ impl Connection {
         None
     }
 
-    /// It has ended so, and its descriptor is given back, also where an outcome is still to come under
-    /// its key. The socket's writing side is shut down in order, so that the peer reads all that was
-    /// written before the end.
+    /// Ends it and closes its descriptor, also if an outcome is still to arrive for it. The socket's
+    /// writing side is shut down first, so that the peer reads all that was written before the end.
     pub fn end(&mut self, how: Ending) -> Ended
         requires { MayEnd how self.old.session }
         ensures over { self.new ≡ record self.old { stage = Stage.Over; socket = self.new.socket } }
@@ -226,7 +224,7 @@ impl Connection {
         matches!(self.stage, Stage::Over)
     }
 
-    /// Whether no outcome is still to come under its key.
+    /// Whether no outcome is still to arrive for it.
     pub fn is_free(&self) -> bool
         ensures { result ≡ true ↔ self.now.session.asked ≡ None }
     {

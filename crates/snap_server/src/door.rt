@@ -1,4 +1,4 @@
-//! What comes to a worker from other threads.
+//! A worker's mailbox, by which other threads reach it.
 ghost use Rattle.std.specs.Prelude.{◌≡◌, IfOk, true};
 ghost use Rattle.snap_server.specs.declared.listen.Arrival.{Arrival};
 
@@ -12,65 +12,66 @@ use std::sync::{Arc, Wait};
 use std::thread;
 use std::time::Duration;
 
-/// How long to rest where no memory is left for mail, in milliseconds.
+/// How long to sleep between two tries to send, if memory ran out, in milliseconds.
 const REST: u64 = 5;
 
-/// What comes to a worker beside connections.
+/// A message to a worker, other than a connection.
 #[derive(Drop)]
 pub enum Mail<O: Drop> {
     /// The request that the connection of this key handed over is done.
     Done { key: usize, outcome: O },
-    /// No more connections will come.
+    /// No more connections will arrive.
     Close,
-    /// None will come, and those that are there are let go of between their requests.
+    /// No more will arrive, and each existing one is closed between two requests.
     Stop,
 }
 
-/// Takes connections and mail in for a worker.
+/// Delivers connections and messages to a worker.
 pub trait Hand {
-    /// What becomes of a request that the worker's service handed over.
+    /// The outcome of a request that the worker's service handed over.
     type Outcome: Drop;
 
-    /// That this connection was handed over.
+    /// This connection was handed to the worker.
     ghost takes: { Self → Arrival → Type 0 };
 
-    /// Hands a connection over and wakes the worker; `false` where it has ended.
+    /// Sends a connection and wakes the worker; `false` if it has ended.
     fn hand<X: Wait + Clock>(&self, rt: &X, arrival: Arrival) -> bool
         ensures { result ≡ true → takes self.now arrival };
 
-    /// Sends mail and wakes the worker; `false` where it has ended.
+    /// Sends a message and wakes the worker; `false` if it has ended.
     fn post<X: Wait + Clock>(&self, rt: &X, mail: Mail<Self::Outcome>) -> bool;
 }
 
-/// Where connections and mail for a worker are put, apart, so that no outcome waits behind those that
-/// arrive. A wake is lost once its waker is dropped, so a door outlives its worker.
+/// The sending side of a worker's mailbox. Connections and messages have separate channels, so that
+/// no outcome waits for connections to be taken. A wake is lost once its waker is dropped, so a
+/// door outlives its worker.
 ///
-/// A wake is a call of the system, and a worker that doesn't sleep needs none: it looks into its inbox by
-/// itself. So before a worker sleeps it says so, and then looks once more; and who puts something here asks
-/// afterwards whether it sleeps. In whichever order the two come, one of them sees what the other did.
+/// A wake is a system call, and a worker that doesn't sleep needs none, since it polls its inbox. So
+/// a worker first says that it will sleep, and then polls once more; a sender first sends, and then
+/// checks whether the worker sleeps. Whatever the order, one of the two sees what the other did.
 #[derive(Drop)]
 pub struct Door<O: Drop> {
     arrivals: Sender<Arrival>,
     mail: Sender<Mail<O>>,
     waker: Waker,
     sleeps: Arc<AtomicBool, Global>,
-    /// Whose door it is: the place of its worker. Only clauses read it.
+    /// The place of its worker. Only clauses read it.
     place: usize,
 }
 
-/// The inner side of a door.
+/// The receiving side of a worker's mailbox.
 #[derive(Drop)]
 pub struct Inbox<O: Drop> {
     pub arrivals: Receiver<Arrival>,
     pub mail: Receiver<Mail<O>>,
-    /// Whether its worker sleeps, or is about to.
+    /// Whether the worker sleeps, or is about to.
     sleeps: Arc<AtomicBool, Global>,
-    /// The place of the worker that has it. Only clauses read it.
+    /// The place of its worker. Only clauses read it.
     place: usize,
 }
 
 impl<O: Drop> Door<O> {
-    /// A door with its inner side, for the worker of this place.
+    /// Makes both sides of a mailbox, for the worker at this place.
     pub fn new(alloc: Global, waker: Waker, place: usize) -> Result<(Door<O>, Inbox<O>), AllocError>
         ensures door { IfOk result (λ made. made.0.place ≡ place) }
         ensures inbox { IfOk result (λ made. made.1.place ≡ place) }
@@ -94,25 +95,25 @@ impl<O: Drop> Door<O> {
         Ok((door, inbox))
     }
 
-    /// Wakes the worker, if it sleeps; `false` where that was refused.
+    /// Wakes the worker if it sleeps; `false` if the system refused.
     fn wake(&self) -> bool {
         !self.sleeps.load(Ordering::SeqCst) || self.waker.wake().is_ok()
     }
 }
 
 impl<O: Drop> Inbox<O> {
-    /// Whether something lies in it.
+    /// Whether anything waits in it.
     pub fn has_some(&self) -> bool {
         !self.mail.is_empty() || self.has_arrivals()
     }
 
-    /// Whether connections lie in it.
+    /// Whether a connection waits in it.
     pub fn has_arrivals(&self) -> bool {
         !self.arrivals.is_empty()
     }
 
-    /// Says that its worker is about to sleep, and then looks whether something lies in it. Then the worker
-    /// may not, and is awake.
+    /// Says that the worker is about to sleep, then checks the inbox. If anything waits in it the
+    /// worker may not sleep, and counts as awake.
     pub fn may_sleep(&self) -> bool {
         self.sleeps.store(true, Ordering::SeqCst);
         if self.has_some() {
@@ -122,7 +123,7 @@ impl<O: Drop> Inbox<O> {
         true
     }
 
-    /// Says that its worker sleeps no more.
+    /// Says that the worker sleeps no more.
     pub fn is_awake(&self) {
         self.sleeps.store(false, Ordering::SeqCst);
     }
@@ -131,7 +132,7 @@ impl<O: Drop> Inbox<O> {
 impl<O: Drop> Hand for Door<O> {
     type Outcome = O;
 
-    // Of what goes through a channel nothing is known.
+    // Nothing is known of what passes through a channel.
     ghost takes = { λ _ _. Unit {0} };
 
     fn hand<X: Wait + Clock>(&self, rt: &X, arrival: Arrival) -> bool {
@@ -143,8 +144,8 @@ impl<O: Drop> Hand for Door<O> {
     }
 }
 
-/// Sends it. Where no memory is left it rests and tries again, so that nothing is lost: a request
-/// whose outcome were dropped would never be answered. `false` where nobody receives any more.
+/// Sends it. If memory runs out it sleeps and tries again, so that nothing is lost: a request whose
+/// outcome were dropped would never be answered. `false` if the receiver was dropped.
 fn sent<X: Wait + Clock, T: Drop>(rt: &X, to: &Sender<T>, what: T) -> bool {
     let mut what = what;
     for _ in rt.forever() {

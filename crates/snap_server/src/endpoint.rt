@@ -1,14 +1,14 @@
-//! Both ends of a connection, as they are told to people.
+//! Both ends of a connection, with their texts.
 ghost use Rattle.std.specs.Prelude.{Some};
 ghost use Rattle.snap_server.specs.Endpoints.{endpoint_text, peer_text};
 
 use std::fmt;
 use std::net::SocketAddr;
 
-/// Where a listener is found. Its text is what clients are given.
+/// The address of a listener. Its text is what clients are given.
 #[derive(Debug, PartialEq, Eq, Drop)]
 pub enum Endpoint {
-    /// An address and a port of TCP.
+    /// A TCP address with its port.
     Tcp(SocketAddr),
     /// The path of a Unix socket, as it was given.
     Unix(String),
@@ -25,12 +25,12 @@ impl fmt::Display for Endpoint {
     }
 }
 
-/// Who has connected.
+/// The peer of a connection.
 #[derive(Clone, Copy, Debug, PartialEq, Eq, Drop)]
 pub enum Peer {
-    /// Who has this address of TCP.
+    /// A TCP peer, by its address.
     Tcp(SocketAddr),
-    /// A process of this machine, by a Unix socket: such a caller has no address.
+    /// A process of this machine, by a Unix socket. It has no address.
     Unix,
 }
 

@@ -3,22 +3,22 @@
 use std::io;
 use thiserror::Error;
 
-/// Why [`run`](crate::run) served no further. Its text says it to a user.
+/// Why [`run`](crate::run) stopped serving. `Display` gives the message for the operator.
 #[derive(Clone, Copy, Debug, PartialEq, Eq, Error)]
 pub enum ServerFault {
     /// 16 connections in a row couldn't be accepted.
     #[error("16 connections in a row couldn't be accepted")]
     AcceptFailed,
-    /// The system let a worker wait no longer.
+    /// A worker's wait for events failed.
     #[error("the system refused to watch the connections of a worker")]
     PollFailed,
-    /// The system refused a worker what it waits by.
+    /// The system refused a worker its poll or its waker.
     #[error("the system refused to watch the connections of a worker")]
     NoPoll,
     /// The system refused a thread.
     #[error("the system refused a thread: allow more of them, or give --scanners a smaller number")]
     NoThread,
-    /// A growth of memory was refused.
+    /// Memory ran out.
     #[error("no memory for the server")]
     NoMemory,
 }
@@ -26,8 +26,8 @@ pub enum ServerFault {
 /// Why [`run`](crate::run) ended early.
 #[derive(Debug, Drop)]
 pub enum RunFault {
-    /// The server couldn't begin, or served no further.
+    /// The server couldn't begin, or stopped serving.
     Server(ServerFault),
-    /// It couldn't be announced, for this reason, and no connection was accepted.
+    /// The announcement failed for this reason, and no connection was accepted.
     Announcement(io::Error),
 }

@@ -1,21 +1,21 @@
-//! A gate that every request passes.
+//! A hook around each request.
 ghost use Rattle.std.specs.Prelude.{◌≡◌};
 
 use snap_disk::Refusal;
 use snap_frame::{Reply, Request};
 use snap_session::Service;
 
-/// Is told of each request before it is answered and after, on the thread that answers it.
+/// Is called before each request is answered and after, on the thread that answers it.
 pub trait Gate {
     /// A request will be answered. No lock is held.
     fn enter(&self);
 
-    /// It was answered. Not called for a request that was handed over and whose outcome never
-    /// comes.
+    /// The request was answered. Not called for a request that was handed over and whose outcome
+    /// never arrives.
     fn leave(&self);
 }
 
-/// Holds nobody.
+/// Does nothing.
 #[derive(Drop)]
 pub struct NoGate;
 
@@ -25,7 +25,7 @@ impl Gate for NoGate {
     fn leave(&self) {}
 }
 
-/// A service behind a gate. Its replies are the service's.
+/// A service with a gate around each request. Its replies are the inner service's.
 #[derive(Drop)]
 pub struct Gated<'a, S: Drop, G> {
     service: S,
@@ -33,7 +33,7 @@ pub struct Gated<'a, S: Drop, G> {
 }
 
 impl<'a, S: Drop, G> Gated<'a, S, G> {
-    /// Each request of the service passes the gate.
+    /// Wraps `service`, so that each of its requests passes the gate.
     pub fn new(service: S, gate: &'a G) -> Gated<'a, S, G>
         ensures { result.service ≡ service }
     {

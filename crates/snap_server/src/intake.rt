@@ -1,4 +1,4 @@
-//! Takes connections from a listener, while there is room for them.
+//! Accepting, below the limit of open connections.
 ghost use Rattle.std.specs.Prelude.{◌≡◌, ◌⊎◌, IfErr, IfNone, IfOk, IfSome, Ok, Err};
 ghost use Rattle.snap_server.specs.Deals.{AsksInVain, Gives};
 
@@ -10,31 +10,32 @@ use std::sync::Wait;
 use std::thread;
 use std::time::Duration;
 
-/// The rests after each fault of a listener in a row, as multiples of the first one: ten thousand in
-/// all, so that what passes doesn't end the accepting.
+/// The pauses after faults of a listener in a row, as multiples of the first one: ten thousand in
+/// all, so that a passing fault doesn't end the accepting.
 const FAULT_RESTS: [u32; 16] = [
     1, 2, 4, 8, 16, 32, 64, 128, 256, 512, 1_024, 1_600, 1_600, 1_600, 1_600, 1_600,
 ];
 
-/// The rest where there is no room, in milliseconds.
+/// How long to wait for a free place, in milliseconds.
 const ROOM_REST: u64 = 10;
 
-/// There is room again once this part of the connections has ended that were open when there was
-/// none, so that one that comes for each that goes isn't told each time; and once more are open.
+/// Free places are noted once one in `PART` of the connections that were open at the limit has
+/// closed, or more are open than then. So connections that come and go one by one at the limit
+/// don't fill the log.
 const PART: usize = 8;
 
-/// Where connections come in.
+/// Accepts connections from a listener, while fewer than the limit are open.
 #[derive(Drop)]
 pub struct Intake<'a> {
     room: &'a Room,
-    /// The rest after the first fault of a listener.
+    /// The pause after the first fault of a listener.
     fault_rest: Duration,
-    /// How many were open when there was no room, and it was told.
+    /// How many connections were open when the limit was noted.
     full_at: Option<usize>,
 }
 
 impl<'a> Intake<'a> {
-    /// Counts what it takes in this room, and rests so long after the first fault of a listener.
+    /// An intake that counts in `room`, and pauses for `fault_rest` after the first fault of a listener.
     pub fn new(room: &'a Room, fault_rest: Duration) -> Intake<'a> {
         Intake {
             room,
@@ -43,9 +44,9 @@ impl<'a> Intake<'a> {
         }
     }
 
-    /// The next connection, or `None` after 16 faults of the listener in a row, each with a longer
-    /// rest behind it. Want of room is no fault: who calls waits in the system's queue, and is taken
-    /// as soon as there is room.
+    /// The next connection, or `None` after 16 faults of the listener in a row, with a longer pause
+    /// after each. Having no place is no fault: the caller waits in the system's queue, and is
+    /// accepted as soon as there is one.
     pub fn next<X: Wait + Clock, L: Listen, N: Fn(&Note)>(
         &mut self,
         rt: &X,
@@ -67,7 +68,7 @@ impl<'a> Intake<'a> {
         None
     }
 
-    /// The next connection, or `None` where the listener has failed.
+    /// The next connection, or `None` if the listener has failed.
     fn wait_for_one<X: Wait + Clock, L: Listen, N: Fn(&Note)>(
         &mut self,
         rt: &X,
@@ -98,7 +99,7 @@ impl<'a> Intake<'a> {
         unreachable!()
     }
 
-    /// Asks the listener, where there is room for what it may give.
+    /// Accepts from the listener, if there is a free place.
     fn try_one<L: Listen>(&self, listener: &mut L) -> Result<Arrival, Unaccepted>
         ensures came { IfOk result (λ a. L.accepts listener.old (Ok a) listener.new) }
         ensures vain { IfErr result (λ why. (listener.new ≡ listener.old)
@@ -112,7 +113,7 @@ impl<'a> Intake<'a> {
         listener.accept()
     }
 
-    /// Tells that there is no room, unless it has.
+    /// Notes that there is no free place, unless that was noted.
     fn note_full<N: Fn(&Note)>(&mut self, note: &N)
         requires { N.IsAlwaysCallable note.now }
     {
@@ -123,8 +124,8 @@ impl<'a> Intake<'a> {
         }
     }
 
-    /// Tells that there is room again, where it told that there was none. One was taken just now, and is
-    /// among those that are open.
+    /// Notes that there are free places again, if their lack was noted. The connection just
+    /// accepted is counted as open.
     fn note_room<N: Fn(&Note)>(&mut self, note: &N)
         requires { N.IsAlwaysCallable note.now }
     {

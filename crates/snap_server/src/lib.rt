@@ -1,11 +1,10 @@
-//! The server: any number of connections on few threads.
+//! The server's connections: serves any number of them on few threads.
 //!
-//! [`run`] accepts connections on the thread that calls it, and deals them in turn to its *workers*:
-//! threads of their own, one for each service. A worker owns its service, the connections that were
-//! dealt to it and one buffer for reading. It waits until the system reports some of them, and gives
-//! each of these a turn of its session; an idle connection costs no thread and no buffer. What a
-//! service hands over, as an update that waits for a disk, a
-//! [`Background`](snap_session::Background) works on, in a thread of its own too.
+//! [`run`] accepts connections on the calling thread, and hands them in turn to its *workers*, one
+//! thread for each service. A worker owns its service, its connections and one buffer for reading. It
+//! waits until the system reports some of them, and gives each of these a turn of its session; an idle
+//! connection costs no thread and no buffer. Requests that a service hands over, such as updates that
+//! wait for a disk, are done by a [`Background`](snap_session::Background) in a thread of its own.
 #![tactic(auto)]
 
 mod acceptor;

@@ -1,4 +1,4 @@
-//! Where connections come from.
+//! Listeners, and the connections that they accept.
 ghost use Rattle.std.specs.Prelude.{◌≡◌, IfErr, List, Result};
 ghost use Rattle.snap_server.specs.declared.endpoint.Endpoint.{Endpoint};
 ghost use Rattle.snap_server.specs.declared.listen.Arrival.{Arrival};
@@ -11,27 +11,27 @@ use std::io;
 /// A connection that was accepted.
 #[derive(Drop)]
 pub struct Arrival {
-    /// Its socket. Where a read or a write would wait, it answers `WouldBlock`.
+    /// Its socket. A read or write that would block returns `WouldBlock`.
     pub stream: Stream,
-    /// Who is at its other end.
+    /// Its peer.
     pub peer: Peer,
 }
 
-/// Why no connection was given.
+/// Why no connection was accepted.
 #[derive(Clone, Copy, Debug, PartialEq, Eq, Drop)]
 pub enum Unaccepted {
-    /// The system has no descriptor, or no memory, for one more socket. Who calls waits in its queue,
-    /// and nothing is wrong with the listener.
+    /// The system has no descriptor, or no memory, for one more socket. The caller waits in the
+    /// system's queue, and the listener isn't at fault.
     NoRoom,
-    /// One that called was gone before it was taken.
+    /// One caller closed before it was accepted.
     Gone,
     /// The listener has failed.
     Failed,
 }
 
-/// Gives connections, one after another.
+/// Accepts connections, one after another.
 pub trait Listen {
-    /// What a call of [`accept`](Listen::accept) may answer, and what it leaves.
+    /// The possible results of [`accept`](Listen::accept), with the listener after it.
     ghost accepts: { Self → Result Arrival Unaccepted → Self → Type 0 } = { λ _ _ _. Unit {0} };
 
     /// Whether it may fail.
@@ -45,30 +45,30 @@ pub trait Listen {
         // No call makes a listener one that may fail.
         ensures same { Self.refuses self.new → Self.refuses self.old };
 
-    /// Takes no more connections: who calls is refused, and waits for nothing.
+    /// Closes the listener: further callers are refused at once.
     fn close(&self);
 }
 
-/// Tells where it listens.
+/// Names the addresses of a listener.
 pub trait Locate {
-    /// That it listens at these places, in order.
+    /// It listens at these places, in order.
     ghost is_at: { Self → List Endpoint → Type 0 };
 
-    /// Where it gives connections, in order.
+    /// The addresses at which it accepts connections, in order.
     fn endpoints(&self) -> &[Endpoint]
         ensures told { is_at self.now result.now };
 }
 
-/// The system's errors that say that it has no descriptor or no memory for a socket: Linux's ENFILE,
-/// EMFILE, ENOMEM and ENOBUFS.
+/// The system's errors for a lack of descriptors or of memory for a socket: Linux's ENFILE, EMFILE,
+/// ENOMEM and ENOBUFS.
 const NO_ROOM: [i32; 4] = [23, 24, 12, 105];
 
-/// Those that are of one caller: that a filter keeps it out, a signal that came meanwhile, and what
-/// the network told of it. Linux's EPERM, EINTR, ENONET, EPROTO, ENOPROTOOPT, EOPNOTSUPP, ENETDOWN,
+/// The system's errors that concern one caller alone: a filter that keeps it out, a signal, and
+/// faults of its network. Linux's EPERM, EINTR, ENONET, EPROTO, ENOPROTOOPT, EOPNOTSUPP, ENETDOWN,
 /// ENETUNREACH, ECONNABORTED, EHOSTDOWN and EHOSTUNREACH.
 const GONE: [i32; 11] = [1, 4, 64, 71, 92, 95, 100, 101, 103, 112, 113];
 
-/// What an error of the system says of a listener.
+/// Maps an error of the system's accept to the reason that the listener returns.
 pub(crate) fn why_not(error: &io::Error) -> Unaccepted {
     match error.raw_os_error() {
         Some(code) if NO_ROOM.contains(&code) => Unaccepted::NoRoom,

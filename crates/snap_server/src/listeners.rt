@@ -14,7 +14,7 @@ use std::net::Net;
 use std::os::fd::RawFd;
 use std::rt::{Clock, Files};
 
-/// How many events one wait tells at most.
+/// The most events of one wait.
 const MAX_EVENTS: usize = 16;
 
 /// One of the listeners.
@@ -25,7 +25,7 @@ enum Opened<'a, R: Files<File = File> + Clock> {
 }
 
 impl<R: Files<File = File> + Clock> Opened<'_, R> {
-    /// The next connection; `None` where it waits for nobody and nobody calls.
+    /// The next connection; `None` if it doesn't block and there is none.
     fn take(&self) -> Result<Option<Arrival>, Unaccepted> {
         match self {
             Opened::Tcp(tcp) => tcp.take(),
@@ -33,7 +33,7 @@ impl<R: Files<File = File> + Clock> Opened<'_, R> {
         }
     }
 
-    /// From here on it waits for nobody.
+    /// Makes it non-blocking.
     fn stop_waiting(&self) -> io::Result<()> {
         match self {
             Opened::Tcp(tcp) => tcp.stop_waiting(),
@@ -49,7 +49,7 @@ impl<R: Files<File = File> + Clock> Opened<'_, R> {
         }
     }
 
-    /// Takes no more connections.
+    /// Closes it to further connections.
     fn close(&self) {
         match self {
             Opened::Tcp(tcp) => tcp.close(),
@@ -58,20 +58,19 @@ impl<R: Files<File = File> + Clock> Opened<'_, R> {
     }
 }
 
-/// Connections of several listeners, each of which gets its turn: however many call at one of them, one
-/// who calls at another is taken behind one of each.
+/// Accepts from several listeners in turn, so a busy one can't starve the others.
 #[derive(Drop)]
 pub struct Listeners<'a, R: Files<File = File> + Clock> {
     poll: Poll,
     events: Events,
     opened: Vec<Opened<'a, R>>,
     endpoints: Vec<Endpoint>,
-    /// The place of the one whose turn is next, or one behind the last.
+    /// The place of the next listener in turn, or one past the last.
     next: usize,
 }
 
 impl<'a, R: Files<File = File> + Clock> Listeners<'a, R> {
-    /// With none yet. A fault is the system's, or want of memory.
+    /// An empty set of listeners. A fault is the system's, or that memory ran out.
     pub fn new(net: &impl Net, alloc: Global) -> Result<Listeners<'a, R>, BindFault> {
         let poll = Poll::new(net)?;
         let Ok(events) = Events::with_capacity(alloc, MAX_EVENTS) else {
@@ -86,13 +85,13 @@ impl<'a, R: Files<File = File> + Clock> Listeners<'a, R> {
         })
     }
 
-    /// And this one. After a fault all are of no use any more.
+    /// Adds a TCP listener. After a fault the set is unusable.
     pub fn add_tcp(&mut self, tcp: Tcp) -> Result<(), BindFault> {
         let endpoint = Endpoint::Tcp(tcp.address()?);
         self.add(Opened::Tcp(tcp), endpoint)
     }
 
-    /// And this one. After a fault all are of no use any more.
+    /// Adds a Unix socket. After a fault the set is unusable.
     pub fn add_unix(&mut self, alloc: Global, socket: UnixSocket<'a, R>) -> Result<(), BindFault> {
         let Ok(path) = format!(in alloc; "{path}", path = socket.path()) else {
             return Err(BindFault::NoMemory);
@@ -101,7 +100,7 @@ impl<'a, R: Files<File = File> + Clock> Listeners<'a, R> {
     }
 
     fn add(&mut self, opened: Opened<'a, R>, endpoint: Endpoint) -> Result<(), BindFault> {
-        // One alone waits by itself, in its call of the system.
+        // A single listener blocks in its own system call.
         if let Some(first) = self.opened.first() {
             first.stop_waiting()?;
             opened.stop_waiting()?;
@@ -113,7 +112,7 @@ impl<'a, R: Files<File = File> + Clock> Listeners<'a, R> {
         Ok(())
     }
 
-    /// Has the system tell when somebody calls at this one.
+    /// Registers it, so that the system reports its callers.
     fn watch(&mut self, opened: &Opened<'a, R>) -> io::Result<()> {
         let descriptor = opened.descriptor();
         let mut source = SourceFd(&descriptor);
@@ -123,7 +122,7 @@ impl<'a, R: Files<File = File> + Clock> Listeners<'a, R> {
             .register(&mut source, token, Interest::READABLE)
     }
 
-    /// The next connection, of the first in turn at which somebody calls; `None` where nobody does.
+    /// The next connection, of the first listener in turn that has one; `None` if none has.
     fn take_in_turn(&mut self) -> Result<Option<Arrival>, Unaccepted> {
         for _ in 0..self.opened.len() {
             if self.next >= self.opened.len() {
@@ -145,7 +144,7 @@ impl<R: Files<File = File> + Clock> Listen for Listeners<'_, R> {
     /// The system may fail at any time.
     ghost refuses = { λ _. Unit {0} };
 
-    /// The system tells of each caller once. So all are asked before it waits.
+    /// The system reports each caller only once, so all listeners are tried before it waits.
     fn accept(&mut self) -> Result<Arrival, Unaccepted> {
         if let Some(arrival) = self.take_in_turn()? {
             return Ok(arrival);
@@ -156,7 +155,7 @@ impl<R: Files<File = File> + Clock> Listen for Listeners<'_, R> {
         self.take_in_turn()?.ok_or(Unaccepted::Gone)
     }
 
-    /// Their descriptors stay open, and are no listeners' any more.
+    /// Their descriptors stay open, but accept no more.
     fn close(&self) {
         for opened in &self.opened {
             opened.close();
@@ -165,8 +164,8 @@ impl<R: Files<File = File> + Clock> Listen for Listeners<'_, R> {
 }
 
 impl<R: Files<File = File> + Clock> Locate for Listeners<'_, R> {
-    /// The premise: a socket is bound where the system says (`getsockname`), or at the path that it was
-    /// given. The kit has no word for that.
+    /// The premise: a socket is bound at the address that the system returns (`getsockname`), or at
+    /// the path that it was given. The kit has no contract for that.
     ghost is_at = { λ listeners endpoints. endpoints ≡ listeners.endpoints.items };
 
     fn endpoints(&self) -> &[Endpoint] {

@@ -1,15 +1,15 @@
-//! What a server tells while it runs.
+//! Events of a running server.
 
 use crate::connection::Ended;
 
-/// Something that an operator may want to know.
+/// An event for the operator's log.
 #[derive(Clone, Copy, Debug, PartialEq, Eq, Drop)]
 pub enum Note {
     /// A connection has ended.
     Ended(Ended),
-    /// So many connections are open, and no room is left for another one: who calls waits.
+    /// `open` connections are open, and there is no place for another one: callers wait.
     Full { open: usize },
-    /// There is room again.
+    /// There are free places again.
     Room,
     /// The listener has failed so often that no more connections are accepted.
     Deaf,

@@ -1,9 +1,8 @@
-//! How many connections are open at once.
+//! The limit of open connections.
 
 use std::sync::atomic::{AtomicUsize, Ordering};
 
-/// Counts the connections that are open, of at most so many. Each is entered when it is accepted, and
-/// leaves when it has ended.
+/// Limits the number of open connections. A connection counts from its accept to its close.
 #[derive(Drop)]
 pub struct Room {
     most: usize,
@@ -11,7 +10,7 @@ pub struct Room {
 }
 
 impl Room {
-    /// None is open yet.
+    /// A limit of `most`, with none open.
     pub fn new(most: usize) -> Room {
         Room {
             most,
@@ -24,17 +23,17 @@ impl Room {
         self.open.load(Ordering::SeqCst)
     }
 
-    /// Whether one more may be.
+    /// Whether one more may be open.
     pub fn is_free(&self) -> bool {
         self.open() < self.most
     }
 
-    /// One more is open.
+    /// Counts one more.
     pub fn enter(&self) {
         self.open.fetch_add(1, Ordering::SeqCst);
     }
 
-    /// One has ended.
+    /// Counts one less.
     pub fn leave(&self) {
         self.open.fetch_sub(1, Ordering::SeqCst);
     }

@@ -26,23 +26,23 @@ use std::thread;
 use std::thread::Threads;
 use std::time::Duration;
 
-/// How much a server takes in.
+/// The limits of a server.
 #[derive(Clone, Copy, Debug)]
 pub struct Limits {
-    /// How many connections it serves in all; without end where none is given.
+    /// How many connections it serves in all; `None` for no limit.
     pub connections: Option<u64>,
     /// How many of them may be open at once.
     pub clients: usize,
-    /// The rest after a fault of the listener, before the next try. It grows with each fault in a
-    /// row, ten thousand times in all.
+    /// The pause after a fault of the listener, before the next try. It grows with each fault in a
+    /// row, to ten thousand times this in all.
     pub fault_rest: Duration,
-    /// How long a connection may say nothing with no request under way; without end where none is
-    /// given. One that says nothing for longer is let go of within a quarter of that time.
+    /// The idle timeout: how long a connection may be silent with no request under way; `None` for
+    /// no limit. A silent one is closed at most a quarter of this time late.
     pub idle: Option<Duration>,
 }
 
-/// Tells the workers that no more connections come: they serve those that they have to their end, or
-/// let go of them where the server has failed.
+/// Notifies the workers that no more connections will arrive. They serve those that they have to
+/// their end, or close them if the server has failed.
 fn close_all<X: Wait + Clock, H: Hand>(rt: &X, doors: &[H], has_served: bool) {
     for door in doors {
         let mail = if has_served { Mail::Close } else { Mail::Stop };
@@ -50,7 +50,7 @@ fn close_all<X: Wait + Clock, H: Hand>(rt: &X, doors: &[H], has_served: bool) {
     }
 }
 
-/// The services, each behind the gate.
+/// Wraps each service with the gate.
 fn gate_all<'a, S: Service + Drop, G: Gate>(
     alloc: Global,
     services: Vec<S>,
@@ -68,7 +68,7 @@ fn gate_all<'a, S: Service + Drop, G: Gate>(
     Ok(gated)
 }
 
-/// A worker for each service, and their doors in the same order: each has its place.
+/// Makes a worker for each service, and their doors in the same order, numbered by place.
 fn open_workers<X: Net, S: Service + Drop>(
     net: &X,
     alloc: Global,
@@ -99,7 +99,7 @@ where
     Ok((workers, doors))
 }
 
-/// A worker for each service behind the gate, and their doors in the same order.
+/// Makes a worker for each service, wrapped with the gate, and their doors in the same order.
 fn open_all<'a, X: Net, S: Service + Drop, G: Gate>(
     net: &X,
     alloc: Global,
@@ -120,8 +120,8 @@ where
     open_workers(net, alloc, services, idle)
 }
 
-/// Announces the server where it has all its threads, and then accepts and deals so many
-/// connections, or without end.
+/// Announces the server if it has all its threads, and then accepts `connections` connections, or
+/// without end, and hands them out.
 fn accept_announced<X, L, H, N, T, A>(
     rt: &X,
     listener: &mut L,
@@ -163,9 +163,9 @@ where
     }
 }
 
-/// Runs the threads of all workers and backgrounds. Once all are there it announces the server, and
-/// accepts on this one. It has served only where each worker says so, and each connection was handed
-/// to the door whose turn it was.
+/// Runs the threads of all workers and backgrounds. Once all run it announces the server, and
+/// accepts on the calling thread. It has served only if each worker says so, and each connection
+/// was handed to the door whose turn it was.
 fn run_threads<X, L, K, H, B, N, T, A>(
     rt: &X,
     alloc: Global,
@@ -234,42 +234,39 @@ where
                 announce,
                 to,
             );
-            // Who still calls is refused, and waits for nothing.
+            // Further callers are refused at once.
             listener.close();
             close_all(rt, doors, accepted.is_ok());
-            // Handed back: of what a closure that was given away has changed, nothing is known.
+            // `to` is returned, since nothing is known of what a moved closure changed.
             (end_of(accepted, !have_served(rt, threads)), to)
         },
     );
     ended
 }
 
-/// Serves the connections that the listener gives, dealt in turn to one worker for each service,
-/// until as many have come and ended as the limits say, and answers their number. No more are open
-/// at once than the limits say: who calls then waits in the listener's queue.
-///
-/// Each background works in a thread of its own, and has ended once the services are gone. The
-/// gate's `enter` comes before a request is answered and its `leave` after. `note` is told of each
-/// connection that has ended, on its worker's thread, and of the accepting: that there is no room,
-/// and again, and that it has ended.
-///
-/// The number that it answers is that of the connections that the listener gave, each of which was handed to a
-/// worker.
-///
-/// The listener is closed once no more connections are accepted. After a fault those that are there
-/// were let go of: each once it had nothing under way, or was silent within a request for five
-/// seconds.
+/// Serves the listener's connections, handed in turn to one worker for each service, until as many
+/// as the limits say have been accepted and have ended; returns their number, each of which was
+/// handed to a worker. While the limit of open connections is reached further callers wait in the
+/// listener's queue.
 ///
 /// Once its threads, their polls and their memory are there, and before it accepts, the server is
-/// announced to `to`. Where that fails it ends, and has accepted none.
+/// announced to `to`. If that fails it ends, and has accepted none. Each background works in a
+/// thread of its own, and has ended once the services are dropped. The gate's `enter` comes before
+/// a request is answered and its `leave` after. `note` is called for each connection that has
+/// ended, on its worker's thread, and when there is no place for a connection, when there is again,
+/// and when accepting has ended.
 ///
-/// [`NoMemory`](ServerFault::NoMemory): a growth of `run` itself was refused; a connection
-/// that finds no memory is closed, and is no fault. [`NoPoll`](ServerFault::NoPoll) and
-/// [`NoThread`](ServerFault::NoThread): the system refused a worker what it waits by, or a thread, and
-/// none was accepted. 16 faults of the listener in a row are
-/// [`AcceptFailed`](ServerFault::AcceptFailed); want of descriptors or of memory for a socket is
-/// none. [`PollFailed`](ServerFault::PollFailed): the system didn't let a worker wait: its connections
-/// are closed, with no note, and accepting ends with the next one that is dealt to it.
+/// The listener is closed once no more connections are accepted. After a fault the open connections
+/// are closed: each once it has nothing under way, or was silent within a request for five seconds.
+///
+/// - [`NoMemory`](ServerFault::NoMemory): memory for `run` itself ran out. A connection for which
+///   memory runs out is closed, and that is no fault.
+/// - [`NoPoll`](ServerFault::NoPoll), [`NoThread`](ServerFault::NoThread): the system refused a worker
+///   its poll or its thread. No connection was accepted.
+/// - [`AcceptFailed`](ServerFault::AcceptFailed): 16 faults of the listener in a row. A lack of
+///   descriptors or of memory for a socket is none.
+/// - [`PollFailed`](ServerFault::PollFailed): a worker's wait for events failed. Its connections are
+///   closed without a note, and accepting ends with the next one that is handed to it.
 pub fn run<X, L, S, B, G, N, T, A>(
     rt: &X,
     alloc: Global,
@@ -318,8 +315,8 @@ where
     )
 }
 
-/// How a server ended whose threads ended so: where one of them could wait no longer, that is why,
-/// unless it never began to serve.
+/// The end of a server whose threads have ended: `PollFailed` if one of them failed, unless the
+/// server never began to serve.
 fn end_of(served: Result<u64, RunFault>, has_failed: bool) -> Result<u64, RunFault>
     ensures { result ≡ end_of served has_failed }
 {

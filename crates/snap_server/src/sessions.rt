@@ -23,13 +23,13 @@ use std::collections::VecDeque;
 
 /// A service, the connections whose sessions share it, and the list of those that get a turn.
 ///
-/// From its start to now, each connection is one session on the service, with requests of the
-/// others answered between its own.
+/// From its start to now, each connection is one session on the service, with other connections'
+/// requests answered between its own.
 #[derive(Drop)]
 pub struct Sessions<S: Service + Drop> {
     service: S,
     connections: Slab<Connection>,
-    /// The keys of those that get a turn, each once. It has room for all.
+    /// The keys of the connections that get a turn, each once. It has capacity for all.
     listed: VecDeque<usize>,
     ghost are: { ∥ AreSessions S.gives service connections ∥₁ },
     ghost lists: { ∥ Lists listed.items connections ∥₁ },
@@ -37,7 +37,7 @@ pub struct Sessions<S: Service + Drop> {
 }
 
 impl<S: Service + Drop> Sessions<S> {
-    /// With no connection yet.
+    /// A service with no connection yet.
     pub fn new(alloc: Global, service: S) -> Sessions<S>
         ensures service { result.service ≡ service }
         ensures none { slab_len result.connections ≡ 0 }
@@ -49,27 +49,27 @@ impl<S: Service + Drop> Sessions<S> {
         }
     }
 
-    /// Whether no connection is left.
+    /// Whether there is no connection.
     pub fn is_empty(&self) -> bool
         ensures { result ≡ true ↔ slab_len self.now.connections ≡ 0 }
     {
         self.connections.is_empty()
     }
 
-    /// The keys of all connections are below this.
+    /// All connections' keys are below this number.
     pub fn places(&self) -> usize {
         self.connections.capacity()
     }
 
-    /// How many get a turn.
+    /// How many connections are on the list.
     pub fn turns(&self) -> usize
         ensures { result ≡ deque_len self.now.listed }
     {
         self.listed.len()
     }
 
-    /// Takes a connection in, and has the system watch it under its key. `false` where that was
-    /// refused, or no room was found: then it is closed, and the others go on.
+    /// Adds a connection, and registers it under its key. `false` if memory runs out or the system
+    /// refuses it: then it is closed, and the others aren't affected.
     pub fn adopt(&mut self, alloc: Global, registry: &Registry, arrival: Arrival) -> bool
         ensures service { self.new.service ≡ self.old.service }
         ensures kept { (key : ℕ) → (c : Connection) → get self.old.connections key ≡ Some c
@@ -94,8 +94,7 @@ impl<S: Service + Drop> Sessions<S> {
         true
     }
 
-    /// Puts a connection at the end of the list of those that get a turn, unless it is there or has
-    /// ended.
+    /// Appends a connection to the list, unless it is listed or has ended.
     pub fn list(&mut self, key: usize)
         ensures service { self.new.service ≡ self.old.service }
         ensures listed { (c : Connection) → get self.old.connections key ≡ Some c
@@ -117,7 +116,7 @@ impl<S: Service + Drop> Sessions<S> {
         }
     }
 
-    /// Takes the first key off the list, where there is one.
+    /// Takes the first key off the list, if there is one.
     pub fn next(&mut self) -> Option<usize>
         ensures service { self.new.service ≡ self.old.service }
         ensures first { self.old.listed.items ≡ option_to_list result ++ self.new.listed.items }
@@ -138,8 +137,8 @@ impl<S: Service + Drop> Sessions<S> {
         Some(key)
     }
 
-    /// Gives a connection its turn: what it ends with, if it ends. One that has more to do at once
-    /// is at the end of the list again.
+    /// Gives a connection its turn, and returns its end if it has ended. If it has more to do at
+    /// once it is appended to the list again.
     pub fn turn(&mut self, key: usize, piece: &mut [u8; PIECE]) -> Option<Ended>
         requires { (c : Connection) → get self.old.connections key ≡ Some c
             → c.stage ≡ Stage.Idle }
@@ -180,7 +179,7 @@ impl<S: Service + Drop> Sessions<S> {
         }
     }
 
-    /// Looks at a connection between its turns: what it ends with, if it may stay no longer.
+    /// Checks a connection between its turns, and returns its end if it has ended.
     pub fn look(&mut self, key: usize, why: &Look) -> Option<Ended>
         ensures service { self.new.service ≡ self.old.service }
         ensures ended { IfSome result (λ ended. (c : Connection)
@@ -200,7 +199,7 @@ impl<S: Service + Drop> Sessions<S> {
         Some(connection.end(how))
     }
 
-    /// Lets a connection go that has ended, unless an outcome is still to come under its key.
+    /// Removes a connection that has ended, unless an outcome is still to arrive for it.
     pub fn let_go(&mut self, key: usize)
         ensures service { self.new.service ≡ self.old.service }
         ensures gone { (c : Connection) → get self.old.connections key ≡ Some c
@@ -222,8 +221,7 @@ impl<S: Service + Drop> Sessions<S> {
         }
     }
 
-    /// Tells a connection what became of its request: it gets a turn then. One that has ended is
-    /// let go.
+    /// Answers a connection's request by its outcome, and lists the connection. If it has ended it is removed.
     pub fn tell(&mut self, key: usize, outcome: S::Outcome)
     where
         S::Outcome: Drop,

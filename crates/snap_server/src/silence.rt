@@ -1,30 +1,30 @@
-//! How long a connection may say nothing.
+//! The idle timeout.
 
 use std::time::Duration;
 
-/// How many times a worker looks at a connection within the time for which it may be silent. One is let
-/// go of at the next look, so a quarter of that time late at most.
+/// How many idle checks a worker makes within an idle timeout. A connection is closed at the check
+/// after it, so at most a quarter of that time late.
 const LOOKS: u32 = 4;
 
-/// The rest between two looks while the server stops, in milliseconds, and how many of them find one
-/// silent that is within a request before it is let go of: five seconds in all.
+/// The time between two idle checks while the server stops, in milliseconds, and how many of them
+/// may find a connection silent within a request before it is closed: five seconds in all.
 const LAST_REST: u64 = 100;
 
 const LAST_LOOKS: u32 = 50;
 
-/// When a connection is let go of that says nothing. A worker looks at all that it has after each rest.
+/// When a silent connection is closed. A worker checks all its connections after each `rest`.
 #[derive(Clone, Copy, Debug, PartialEq, Eq, Drop)]
 pub struct Silence {
-    /// The time between two looks.
+    /// The time between two checks.
     pub rest: Duration,
-    /// How many looks in a row may find it silent.
+    /// How many checks in a row may find a connection silent.
     pub looks: u32,
-    /// Whether the server stops: then one with nothing under way is let go of at the next look.
+    /// Whether the server stops: then a connection with nothing under way is closed at the next check.
     pub stops: bool,
 }
 
 impl Silence {
-    /// A connection may be silent for so long.
+    /// The timeout of a serving server.
     pub fn of(idle: Duration) -> Silence {
         Silence {
             rest: idle / LOOKS,
@@ -33,7 +33,8 @@ impl Silence {
         }
     }
 
-    /// The server stops: a connection may end the request that it has begun, where it goes on with it.
+    /// The timeout of a server that stops: a connection may finish the request that it has begun,
+    /// if it continues with it.
     pub fn last() -> Silence {
         Silence {
             rest: Duration::from_millis(LAST_REST),
@@ -43,11 +44,11 @@ impl Silence {
     }
 }
 
-/// Why a worker looks at a connection that has no turn.
+/// Why a worker checks a connection that has no turn.
 #[derive(Clone, Copy, Debug, PartialEq, Eq, Drop)]
 pub enum Look {
-    /// The system told that its peer is gone.
+    /// The system reported an error of its socket.
     Lost,
-    /// A rest has passed.
+    /// It is time for an idle check.
     Silence(Silence),
 }

@@ -5,21 +5,21 @@ use mio::{Interest, Registry, Token};
 use std::io::{self, ErrorKind, Read, Write};
 use std::net::Shutdown;
 
-/// A socket that doesn't wait, until it is closed. From then on reads and writes fail.
+/// A socket that doesn't block, until it is closed. From then on reads and writes fail.
 #[derive(Drop)]
 pub struct Socket {
     stream: Option<Stream>,
 }
 
 impl Socket {
-    /// An open one.
+    /// An open socket.
     pub fn new(stream: Stream) -> Socket {
         Socket {
             stream: Some(stream),
         }
     }
 
-    /// Has the system report of it under this token.
+    /// Registers it, so that the system reports its events under this token.
     pub fn register(
         &mut self,
         registry: &Registry,
@@ -32,8 +32,7 @@ impl Socket {
         }
     }
 
-    /// Shuts its writing side down, so that the peer reads all that was written, and gives its
-    /// descriptor back.
+    /// Shuts its writing side down, so that the peer reads all that was written, and closes its descriptor.
     pub fn close(&mut self) {
         if let Some(stream) = self.stream.take() {
             let _ = stream.shutdown(Shutdown::Write);

@@ -5,7 +5,7 @@ use mio::{Interest, Registry, Token};
 use std::io::{self, Read, Write};
 use std::net::Shutdown;
 
-/// A socket whose reads and writes answer `WouldBlock` where they would wait.
+/// A socket whose reads and writes return `WouldBlock` instead of blocking.
 #[derive(Drop)]
 pub enum Stream {
     Tcp(TcpStream),
@@ -13,7 +13,7 @@ pub enum Stream {
 }
 
 impl Stream {
-    /// Has the system report of it under this token.
+    /// Registers it, so that the system reports its events under this token.
     pub(crate) fn register(
         &mut self,
         registry: &Registry,

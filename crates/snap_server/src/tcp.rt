@@ -1,4 +1,4 @@
-//! A listener over TCP.
+//! A TCP listener.
 
 use crate::endpoint::Peer;
 use crate::listen::{Arrival, Listen, Unaccepted, why_not};
@@ -9,17 +9,16 @@ use std::io::{self, ErrorKind};
 use std::net::{Net, SocketAddr, TcpListener};
 use std::os::fd::{AsRawFd, RawFd};
 
-/// Connections over TCP, with no delay of small writes. Of a peer that is silent the system finds out
-/// within two minutes whether it is still there.
+/// Accepts TCP connections, with no delay of small writes. The system finds out within two minutes
+/// whether a silent peer is still there.
 #[derive(Drop)]
 pub struct Tcp {
     listener: TcpListener,
 }
 
 impl Tcp {
-    /// Listens at an address, with the longest queue of connections that the system allows. At
-    /// port 0 the system picks one, which [`address`](Tcp::address) tells. An error is the
-    /// system's.
+    /// Listens at an address, with the longest queue of connections that the system allows. At port
+    /// 0 the system picks a port, which [`address`](Tcp::address) returns. An error is the system's.
     pub fn bind(net: &impl Net, address: SocketAddr) -> io::Result<Tcp> {
         let listener = TcpListener::from(mio::net::TcpListener::bind(net, address)?);
         listener.set_nonblocking(false)?;
@@ -27,12 +26,12 @@ impl Tcp {
         Ok(Tcp { listener })
     }
 
-    /// The address at which it listens, as the system tells it.
+    /// The address at which it listens, as the system returns it.
     pub fn address(&self) -> io::Result<SocketAddr> {
         self.listener.local_addr()
     }
 
-    /// From here on [`take`](Tcp::take) waits for nobody.
+    /// Makes it non-blocking: from now on [`take`](Tcp::take) doesn't wait.
     pub(crate) fn stop_waiting(&self) -> io::Result<()> {
         self.listener.set_nonblocking(true)
     }
@@ -42,14 +41,14 @@ impl Tcp {
         self.listener.as_raw_fd()
     }
 
-    /// The next connection; `None` where it waits for nobody and nobody calls.
+    /// The next connection; `None` if it doesn't block and there is none.
     pub(crate) fn take(&self) -> Result<Option<Arrival>, Unaccepted> {
         let (stream, peer) = match self.listener.accept() {
             Ok(accepted) => accepted,
             Err(error) if error.kind() == ErrorKind::WouldBlock => return Ok(None),
             Err(error) => return Err(why_not(&error)),
         };
-        // It fails where who called is gone.
+        // These calls fail if the caller has closed.
         if stream.set_nodelay(true).is_err() || stream.set_nonblocking(true).is_err() {
             return Err(Unaccepted::Gone);
         }
@@ -72,7 +71,7 @@ impl Listen for Tcp {
         self.wait_for_one()
     }
 
-    /// Its descriptor stays open, and is no listener's any more.
+    /// Its descriptor stays open, but accepts no more.
     fn close(&self) {
         net::shutdown(self.listener.as_raw_fd(), net::SHUT_RDWR);
     }
@@ -90,16 +89,16 @@ impl Listen for &Tcp {
     }
 }
 
-/// How long a peer is silent before it is asked whether it is there, and the rest between two
-/// questions, in seconds; and how many go without an answer before it is given up.
+/// TCP keepalive: the seconds of silence before the first probe, the seconds between two probes,
+/// and how many go unanswered before the peer is given up.
 const SILENCE: u8 = 60;
 
 const QUESTION_REST: u8 = 10;
 
 const QUESTIONS: u8 = 6;
 
-/// Has the system ask silent peers whether they are there. What is accepted has that from its
-/// listener. Where the system refuses it, a peer that is gone is found at the next write.
+/// Turns TCP keepalive on for the listener, from which its connections inherit it. If the system
+/// refuses it, a lost peer is found at the next write.
 fn ask_silent_peers(listener: &TcpListener) {
     let listener = listener.as_raw_fd();
     unsafe {

@@ -1,4 +1,4 @@
-//! The threads of workers and backgrounds, and what each worker says at its end.
+//! The threads of workers and backgrounds, and the result of each worker.
 ghost use Rattle.std.specs.Prelude.{◌≡◌, [], All, Bool, IfSome, map, true};
 ghost use Rattle.std.specs.Thread.{IsSend, IsSync};
 
@@ -13,16 +13,16 @@ use std::thread::{Promise, PromisedHandle, Scope, Threads};
 
 /// Works in a thread of its own.
 pub trait Work {
-    /// That it has served all that came to it.
+    /// It has served all that was sent to it.
     ghost serves: { Self → Type 0 };
 
-    /// Works to its end; `false` where it failed.
+    /// Works to its end; `false` if it failed.
     fn work_off<X: Wait + Clock, N: Fn(&Note)>(self, rt: &X, room: &Room, note: &N) -> bool
         requires { N.IsAlwaysCallable note.now }
         ensures { result ≡ true → serves self };
 }
 
-/// That a thread answers `true` only where its worker has served.
+/// The promise that a thread returns `true` only if its worker has served.
 #[derive(Drop)]
 pub struct Serving<K> {
     worker: Snapshot<K>,
@@ -32,7 +32,7 @@ impl<K: Work> Promise<bool> for Serving<K> {
     ghost kept_by = { λ promise has_served. has_served ≡ true → K.serves promise.worker.value };
 }
 
-/// A thread for this worker; none where the system refused it.
+/// Starts a thread for this worker; `None` if the system refused it.
 fn start<'s, E, K: Work, F: FnOnce() -> bool + Send + Drop + 's>(
     scope: &Scope<'s, E>,
     promise: Serving<K>,
@@ -48,14 +48,14 @@ fn start<'s, E, K: Work, F: FnOnce() -> bool + Send + Drop + 's>(
     }
 }
 
-/// Whether there is a thread for this work.
+/// Starts a thread for this work; `false` if the system refused it.
 fn starts<'s, E, F: FnOnce() + Send + Drop + 's>(scope: &Scope<'s, E>, work: F) -> bool
     requires { F.pre work }
 {
     scope.spawn(work).is_ok()
 }
 
-/// Starts a thread for each background; `false` where the system refused one.
+/// Starts a thread for each background; `false` if the system refused one.
 pub fn start_backgrounds<'s, E, X, B, H>(
     scope: &Scope<'s, E>,
     rt: &'s X,
@@ -80,7 +80,7 @@ where
     is_whole
 }
 
-/// Tells the workers what is done, until no more will be.
+/// Sends each outcome to its worker, until no more will arrive.
 fn tell_all<X: Wait + Clock, B: Background + Drop, H: Hand<Outcome = B::Outcome>>(
     rt: &X,
     mut background: B,
@@ -101,7 +101,7 @@ fn tell_all<X: Wait + Clock, B: Background + Drop, H: Hand<Outcome = B::Outcome>
     }
 }
 
-/// Starts a thread for each worker; `false` where the system refused one.
+/// Starts a thread for each worker; `false` if the system refused one.
 pub fn start_workers<'s, E, X, K, N>(
     scope: &Scope<'s, E>,
     rt: &'s X,
@@ -141,7 +141,7 @@ where
     true
 }
 
-/// Whether each of the workers has served, once all have ended.
+/// Waits for all workers' threads; true if each has served.
 pub fn have_served<X: Threads, K: Work>(
     rt: &X,
     threads: Vec<PromisedHandle<bool, Serving<K>>>,

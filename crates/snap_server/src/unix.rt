@@ -1,4 +1,4 @@
-//! A listener on a Unix socket, and the file that it makes.
+//! A listener on a Unix socket, and the socket's file.
 ghost use Rattle.std.specs.Prelude.{◌≤◌};
 
 use crate::endpoint::Peer;
@@ -21,43 +21,43 @@ use thiserror::Error;
 /// The longest path of a Unix socket, in bytes.
 const MAX_SOCKET_PATH: usize = 107;
 
-/// How many times a lock on the folder that another process has is tried again, and the rest before
-/// each: a second in all.
+/// How many times another process's lock on the folder is tried again, and the pause before each
+/// try: a second in all.
 const LOCK_RESTS: u32 = 50;
 
 const LOCK_REST_MILLIS: u64 = 20;
 
-/// As many may wait in the queue as the system allows.
+/// The longest queue that the system allows.
 const BACKLOG: i32 = -1;
 
-/// And no more than it ever lets.
+/// An upper bound of that queue.
 const MAX_QUEUE: u32 = 1 << 20;
 
-/// Why nothing was bound at an address. What was there before is there still, and as it was; but for the
-/// file of a socket that no process had any more.
+/// Why nothing was bound at an address. The files there are unchanged, except that a socket's file
+/// without a process may have been removed.
 #[derive(Debug, Drop, Error)]
 pub enum BindFault {
     /// The system's own reason.
     #[error("{0}")]
     System(io::Error),
-    /// A socket that some process has is bound to this path.
+    /// Another process has a socket at this path.
     #[error("another process listens there")]
     Taken,
-    /// The path names a socket that this user may not call or not remove, so nobody can say whether some
-    /// process has it.
+    /// The path names a socket that this user may not connect to or not remove, so it isn't known
+    /// whether a process has it.
     #[error("a socket of another user is there")]
     Foreign,
-    /// What is at the path is no socket.
+    /// The file at the path is no socket.
     #[error("it is there, and no socket")]
     NoSocket,
     /// Another process had a lock on the path's folder for a second.
     #[error("another process has locked its folder")]
     Locked,
-    /// The process's mask took bits of the mode, and they can't be given back where others may put a link in
-    /// the file's place.
+    /// The process's umask takes bits of the mode, and they can't be restored, since others may put
+    /// a link in the file's place.
     #[error("this process's umask takes bits of its mode, and others may change its folder")]
     Masked,
-    /// A growth of memory was refused.
+    /// Memory ran out.
     #[error("out of memory")]
     NoMemory,
 }
@@ -73,7 +73,7 @@ impl From<io::Error> for BindFault {
     }
 }
 
-/// Which file it is.
+/// The identity of a file.
 #[derive(Clone, Copy, PartialEq, Eq)]
 struct SocketFile {
     device: u64,
@@ -89,7 +89,7 @@ impl SocketFile {
     }
 }
 
-/// A socket at a path, which takes connections. Its file is removed with it, where it is its own still.
+/// A listening socket at a path. Its file is removed with it, if the path still names that file.
 pub struct UnixSocket<'a, R: Files<File = File> + Clock> {
     rt: &'a R,
     path: String,
@@ -98,11 +98,11 @@ pub struct UnixSocket<'a, R: Files<File = File> + Clock> {
 }
 
 impl<'a, R: Files<File = File> + Clock> UnixSocket<'a, R> {
-    /// Listens at a path, by a file of this mode that it makes: who may write the file may connect, and
-    /// nobody else at any moment. A socket's file that no process has any more is replaced.
+    /// Listens at a path, by a file with this mode that it makes: whoever may write the file may
+    /// connect, and never anybody else. A socket's file without a process is replaced.
     ///
-    /// Whoever binds a path here has a lock on its folder meanwhile, so of two that find such a file one
-    /// replaces it, and the other one finds it [`Taken`](BindFault::Taken).
+    /// It locks the path's folder meanwhile, so of two servers that find such a file one replaces
+    /// it, and the other one then finds it [`Taken`](BindFault::Taken).
     pub fn bind(
         rt: &'a R,
         alloc: Global,
@@ -119,8 +119,8 @@ impl<'a, R: Files<File = File> + Clock> UnixSocket<'a, R> {
         let folder = lock_folder(rt, path)?;
         make_way(rt, path)?;
         let socket = rt.unix_socket()?;
-        // The file is made with this mode, less what the process's mask takes from it: at no moment has
-        // it another bit, as it would have if the mode came behind.
+        // The file is made with this mode, less the process's umask: it never has another bit, as
+        // it would have if the mode were set afterwards.
         if libc::fchmod(socket.as_raw_fd(), mode) != 0 {
             return Err(BindFault::System(last_error()));
         }
@@ -152,12 +152,12 @@ impl<'a, R: Files<File = File> + Clock> UnixSocket<'a, R> {
         self.listener.as_raw_fd()
     }
 
-    /// From here on [`take`](UnixSocket::take) waits for nobody.
+    /// Makes it non-blocking: from now on [`take`](UnixSocket::take) doesn't wait.
     pub(crate) fn stop_waiting(&self) -> io::Result<()> {
         self.listener.set_nonblocking(true)
     }
 
-    /// The next connection; `None` where it waits for nobody and nobody calls.
+    /// The next connection; `None` if it doesn't block and there is none.
     pub(crate) fn take(&self) -> Result<Option<Arrival>, Unaccepted> {
         let (stream, _) = match self.listener.accept() {
             Ok(accepted) => accepted,
@@ -172,14 +172,14 @@ impl<'a, R: Files<File = File> + Clock> UnixSocket<'a, R> {
         Ok(Some(Arrival { stream, peer }))
     }
 
-    /// Takes no more connections, and removes its file.
+    /// Closes it to further connections, and removes its file.
     pub(crate) fn close(&self) {
         net::shutdown(self.descriptor(), net::SHUT_RDWR);
         self.remove();
         self.refuse_waiting();
     }
 
-    /// Lets go of those that wait in its queue, as the system itself does at a port.
+    /// Closes the connections that wait in its queue, as the system itself does at a TCP port.
     fn refuse_waiting(&self) {
         if self.stop_waiting().is_err() {
             return;
@@ -191,8 +191,8 @@ impl<'a, R: Files<File = File> + Clock> UnixSocket<'a, R> {
         }
     }
 
-    /// Removes its file, where its path names it still. While its descriptor is open no other server
-    /// takes the file for one that was left, and no other file gets its number.
+    /// Removes its file, if its path still names it. While its descriptor is open no other server
+    /// takes the file for one without a process, and no other file gets its inode number.
     fn remove(&self) {
         if let Ok(found) = fs::symlink_metadata(self.rt, self.path()) {
             if SocketFile::of(&found) == self.file {
@@ -223,7 +223,7 @@ fn folder_of(path: &str) -> &str {
     }
 }
 
-/// The folder of this path, with an exclusive lock that ends with it.
+/// Opens the folder of this path, with an exclusive lock that is released when the file is dropped.
 fn lock_folder<R: Files<File = File> + Clock>(rt: &R, path: &str) -> Result<File, BindFault> {
     let folder = OpenOptions::new().read(true).open(rt, folder_of(path))?;
     for _ in 0..LOCK_RESTS {
@@ -237,17 +237,17 @@ fn lock_folder<R: Files<File = File> + Clock>(rt: &R, path: &str) -> Result<File
     Err(BindFault::Locked)
 }
 
-/// The bits of a mode that say who may read, write and run a file.
+/// The permission bits of a mode.
 const MODE_BITS: u32 = 0o777;
 
-/// Those of them by which others than its owner change a folder.
+/// The bits by which others than a folder's owner may change it.
 const OTHERS_WRITE: u32 = 0o022;
 
-/// The bit of a folder in which nobody but its owner and the file's removes a file.
+/// The sticky bit of a folder: only the folder's owner and a file's owner remove that file.
 const STICKY: u32 = 0o1000;
 
-/// Gives the file at this path in this folder what the mask took of its mode. A path follows links, so
-/// that is done only where nobody else may put one there.
+/// Restores the bits that the umask took of the mode of the file at this path. A path follows
+/// links, so that is done only if nobody else may put a link there.
 fn give_back<R: Files<File = File>>(
     rt: &R,
     folder: &File,
@@ -264,7 +264,7 @@ fn give_back<R: Files<File = File>>(
     Ok(())
 }
 
-/// Removes the file of a socket that no process has any more. Anything else stays.
+/// Removes the file of a socket without a process. Any other file stays.
 fn make_way<R: Files>(rt: &R, path: &str) -> Result<(), BindFault> {
     let found = match fs::symlink_metadata(rt, path) {
         Ok(found) => found,
@@ -287,9 +287,8 @@ fn make_way<R: Files>(rt: &R, path: &str) -> Result<(), BindFault> {
 /// Linux's EPROTOTYPE: a socket of another kind is bound there.
 const WRONG_KIND: i32 = 91;
 
-/// Whether some process has the socket at this path. It is asked for by a socket that sends messages:
-/// the system refuses to connect that to one for connections, which so is never counted as one by
-/// whoever has it.
+/// Whether a process has the socket at this path. It tries to connect a datagram socket, which the
+/// system refuses for a stream socket: so the socket's owner never gets a connection of it.
 fn has_owner(path: &str) -> Result<bool, BindFault> {
     let mut address = [0u8; net::_SS_SIZE];
     let len = write_address(path, &mut address);
@@ -306,18 +305,18 @@ fn has_owner(path: &str) -> Result<bool, BindFault> {
     }
     match error.raw_os_error() {
         Some(WRONG_KIND) => Ok(true),
-        // Or it has gone just now, with its server.
+        // Or it was removed just now, with its server.
         Some(libc::ECONNREFUSED | libc::ENOENT) => Ok(false),
         Some(libc::EACCES) => Err(BindFault::Foreign),
         _ => Err(BindFault::System(error)),
     }
 }
 
-/// Where the path stands in the address of a Unix socket, behind the family.
+/// The place of the path in the address of a Unix socket, after the family.
 const PATH_AT: usize = 2;
 
-/// Writes the address of a Unix socket as the system reads it, and tells its length. A path that is too
-/// long is cut.
+/// Writes the address of a Unix socket as the system reads it, and returns its length. A path that
+/// is too long is cut.
 fn write_address(path: &str, address: &mut [u8; net::_SS_SIZE]) -> u32
     ensures { result ≤ 128 }
 {
@@ -328,7 +327,7 @@ fn write_address(path: &str, address: &mut [u8; net::_SS_SIZE]) -> u32
     (PATH_AT + len + 1) as u32
 }
 
-/// Why the last call of the system failed.
+/// Why the last system call failed.
 fn last_error() -> io::Error {
     io::Error::from_raw_os_error(os::errno())
 }

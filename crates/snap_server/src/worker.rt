@@ -25,16 +25,16 @@ use std::sync::Wait;
 use std::time::{Duration, Instant};
 use std::{io, thread};
 
-/// The token of the waker. Connections have their keys as tokens.
+/// The token of the waker. A connection's token is its key.
 const INBOX: Token = Token(usize::MAX);
 
-/// How many events one wait tells at most.
+/// The most events of one wait.
 const MAX_EVENTS: usize = 256;
 
 /// Polls without sleeping before a worker blocks: some 40 us, about as long as it takes to wake a thread.
 const SPINS: u32 = 100;
 
-/// What one worker owns.
+/// A thread that serves many connections, and all that it owns.
 #[derive(Drop)]
 pub struct Worker<S: Service + Drop>
 where
@@ -42,20 +42,20 @@ where
 {
     alloc: Global,
     poll: Poll,
-    /// What the last wait told. Taken at the beginning, so that a worker that serves needs no memory
-    /// of its own.
+    /// The events of the last wait. Allocated at the start, so that a serving worker takes no
+    /// memory of its own.
     events: Events,
     inbox: Inbox<S::Outcome>,
     sessions: Sessions<S>,
     is_open: bool,
     spin: Spin,
-    /// How long its connections may say nothing; without end where none is given.
+    /// The idle timeout of its connections; `None` for no limit.
     silence: Option<Silence>,
-    /// When it last looked for those that do.
+    /// The time of its last idle check.
     looked: Option<Instant>,
 }
 
-/// What is told of a call that failed.
+/// Maps an I/O error of the event loop to the fault that the server reports.
 fn fault_of(error: io::Error) -> ServerFault
     ensures { (result ≡ ServerFault.NoPoll) ⊎ (result ≡ ServerFault.NoMemory) }
 {
@@ -65,7 +65,7 @@ fn fault_of(error: io::Error) -> ServerFault
     }
 }
 
-/// Lists the connections that are ready, and lets those go whose peers are gone.
+/// Lists the connections that are ready, and checks those whose socket has an error.
 fn list_ready<S: Service + Drop, N: Fn(&Note)>(
     sessions: &mut Sessions<S>,
     events: &Events,
@@ -88,7 +88,7 @@ fn list_ready<S: Service + Drop, N: Fn(&Note)>(
     }
 }
 
-/// Looks at a connection that has no turn, and lets it go if it may stay no longer.
+/// Checks a connection that has no turn, and closes it if it has ended.
 fn look_at<S: Service + Drop, N: Fn(&Note)>(
     sessions: &mut Sessions<S>,
     key: usize,
@@ -104,7 +104,7 @@ fn look_at<S: Service + Drop, N: Fn(&Note)>(
     }
 }
 
-/// Lets a connection go that has ended so.
+/// Notes the end of a connection, and removes it.
 fn let_go<S: Service + Drop, N: Fn(&Note)>(
     sessions: &mut Sessions<S>,
     key: usize,
@@ -128,8 +128,8 @@ impl<S: Service + Drop> Worker<S>
 where
     S::Outcome: Drop,
 {
-    /// A worker with no connection, of this place among its like, and where its mail is put. Its
-    /// connections may be silent for as long as this says, or for ever.
+    /// Makes a worker with no connection, for this place, and the door to its mailbox. `silence` is
+    /// its connections' idle timeout; `None` for no limit.
     pub fn new(
         net: &impl Net,
         alloc: Global,
@@ -167,8 +167,8 @@ where
         Ok((worker, door))
     }
 
-    /// Takes one piece of the mail, where some waits. The next one is taken behind the turns, so that who
-    /// asks meanwhile isn't kept waiting for the replies of all outcomes that came at once.
+    /// Takes one message, if any waits. The next one is taken after the turns, so that connections
+    /// aren't kept waiting for the replies of all outcomes that arrived at once.
     fn read_mail<X: Wait>(&mut self, rt: &X)
         ensures moves { Moves S.gives self.old.sessions.service self.new.sessions.service }
     {
@@ -183,7 +183,7 @@ where
         }
     }
 
-    /// No more connections will come than those that wait.
+    /// Notes that no further connections will arrive.
     fn close(&mut self)
         ensures sessions { self.new.sessions ≡ self.old.sessions }
         ensures closed { self.new.is_open ≡ false }
@@ -191,7 +191,7 @@ where
         self.is_open = false;
     }
 
-    /// Takes one connection, where some wait.
+    /// Takes one connection out of the inbox, if any waits.
     fn take_arrival<X: Wait, N: Fn(&Note)>(&mut self, rt: &X, room: &Room, note: &N)
         requires { N.IsAlwaysCallable note.now }
         ensures service { self.new.sessions.service ≡ self.old.sessions.service }
@@ -201,7 +201,7 @@ where
         }
     }
 
-    /// Takes a connection in. One that finds no room is closed, and the others go on.
+    /// Adds a connection. If memory runs out it is closed, and the others aren't affected.
     fn welcome<N: Fn(&Note)>(&mut self, arrival: Arrival, room: &Room, note: &N)
         requires { N.IsAlwaysCallable note.now }
         ensures service { self.new.sessions.service ≡ self.old.sessions.service }
@@ -215,7 +215,7 @@ where
         }
     }
 
-    /// Gives the first of the list one turn. It is behind all others then, if it is there again.
+    /// Gives the first connection of the list one turn. If it is listed again, it is the last.
     fn serve_next<N: Fn(&Note)>(&mut self, piece: &mut [u8; PIECE], room: &Room, note: &N)
         requires { N.IsAlwaysCallable note.now }
         ensures turn { (key : ℕ) → (rest : List ℕ) → self.old.sessions.listed.items ≡ key ∷ rest
@@ -236,8 +236,8 @@ where
         }
     }
 
-    /// One round: each connection of the list gets one turn, in its order. One that has more to do
-    /// is behind all others then.
+    /// One round: each connection of the list gets one turn, in order. One that has more to do is
+    /// then after all others.
     fn serve_listed<N: Fn(&Note)>(&mut self, piece: &mut [u8; PIECE], room: &Room, note: &N)
         requires { N.IsAlwaysCallable note.now }
         ensures turns { (key : ℕ) → (c : Connection) → (d : Connection)
@@ -252,7 +252,7 @@ where
         }
     }
 
-    /// Waits so long until something is ready.
+    /// Waits at most this long until something is ready.
     fn wait_for(&mut self, most: Option<Duration>) -> Result<(), ServerFault>
         ensures sessions { self.new.sessions ≡ self.old.sessions }
         ensures fault { IfErr result (λ fault. fault ≡ ServerFault.PollFailed) }
@@ -262,7 +262,8 @@ where
             .map_err(|_| ServerFault::PollFailed)
     }
 
-    /// Spins until something is ready or lies in the inbox. Whether it is so.
+    /// Polls without sleeping until something is ready or waits in the inbox; false if neither is
+    /// so in the end.
     fn spin_until_ready(&mut self) -> Result<bool, ServerFault>
         ensures sessions { self.new.sessions ≡ self.old.sessions }
         ensures fault { IfErr result (λ fault. fault ≡ ServerFault.PollFailed) }
@@ -277,8 +278,8 @@ where
         Ok(false)
     }
 
-    /// Sleeps until something is ready, it is woken, or it is time to look for silent connections: not at
-    /// all where something lies in the inbox.
+    /// Sleeps until something is ready, the worker is woken, or it is time for an idle check. It
+    /// doesn't sleep if anything waits in the inbox.
     fn sleep(&mut self) -> Result<(), ServerFault>
         ensures sessions { self.new.sessions ≡ self.old.sessions }
         ensures fault { IfErr result (λ fault. fault ≡ ServerFault.PollFailed) }
@@ -294,8 +295,8 @@ where
         slept
     }
 
-    /// Waits until something is ready, or it is time to look for silent connections: not at all while
-    /// some are on the list, or something lies in the inbox.
+    /// Waits until something is ready, or it is time for an idle check. It doesn't wait while
+    /// connections are listed, or anything waits in the inbox.
     fn wait(&mut self) -> Result<(), ServerFault>
         ensures sessions { self.new.sessions ≡ self.old.sessions }
         ensures fault { IfErr result (λ fault. fault ≡ ServerFault.PollFailed) }
@@ -312,7 +313,7 @@ where
         self.sleep()
     }
 
-    /// Looks for connections that say nothing, where it is time.
+    /// Checks for idle connections, if it is time.
     fn look_around<X: Clock, N: Fn(&Note)>(&mut self, rt: &X, room: &Room, note: &N)
         requires { N.IsAlwaysCallable note.now }
         ensures service { self.new.sessions.service ≡ self.old.sessions.service }
@@ -329,7 +330,7 @@ where
         }
     }
 
-    /// Whether this rest has passed since it last was due.
+    /// Whether the time `rest` has passed since this was last true.
     fn is_due<X: Clock>(&mut self, rt: &X, rest: Duration) -> bool
         ensures sessions { self.new.sessions ≡ self.old.sessions }
     {
@@ -345,7 +346,7 @@ where
         true
     }
 
-    /// Lists the connections that are ready, and takes a piece of the mail and one that arrived.
+    /// Lists the connections that are ready, and takes one message and one connection out of the inbox.
     fn take_events<X: Wait, N: Fn(&Note)>(&mut self, rt: &X, room: &Room, note: &N)
         requires { N.IsAlwaysCallable note.now }
         ensures moves { Moves S.gives self.old.sessions.service self.new.sessions.service }
@@ -355,8 +356,8 @@ where
         self.take_arrival(rt, room, note);
     }
 
-    /// Serves until no more connections will come and none is left, or until it stops and has let go of
-    /// all. It fails only where the system refuses to watch, never for want of memory.
+    /// Serves until no more connections will arrive and none is left. It fails only if the system's
+    /// wait for events fails, never because memory runs out.
     pub fn work<X: Wait + Clock, N: Fn(&Note)>(
         &mut self,
         rt: &X,
@@ -371,7 +372,7 @@ where
     {
         let mut piece = [0u8; PIECE];
         for _ in rt.forever() {
-            // All connections were handed over before it was closed.
+            // All connections were sent before it was closed.
             if !self.is_open && !self.inbox.has_arrivals() && self.sessions.is_empty() {
                 return Ok(());
             }

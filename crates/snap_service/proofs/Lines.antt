@@ -19,17 +19,17 @@ use Rattle.snap_frame.specs.declared.named.NamedValue.{NamedValue}
 use Rattle.snap_frame.specs.Messages.{IsValue, IsNamedValue, Ascend, AreEntries}
 use Rattle.snap_service.specs.Answers.{segment_of, named_pair}
 
--- what holds of all of a list, and of one more
+-- if a property holds for all items of a list, and for one more item, it holds for the longer list
 pub all_more : {A : Type 0} (P : A → Type 0) (xs ys : List A) (x : A) → ys ≡ xs ++ x ∷ [] → All P xs
     → P x → All P ys
 all_more P xs ys x e all one = subst (λ l. All P l) (sym e) (All-push P xs x all one)
 
--- an element of a list, as what stands for it in another
+-- an element of a mapped list is the image of the element at its place
 get_as : {A B : Type 0} (f : A → B) (xs : List A) (k : ℕ) (d : A) → k < length xs
     → slice_get (map f xs) k ≡ Some (f (get_or xs k d))
 get_as f xs k d l = slice_get-map f xs k ∙ ap (option_map f) (slice_get-get_or xs k d l)
 
--- the numbers that a scan told are within the limit
+-- the numbers in a scan's answer are within the limit
 module _ (set : ℕ) (a b : Known) (among : set < 2 ^ segments b.plan) (below : IsBelow b) where
   number_fits : (values : List (ℕ × List ℕ)) (k : ℕ) (x : ℕ × List ℕ) → IsPart set a b values
       → slice_get values k ≡ Some x → k < size set → IsNumber x.0
@@ -45,7 +45,7 @@ module _ (set : ℕ) (a b : Known) (among : set < 2 ^ segments b.plan) (below : 
       let top : IsNumber (number_in b b.seen i) = below i inside in
       omega arith
 
-  -- so what a scan lists can be said
+  -- so the list of a scan's answer is within the limits of a reply
   pub listed : (values : List SegmentValue) → segments b.plan ≤ 16 → 0 < set
       → IsPart set a b (map pair_of values) → All (λ s. IsShort s.value) values
       → AreEntries IsValue values
@@ -90,7 +90,7 @@ module _ (set : ℕ) (a b : Known) (among : set < 2 ^ segments b.plan) (below : 
             ∙ ap (option_map segment_of) second) (omega arith),
       )
 
--- the values of two lists with the same numbers and values
+-- if two lists have the same numbers and values, and one has short values, so has the other
 pub short_as : (list : List NamedValue) (values : List SegmentValue)
     → map named_pair list ≡ map pair_of values → All (λ s. IsShort s.value) values
     → All (λ v. IsShort v.value) list
@@ -116,7 +116,7 @@ count_le set k (suc d) =
     (more set (k + d) (λ l. length (named_below set k) ≤ length l)
     (λ is. (let long = length_push (named_below set (k + d)) (k + d) in omega arith)) (λ un. old))
 
--- and one that it names counts
+-- a segment of the set counts
 pub counts : (set k : ℕ) → k < 16 → Names set k → length (named_below set k) < size set
 counts set k l is =
     let e = ap length (with set k is) in

@@ -1,4 +1,4 @@
--- After a meeting a scanner has seen its writer's number and value, so what was told fits it.
+-- After a meeting a scanner has seen its writer's number and value, so the update's result fits it.
 use Rattle.std.proofs.Common.{◌≡◌, ℕ, List, Result, sym, subst, ◌∙◌}
 use Rattle.snap_disk.specs.declared.refusal.Refusal.{Refusal}
 use Rattle.snap_history.specs.History.{number_after, value_after}
@@ -39,7 +39,7 @@ module _ {D : Type 0} (s0 s1 : Known) (w0 w1 : WriterState D) where
       IsSettled (number_in s1 s1.seen (own_of w0.seat)) x k v reply in
       subst T (same_value t ms mw e) (subst S (same_number t ms mw e) here)
 
--- of an update and a meeting behind it
+-- an update and a meeting after it
 
 pub still_together : {D : Type 0} (s : Known) (w0 w1 : WriterState D) → AreTogether s w0.seat
     → IsSameSeat w0.seat w1.seat → AreTogether s w1.seat

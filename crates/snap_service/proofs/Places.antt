@@ -3,7 +3,7 @@ use Rattle.std.proofs.Common.{◌≡◌, ℕ, zero, suc, List, [], ◌∷◌, �
 use Rattle.std.proofs.lemmas.Option.{same_Some, slice_get_within}
 use Rattle.snap_history.proofs.Lists.{get-append_left}
 
--- what holds at each place of a list so far, and at the next one
+-- if a property holds at each place of a list, and at the next one, it holds at each place of the longer list
 pub places_more : {A : Type 0} (P : ℕ → A → Type 0) (xs : List A) (x : A)
     → ((i : ℕ) (y : A) → slice_get xs i ≡ Some y → P i y) → P (length xs) x → (i : ℕ) (y : A)
     → slice_get (xs ++ x ∷ []) i ≡ Some y → P i y
@@ -13,7 +13,7 @@ places_more P (z ∷ xs) x all at zero y e = all 0 y e
 places_more P (z ∷ xs) x all at (suc i) y e =
     places_more (λ k v. P (suc k) v) xs x (λ k v h. all (suc k) v h) at i y e
 
--- what stands at a place of a list stands there in the list with one more
+-- an item at a place of a list is at that place in the longer list
 pub stands_more : {A : Type 0} (P : ℕ → A → Type 0) (xs : List A) (x : A)
     → ((i : ℕ) × (y : A) × (slice_get xs i ≡ Some y) × P i y)
     → (i : ℕ) × (y : A) × (slice_get (xs ++ x ∷ []) i ≡ Some y) × P i y
@@ -24,7 +24,7 @@ stands_more P xs x w = (
   w.3,
 )
 
--- nothing stands in an empty list
+-- an empty list has no item
 pub no_place : {A : Type 0} (xs : List A) (i : ℕ) (x : A) → xs ≡ [] → slice_get xs i ≡ Some x → ⊥
 no_place [] i x none e = absurd cc
 no_place (y ∷ xs) i x none e = absurd cc

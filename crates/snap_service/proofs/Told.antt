@@ -1,4 +1,4 @@
--- What an update told fits the number and the value that it leaves.
+-- An update's result fits the number and the value that it leaves.
 use Rattle.std.proofs.Common.{◌≡◌, ◌≢◌, ℕ, ◌+◌, List, Result, Ok, Err, OnOk, OnErr, refl, ap, sym, subst, ◌∙◌, arith}
 use Rattle.snap_disk.specs.declared.refusal.Refusal.{Refusal}
 use Rattle.snap_history.specs.Limits.{IsNumber, IsShort}
@@ -20,7 +20,7 @@ module _ {D : Type 0} (old new : WriterState D) (k : ℕ) (v : List ℕ) where
       let Q : Result ℕ Refusal → Type 0 = λ t. IsTellable old k v t in
       subst P (sym same) (subst Q (sym e) h)
 
-  -- what the writer shows is what its file has, before and after
+  -- the writer shows what its file has, before and after
   record Shows : Type 0 where
     before : old.segment.number ≡ number_of old
     after : new.segment.number ≡ number_of new

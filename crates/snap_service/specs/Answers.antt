@@ -1,4 +1,4 @@
--- What the service answers, from what its scanner had seen before to what it has seen after.
+-- How the service may answer, from what its scanner had seen before to what it has seen after.
 use Rattle.std.specs.Prelude.{◌≡◌, ℕ, ◌^◌, ◌<◌, ◌≤◌, ◌⊎◌, List, length, map}
 use Rattle.snap_disk.specs.declared.refusal.Refusal.{Refusal}
 use Rattle.snap_disk.specs.declared.refusal.Refusal.TheVariants.{NoSegment, TooLong, NoMemory, Worn}
@@ -27,23 +27,23 @@ pub data AnswersUpdate (a : Known) (i k : ℕ) (v : List ℕ) (reply : Reply) (b
   -- the scanner has no look left
   Unseen : i < segments a.plan → IsShort v → a.left ≡ 0 → reply ≡ Refused Worn 0 → b ≡ a
       → AnswersUpdate a i k v reply b
-  -- the reply fits what is seen after
+  -- the reply fits what the scanner has seen after
   Settled : i < segments a.plan → IsShort v → IsSettledAt b i k v reply → Grows a b
       → AnswersUpdate a i k v reply b
 
--- the segment of an entry, and its number and its value
+-- the segment of an entry, and its number and value
 abbrev pub segment_of : NamedValue → ℕ
 segment_of v = v.segment
 
 abbrev pub named_pair : NamedValue → ℕ × List ℕ
 named_pair v = (v.number, v.value)
 
--- the scanner has seen more, by one scan's looks
+-- the scanner has seen more, by the looks of one scan
 abbrev pub HasScanned : Known → Known → Type 0
 HasScanned a b = Grows a b × TakesLooks a b
 
--- the reply to a scan: the numbers and the values of all segments at one moment of what was seen,
--- which has all that had been seen before, and all that was seen at the first look of the scan
+-- The reply to a scan: the numbers and the values of all segments at one moment of what the scanner
+-- has seen, with all that it had seen before, and all that was there at the scan's first look.
 abbrev pub AnswersScan : Known → Reply → Known → Type 0
 AnswersScan a (Snapshot values) b = IsSnapshot a b (map pair_of values.items) × HasScanned a b
 AnswersScan a (Refused why detail) b = (detail ≡ 0) × MayRefuse (segments a.plan) a why b
@@ -51,7 +51,7 @@ AnswersScan a (Stored number) b = ⊥
 AnswersScan a (Status statuses) b = ⊥
 AnswersScan a (Part values) b = ⊥
 
--- the reply to a scan of the named segments, which are all there: in ascending order each with its
+-- the reply to a scan of the named segments, which all exist: in ascending order each with its
 -- number and its value, at one moment as of a scan
 pub record IsPartOf (a : Known) (set : ℕ) (list : List NamedValue) (b : Known) : Type 0 where
   pub among : set < 2 ^ segments a.plan
@@ -60,7 +60,7 @@ pub record IsPartOf (a : Known) (set : ℕ) (list : List NamedValue) (b : Known)
   pub seen : Grows a b
   pub looks : TakesLooksOf (size set) a b
 
--- refused it may be as a scan is; and where a segment is named that isn't there, it is refused so
+-- the refusals of a scan, and `NoSegment` exactly if a named segment doesn't exist
 abbrev pub MayRefusePart : Known → ℕ → Refusal → ℕ → Known → Type 0
 MayRefusePart a set why detail b =
     ((2 ^ segments a.plan ≤ set) × (why ≡ NoSegment) × (detail ≡ segments a.plan) × (b ≡ a))
@@ -73,7 +73,7 @@ AnswersPart a set (Stored number) b = ⊥
 AnswersPart a set (Snapshot values) b = ⊥
 AnswersPart a set (Status statuses) b = ⊥
 
--- the reply to a status: an entry for each segment, unless no memory was left for them
+-- the reply to a status: an entry for each segment, unless memory for them ran out
 abbrev pub AnswersStatus : Known → Reply → Known → Type 0
 AnswersStatus a (Status statuses) b = (length statuses.items ≡ segments a.plan) × (b ≡ a)
 AnswersStatus a (Refused why detail) b = (why ≡ NoMemory) × (detail ≡ 0) × (b ≡ a)

@@ -1,4 +1,4 @@
--- Counts, and what a request may add to one.
+-- Counters, and how much a request may add to one.
 use Rattle.std.specs.Prelude.{◌≡◌, ℕ, ◌+◌, ◌%◌, ◌^◌, ◌<◌, ◌≤◌, ◌⊎◌, List, length}
 use Rattle.snap_history.specs.declared.limits.TheConstants.{MAX_VALUE_LEN}
 use Rattle.snap_history.specs.Limits.{IsShort}
@@ -7,7 +7,7 @@ use Rattle.snap_memory.specs.Seat.{Known}
 use Rattle.snap_frame.specs.declared.request.Request.{Request}
 use Rattle.snap_frame.specs.declared.request.Request.TheVariants as request
 
--- one more, and from 0 again behind the largest
+-- one more, modulo 2^64
 abbrev pub next_count : ℕ → ℕ
 next_count k = (k + 1) % 2 ^ 64
 
@@ -17,12 +17,12 @@ pub record NodeState : Type 0 where
   pub locks : ℕ
   pub updates : ℕ
 
--- no lock was taken, and no update done
+-- no lock was taken, and no update was done
 pub record CountsNothing (old new : NodeState) : Type 0 where
   pub locks : new.locks ≡ old.locks
   pub updates : new.updates ≡ old.updates
 
--- one look was taken at most
+-- at most one look was taken
 abbrev pub LooksOnce : Known → Known → Type 0
 LooksOnce a b = a.left ≤ b.left + 1
 
@@ -30,27 +30,27 @@ LooksOnce a b = a.left ≤ b.left + 1
 abbrev pub IsMisplaced : Known → ℕ → List ℕ → Type 0
 IsMisplaced a i v = (segments a.plan ≤ i) ⊎ (MAX_VALUE_LEN < length v)
 
--- one lock was taken and one update done, with one look at most
+-- one lock was taken and one update done, with at most one look
 pub record CountsOne (old new : NodeState) : Type 0 where
   pub locks : new.locks ≡ next_count old.locks
   pub updates : new.updates ≡ next_count old.updates
   pub looks : LooksOnce old.scanner new.scanner
 
--- an update is done once by the writers, under one lock, or not at all where its place is refused
+-- an update is done once by its writer, under one lock, or not at all if its place is refused
 abbrev pub CountsUpdate : NodeState → ℕ → List ℕ → NodeState → Type 0
 CountsUpdate old i v new =
     (IsMisplaced old.scanner i v × (new ≡ old))
     ⊎ ((i < segments old.scanner.plan) × IsShort v × CountsOne old new)
 
--- A request changes the writers by one update if it is one, and else not at all. A scan takes no
--- lock.
+-- An update is done once by its writer or not at all, as `CountsUpdate` has it; no other request
+-- changes a writer. A scan takes no lock.
 abbrev pub Counts : NodeState → Request → NodeState → Type 0
 Counts old (request.Update segment k v) new = CountsUpdate old segment v new
 Counts old request.Scan new = CountsNothing old new
 Counts old request.Status new = new.updates ≡ old.updates
 Counts old (request.Part set) new = CountsNothing old new
 
--- an update takes one look at most, also where its writer isn't asked
+-- an update takes at most one look, also if its writer isn't asked
 abbrev pub TakesFewLooks : Known → Request → Known → Type 0
 TakesFewLooks a (request.Update segment k v) b = LooksOnce a b
 TakesFewLooks a request.Scan b = Unit {0}

@@ -1,4 +1,4 @@
--- Seats that are of one memory.
+-- Seats of one memory.
 use Rattle.std.specs.Prelude.{◌≡◌, ◌≢◌, ℕ, List, [], length, slice_get, Some}
 use Rattle.snap_memory.specs.Registers.{RegistersId}
 use Rattle.snap_memory.specs.plan.Plan.{Plan}
@@ -6,7 +6,7 @@ use Rattle.snap_memory.specs.Rule.{segments}
 use Rattle.snap_memory.specs.Seat.{Known, own_of}
 use Rattle.snap_writer.specs.Writer.{WriterState}
 
--- the seat is one of these registers
+-- the seat is of these registers
 pub record IsOf (table : RegistersId) (plan : Plan) (a : Known) : Type 0 where
   pub table_is : a.table ≡ table
   pub plan_is : a.plan ≡ plan
@@ -18,8 +18,7 @@ pub record AreWriters {D : Type 0} (table : RegistersId) (plan : Plan)
   pub each : (i : ℕ) (w : WriterState D) → slice_get writers i ≡ Some w
       → IsOf table plan w.seat × (own_of w.seat ≡ i)
 
--- these are writers of these registers, as many as there are segments, and one isn't at its segment's
--- place
+-- these are writers of these registers, as many as there are segments, and one isn't at its segment's place
 pub record AreDisplaced {D : Type 0} (table : RegistersId) (plan : Plan)
     (writers : List (WriterState D)) : Type 0 where
   pub all : length writers ≡ segments plan
@@ -29,6 +28,6 @@ pub record AreDisplaced {D : Type 0} (table : RegistersId) (plan : Plan)
   pub stands : slice_get writers place ≡ Some writer
   pub elsewhere : own_of writer.seat ≢ place
 
--- what stands for a plan where no memory was named
+-- the plan that is named where no memory is meant
 abbrev pub no_plan : Plan
 no_plan = record { scanners = 0; looks = 0; block_words = 0; start = [] }

@@ -1,4 +1,4 @@
--- What an update does to its writer, and what a meeting does behind it.
+-- What an update changes of its writer, and what a meeting after it changes.
 use Rattle.std.specs.Prelude.{◌≡◌, ℕ, List, Result}
 use Rattle.snap_disk.specs.declared.refusal.Refusal.{Refusal}
 use Rattle.snap_memory.specs.Seat.{Known, Meets, own_of}
@@ -9,13 +9,12 @@ use Rattle.snap_service.specs.Settled.{reply_of, IsTellable, IsSettledAt}
 pub use Rattle.snap_writer.specs.Updated.{IsUpdated}
 use Rattle.snap_disk.specs.declared.disk.Disk as Disk
 
--- the writer took part in a meeting: its file is as it was, and its seat may have seen more
+-- the writer took part in a meeting: its file is unchanged, and its seat may have seen more
 pub record HasMet {D : Type 0} (old new : WriterState D) : Type 0 where
   pub segment_is : new.segment ≡ old.segment
   pub meets : Meets old.seat new.seat
 
--- the writer was updated and was told something, then it met a scanner, and what it was told is the
--- reply
+-- the writer was updated, then it met a scanner, and the reply is the update's result
 pub record IsUpdatedAndTold {D : Type 0} (disk : Disk.Ghosts D)
     (old new : WriterState D) (k : ℕ) (v : List ℕ) (reply : Reply) : Type 0 where
   pub told : Result ℕ Refusal
@@ -24,8 +23,8 @@ pub record IsUpdatedAndTold {D : Type 0} (disk : Disk.Ghosts D)
   pub met : HasMet between new
   pub said : reply ≡ reply_of (number_of new) told
 
--- The reply says what the writer told, and then the scanner met the writer. Where that could be told of
--- an update of the writer's segment, the reply fits what the scanner has seen.
+-- The reply is the writer's result, and the scanner met the writer. If the result fits an update of
+-- the writer's segment, the reply fits what the scanner has seen.
 pub record RepliesTold {D : Type 0} (answer : Result ℕ Refusal) (old new : WriterState D)
     (before after : Known) (reply : Reply) : Type 0 where
   pub told : reply ≡ reply_of (number_of new) answer

@@ -1,12 +1,13 @@
-//! Requests on the shared memory: updates by the writers, scans and statuses.
+//! Answers requests on the shared memory: updates by the segments' writers, scans and statuses.
 //!
-//! What a service answers is one relation, `Answers` of specs/Answers.antt, from what its scanner had
-//! seen before to what it has seen after. The reply to an update is what its writer told
+//! One relation, `Answers` of specs/Answers.antt, says how a service may answer, from what its
+//! scanner had seen before to what it has seen after. The reply to an update is its writer's result
 //! ([`settle`]); a scan is the memory at one moment of what the scanner sees ([`answer_scan`]).
 //!
-//! [`Node`] (node.rt, with shared.rt, lock.rt and locked_writer.rt) is a service whose writers stand under locks,
-//! one for each segment: scans lock nothing, and an update locks its own segment alone. It is for a
-//! server within a program, as in tests and benchmarks; `snapd` runs the desks of `snap_desk`.
+//! [`Node`] (node.rt, with shared.rt, lock.rt and locked_writer.rt) is a service whose writers are
+//! under locks, one for each segment: a scan takes no lock, and an update locks its own segment
+//! alone. It is for a server within another program, as in tests and benchmarks; `snapd` runs the
+//! desks of `snap_desk`.
 #![tactic(auto)]
 
 mod lock;

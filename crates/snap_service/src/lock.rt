@@ -1,4 +1,4 @@
-//! The lock of a writer. Whoever takes it counts that: so a contract can say that none is taken.
+//! The lock of a writer. Taking it counts the call, so that a contract can say that none was taken.
 ghost use Rattle.std.specs.Prelude.{◌≡◌, ◌<◌};
 ghost use Rattle.snap_history.specs.Limits.{IsShort};
 ghost use Rattle.snap_memory.specs.Rule.{segments};
@@ -13,14 +13,14 @@ use snap_disk::Disk;
 use snap_frame::{Reply, SegmentStatus};
 use std::sync::{Mutex, Wait};
 
-/// A writer under its lock. Nobody has it but for one update or one status.
+/// A writer under its lock, which is held for one update or one status.
 #[derive(Drop)]
 pub(crate) struct WriterLock<M: Memory, D: Disk + Drop> {
     held: Mutex<LockedWriter<M, D>>,
 }
 
 impl<M: Memory, D: Disk + Drop> WriterLock<M, D> {
-    /// This writer under a lock.
+    /// Puts a writer under a lock.
     pub(crate) fn of(writer: WriterOf<M, D>) -> WriterLock<M, D> {
         WriterLock {
             held: Mutex::new(LockedWriter::of(writer)),
@@ -32,7 +32,7 @@ impl<M: Memory, D: Disk + Drop> WriterLock<M, D> {
         self.held.into_inner().release()
     }
 
-    /// Its number and its fence, as they are while the lock is held.
+    /// The segment's number, and whether it is fenced, read under the lock.
     pub(crate) fn status<R: Wait>(&self, rt: &R, pen: &mut Pen) -> SegmentStatus
         ensures limits { IsStatus result }
         ensures counts { pen.new ≡ record pen.old { locks = next_count pen.old.locks } }
@@ -41,7 +41,7 @@ impl<M: Memory, D: Disk + Drop> WriterLock<M, D> {
         self.held.lock(rt).status()
     }
 
-    /// An update of this segment while the lock is held, as [`LockedWriter::update`] does it.
+    /// Updates this segment under the lock, as [`LockedWriter::update`] does.
     pub(crate) fn update<R: Wait>(
         &self,
         rt: &R,

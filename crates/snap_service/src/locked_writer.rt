@@ -1,4 +1,4 @@
-//! A writer under its lock, and what a node changes it by.
+//! A writer under its lock, and the token that changing it needs.
 ghost use Rattle.std.specs.Prelude.{◌≡◌, ◌≢◌, ◌<◌, ◌↔◌, IsTrue, IsSome};
 ghost use Rattle.snap_history.specs.Limits.{IsShort};
 ghost use Rattle.snap_memory.specs.Rule.{segments};
@@ -19,9 +19,11 @@ use snap_memory::Scanner;
 use std::alloc::Global;
 use std::marker::Model;
 
-/// A node's scanner, and how many locks the node took and how many updates it did, each from 0 again
-/// behind the largest number. No lock is taken and no writer under one changes without a pen, and
-/// one is made of a scanner alone: so a node has this one, and can have no other beside it.
+/// A node's scanner, with counts of the locks that the node took and of the updates that it did,
+/// both modulo 2^64.
+///
+/// Taking a writer's lock and updating a writer under one need a pen. A pen is made of a scanner
+/// alone, so a node has exactly one.
 #[derive(Drop)]
 pub(crate) struct Pen {
     scanner: Scanner,
@@ -38,7 +40,7 @@ impl Model for Pen {
 }
 
 impl Pen {
-    /// The pen of this scanner, by which nothing was done yet.
+    /// A pen of this scanner, with both counts at 0.
     pub(crate) fn of(scanner: Scanner) -> Pen
         ensures { result ≡ record { scanner = scanner; locks = 0; updates = 0 } }
     {
@@ -49,22 +51,21 @@ impl Pen {
         }
     }
 
-    /// Its scanner.
+    /// Borrows the scanner.
     pub(crate) fn scanner(&self) -> &Scanner
         ensures { result.now ≡ self.now.scanner }
     {
         &self.scanner
     }
 
-    /// Its scanner, as it is.
+    /// The scanner, unchanged.
     pub(crate) fn into_scanner(self) -> Scanner
         ensures { result ≡ self.scanner }
     {
         self.scanner
     }
 
-    /// The reply to a scan, as [`answer_scan`](crate::answer_scan) gives it. No lock is taken, and no
-    /// writer changes.
+    /// Answers a scan, as [`answer_scan`](crate::answer_scan) does. No lock is taken, and no writer changes.
     pub(crate) fn scan(&mut self, alloc: Global) -> Reply
         ensures answer { AnswersScan self.old.scanner result self.new.scanner }
         ensures limits { IsInLimits result }
@@ -75,7 +76,8 @@ impl Pen {
         answer_scan(alloc, &mut self.scanner)
     }
 
-    /// The reply to a scan of some segments, likewise, as [`answer_part`](crate::answer_part) gives it.
+    /// Answers a scan of some segments, as [`answer_part`](crate::answer_part) does. No lock is
+    /// taken, and no writer changes.
     pub(crate) fn part(&mut self, alloc: Global, set: SegmentSet) -> Reply
         requires some { 0 < set.bits }
         ensures answer { AnswersPart self.old.scanner set.bits result self.new.scanner }
@@ -87,14 +89,14 @@ impl Pen {
         answer_part(alloc, &mut self.scanner, set)
     }
 
-    /// One more lock is taken by it.
+    /// Counts one lock.
     pub(crate) fn count_lock(&mut self)
         ensures { self.new ≡ record self.old { locks = next_count self.old.locks } }
     {
         self.locks = self.locks.wrapping_add(1);
     }
 
-    /// One more update is done by it.
+    /// Counts one update.
     fn count_update(&mut self)
         ensures { self.new ≡ record self.old { updates = next_count self.old.updates } }
     {
@@ -117,21 +119,21 @@ impl<M: Memory, D: Disk> Model for LockedWriter<M, D> {
 }
 
 impl<M: Memory, D: Disk> LockedWriter<M, D> {
-    /// This writer, to be put under a lock.
+    /// Wraps a writer, to be put under a lock.
     pub(crate) fn of(writer: WriterOf<M, D>) -> LockedWriter<M, D>
         ensures { result ≡ writer }
     {
         LockedWriter { writer }
     }
 
-    /// The writer, as it is.
+    /// The writer, unchanged.
     pub(crate) fn release(self) -> WriterOf<M, D>
         ensures { result ≡ self }
     {
         self.writer
     }
 
-    /// Its number and its fence. It stays as it is.
+    /// The writer's number, and whether it is fenced. The writer doesn't change.
     pub(crate) fn status(&self) -> SegmentStatus
         ensures number { result.number ≡ number_of self.now }
         ensures fence { IsTrue result.is_fenced ↔ IsSome self.now.segment.begun }
@@ -143,8 +145,8 @@ impl<M: Memory, D: Disk> LockedWriter<M, D> {
         }
     }
 
-    /// An update of this segment by the writer, which replies what it told. The writer of another
-    /// segment stays as it is, and a look answers.
+    /// Updates `segment` by the writer, and replies with the writer's result. A writer of another
+    /// segment doesn't change: then a look answers.
     pub(crate) fn update(
         &mut self,
         pen: &mut Pen,

@@ -1,5 +1,5 @@
-//! Which memory a writer is of, told by its type: what a lock or a message gives is known by its
-//! type alone.
+//! Types that name a memory: a value out of a lock or a message is known by its type alone, so its
+//! type says which memory it belongs to.
 ghost use Rattle.std.specs.Prelude.{
   ◌≡◌,
   ◌+◌,
@@ -35,8 +35,8 @@ use snap_writer::Writer;
 use std::alloc::Global;
 use std::marker::{Brand, Model, PhantomData};
 
-/// A name for one memory: the registers of one opening. It has no values; a function over any memory
-/// is called with `Brand`, and the proof of the call says which registers are meant.
+/// The name of one memory: of the registers of one opening. It has no values. A function over any
+/// memory is called with `Brand`, and the proof of the call says which registers are meant.
 pub trait Memory {
     ghost table: { RegistersId };
 
@@ -72,7 +72,7 @@ impl<M: Memory, D: Disk> Model for WriterOf<M, D> {
 }
 
 impl<M: Memory, D: Disk> WriterOf<M, D> {
-    /// The writer, which is of this memory and writes this segment.
+    /// Wraps `writer`, which is of this memory and writes `segment`.
     pub fn new(writer: Writer<D>, segment: usize) -> WriterOf<M, D>
         requires memory { IsOf M.table M.plan writer.seat }
         requires own { own_of writer.seat ≡ segment }
@@ -93,7 +93,7 @@ impl<M: Memory, D: Disk> WriterOf<M, D> {
         self.segment
     }
 
-    /// The number that was shown last.
+    /// The number of the update that was shown last.
     pub fn number(&self) -> u64
         ensures number { result ≡ number_of self.now }
         ensures low { IsNumber result }
@@ -108,18 +108,18 @@ impl<M: Memory, D: Disk> WriterOf<M, D> {
         self.writer.is_fenced()
     }
 
-    /// The writer, as it is.
+    /// The inner writer, unchanged.
     pub fn into_writer(self) -> Writer<D>
         ensures writer { result ≡ self }
         ensures memory { IsOf M.table M.plan result.seat }
         ensures alone { result.seat.high ≡ result.seat.low + 1 }
     {
-        // for what it says of the seat: that it writes no other segment (docs/DECISIONS.md, 180)
+        // for its clause on the seat, that it writes no other segment (docs/DECISIONS.md, 180)
         let _own = self.writer.segment();
         self.writer
     }
 
-    /// An update of the writer, as [`update`](crate::update) does it.
+    /// Updates by the writer, as [`update`](crate::update) does.
     pub fn update(&mut self, number: u64, value: &[u8]) -> Result<u64, Refusal>
         requires size { IsShort value.now }
         ensures updated { IsUpdated D.Disk self.old self.new number value.now result }
@@ -129,7 +129,7 @@ impl<M: Memory, D: Disk> WriterOf<M, D> {
         update(&mut self.writer, number, value)
     }
 
-    /// An update, and the reply that says what it told, as [`settle`](crate::settle) does it.
+    /// Updates, and replies with the writer's result, as [`settle`](crate::settle) does.
     pub(crate) fn settle(
         &mut self,
         scanner: &mut Scanner,
@@ -149,7 +149,7 @@ impl<M: Memory, D: Disk> WriterOf<M, D> {
         settle(&mut self.writer, scanner, segment, number, value)
     }
 
-    /// The reply that says what the writer told, as [`reply_told`](crate::reply_told) gives it.
+    /// The reply for the writer's result, as [`reply_told`](crate::reply_told) gives it.
     pub fn reply_told(&mut self, told: Result<u64, Refusal>, scanner: &mut Scanner) -> Reply
         requires memory { IsOf M.table M.plan scanner.old }
         ensures { RepliesTold told self.old self.new scanner.old scanner.new result }

@@ -1,4 +1,4 @@
-//! A service over writers that stand under locks.
+//! A service over writers under locks.
 ghost use Rattle.std.specs.Prelude.{◌≡◌, ◌<◌};
 ghost use Rattle.snap_frame.specs.Messages.{IsInLimits, IsAskable};
 ghost use Rattle.snap_service.specs.Memory.{IsOf};
@@ -23,11 +23,12 @@ use std::alloc::{AllocError, Global};
 use std::marker::Model;
 use std::sync::Wait;
 
-/// A scanner and the writers that all nodes share: a [`Service`] that hands nothing over. Its state
-/// is what its scanner knows, how many locks of writers it took, and how many updates it did by them.
+/// A [`Service`] with a scanner of its own, over writers that all nodes share. It answers every
+/// request at once. Models what its scanner knows, how many locks of writers it took, and how many
+/// updates it did by them, both modulo 2^64.
 ///
-/// An update locks its own segment, once, and is done once; a status locks the segments one after the
-/// other and changes no writer; and a scan locks nothing and changes no writer.
+/// An update locks its own segment, once, and is done once. A status locks one segment after the
+/// other and changes no writer. A scan takes no lock and changes no writer.
 #[derive(Drop)]
 pub struct Node<'a, R: Wait, M: Memory, D: Disk + Drop> {
     rt: &'a R,
@@ -48,7 +49,7 @@ impl<'a, R: Wait, M: Memory, D: Disk + Drop> Model for Node<'a, R, M, D> {
 }
 
 impl<'a, R: Wait, M: Memory, D: Disk + Drop> Node<'a, R, M, D> {
-    /// A node with this scanner, of the memory of the writers.
+    /// A node with this scanner, of the writers' memory.
     pub fn new(
         rt: &'a R,
         alloc: Global,
@@ -66,7 +67,7 @@ impl<'a, R: Wait, M: Memory, D: Disk + Drop> Node<'a, R, M, D> {
         }
     }
 
-    /// An update: its segment and its length are judged before any lock.
+    /// Answers an update. Its segment and its length are checked before any lock.
     fn update(&mut self, segment: usize, number: u64, value: &[u8]) -> Reply
         ensures answer { AnswersUpdate self.old.scanner segment number value.now result
             self.new.scanner }
@@ -80,13 +81,13 @@ impl<'a, R: Wait, M: Memory, D: Disk + Drop> Node<'a, R, M, D> {
         shared.update(self.rt, &mut self.pen, segment, number, value)
     }
 
-    /// A status: each segment as it was while its lock was held. No writer changes.
+    /// Answers a status: each segment as it was while its lock was held. No writer changes.
     fn status(&mut self) -> Reply
         ensures answer { AnswersStatus self.old.scanner result self.new.scanner }
         ensures limits { IsInLimits result }
         ensures counts { self.new.updates ≡ self.old.updates }
     {
-        // for what it says of the scanner (docs/DECISIONS.md, 180)
+        // for its clause on the scanner (docs/DECISIONS.md, 180)
         let _segments = self.pen.scanner().segments();
         let shared = self.shared;
         match shared.list_statuses(self.rt, self.alloc, &mut self.pen) {
@@ -98,7 +99,7 @@ impl<'a, R: Wait, M: Memory, D: Disk + Drop> Node<'a, R, M, D> {
         }
     }
 
-    /// A scan. No lock is taken, and no writer changes.
+    /// Answers a scan. No lock is taken, and no writer changes.
     fn scan(&mut self) -> Reply
         ensures answer { AnswersScan self.old.scanner result self.new.scanner }
         ensures limits { IsInLimits result }
@@ -107,7 +108,7 @@ impl<'a, R: Wait, M: Memory, D: Disk + Drop> Node<'a, R, M, D> {
         self.pen.scan(self.alloc)
     }
 
-    /// A scan of some segments, likewise.
+    /// Answers a scan of some segments. No lock is taken, and no writer changes.
     fn part(&mut self, set: SegmentSet) -> Reply
         requires some { 0 < set.bits }
         ensures answer { AnswersPart self.old.scanner set.bits result self.new.scanner }
@@ -117,7 +118,7 @@ impl<'a, R: Wait, M: Memory, D: Disk + Drop> Node<'a, R, M, D> {
         self.pen.part(self.alloc, set)
     }
 
-    /// The reply to any request.
+    /// Answers any request.
     fn reply(&mut self, request: &Request) -> Reply
         requires askable { IsAskable request.now }
         ensures answer { Answers self.old.scanner request.now result self.new.scanner }
@@ -136,7 +137,7 @@ impl<'a, R: Wait, M: Memory, D: Disk + Drop> Node<'a, R, M, D> {
         }
     }
 
-    /// Its scanner, as it is: so a store can be closed once its scanners have come back.
+    /// The scanner, unchanged: a store can be closed once its scanners have come back.
     pub fn into_scanner(self) -> Scanner
         ensures scanner { result ≡ self.entry.scanner }
         ensures memory { IsOf M.table M.plan result }

@@ -12,13 +12,12 @@ use snap_history::MAX_COUNT;
 use snap_memory::Scanner;
 use std::alloc::{AllocError, Global};
 
-/// The reply to a scan: the number and the value of each segment, all of one moment, with all
-/// updates that stood in the history at the scan's first look. It takes no lock and waits for
-/// nobody. Values that the scanner has answered before are shared, and only those that have changed
-/// are read.
+/// Answers a scan: the number and the value of each segment, all of one moment, with all updates
+/// that were in the history at the scan's first look. It takes no lock and is wait-free. Values
+/// that the scanner has answered before are shared; only those that have changed are read.
 ///
-/// Refused with detail 0 as `Worn` where fewer looks are left than a scan might take; nothing changes
-/// then. As `NoMemory` where memory runs out for a value or the list.
+/// Refused with detail 0: as `Worn` if fewer looks are left than a scan might take, and then
+/// nothing changes; as `NoMemory` if memory runs out for a value or the list.
 pub fn answer_scan(alloc: Global, scanner: &mut Scanner) -> Reply
     ensures answer { AnswersScan scanner.old result scanner.new }
     ensures limits { IsInLimits result }
@@ -32,11 +31,12 @@ pub fn answer_scan(alloc: Global, scanner: &mut Scanner) -> Reply
     }
 }
 
-/// The reply to a scan of some segments, at least one: the number and the value of each that is
-/// named, in ascending order, as [`answer_scan`] answers all of them.
+/// Answers a scan of some segments, at least one: the number and the value of each named segment,
+/// in ascending order, as [`answer_scan`] answers all of them.
 ///
-/// Refused with the number of segments as `NoSegment` where one is named that isn't there; nothing
-/// changes then. Else as [`answer_scan`] refuses, by the looks that a scan of so many might take.
+/// Refused as `NoSegment`, with the number of segments, if a named one doesn't exist; then nothing
+/// changes. Else it is refused as [`answer_scan`] is, by the looks that a scan of the named
+/// segments might take.
 pub fn answer_part(alloc: Global, scanner: &mut Scanner, set: SegmentSet) -> Reply
     requires some { 0 < set.bits }
     ensures answer { AnswersPart scanner.old set.bits result scanner.new }
@@ -64,7 +64,7 @@ pub fn answer_part(alloc: Global, scanner: &mut Scanner, set: SegmentSet) -> Rep
     }
 }
 
-/// These values of the named segments, which are in ascending order, each with its segment.
+/// Pairs the values of the named segments, which are in ascending order, with their segments.
 fn name_values(
     alloc: Global,
     set: SegmentSet,

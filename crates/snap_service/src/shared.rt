@@ -38,8 +38,7 @@ pub struct Shared<M: Memory, D: Disk + Drop> {
 }
 
 impl<M: Memory, D: Disk + Drop> Shared<M, D> {
-    /// The writers of all segments, each under a lock. Where memory runs out the writers come back as
-    /// they were.
+    /// Puts the writer of each segment under a lock. If memory runs out, the error has the writers, unchanged.
     pub fn new(alloc: Global, writers: Vec<Writer<D>>) -> Result<Shared<M, D>, Vec<Writer<D>>>
         requires { AreWriters M.table M.plan writers.items }
         ensures { IfErr result (λ back. back.items ≡ writers.items) }
@@ -57,7 +56,7 @@ impl<M: Memory, D: Disk + Drop> Shared<M, D> {
         Ok(Shared { writers: locks })
     }
 
-    /// An update of this segment by its writer, under its lock.
+    /// Updates this segment by its writer, under its lock.
     pub(crate) fn update<R: Wait>(
         &self,
         rt: &R,
@@ -77,7 +76,7 @@ impl<M: Memory, D: Disk + Drop> Shared<M, D> {
         self.writers[segment].update(rt, pen, segment, number, value)
     }
 
-    /// The number and the fence of each segment, each under its lock.
+    /// The number and the fence of each segment, each read under its lock.
     pub(crate) fn list_statuses<R: Wait>(
         &self,
         rt: &R,
@@ -96,11 +95,11 @@ impl<M: Memory, D: Disk + Drop> Shared<M, D> {
         Ok(statuses)
     }
 
-    /// The writers of all segments, in order, out of their locks: so a store can be closed once they
-    /// are back in it. `room` is empty and has room for all of them, so it takes no memory.
+    /// The writers of all segments, in order, out of their locks, so that a store can be closed
+    /// with them. `room` is empty and has capacity for all of them, so no memory is taken.
     ///
-    /// [`Shared::new`] puts each writer at its segment's place. Where one isn't there, all writers come
-    /// back as they stood.
+    /// [`Shared::new`] puts each writer at its segment's place. If one isn't there, the error has
+    /// all writers in the order in which they were.
     pub fn into_writers(self, room: Vec<Writer<D>>) -> Result<Vec<Writer<D>>, Vec<Writer<D>>>
         requires empty { room.items ≡ [] }
         requires room { segments M.plan ≤ vec_capacity room }

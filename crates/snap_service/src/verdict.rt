@@ -1,4 +1,4 @@
-//! What is replied to an update without its writer.
+//! Replies to updates that need no writer.
 ghost use Rattle.std.specs.Prelude.{◌≡◌, ℕ, ◌+◌, ◌<◌, IfSome, IfNone};
 ghost use Rattle.snap_disk.specs.declared.refusal.Refusal.{Refusal};
 ghost use Rattle.snap_history.specs.Limits.{IsNumber, IsShort};
@@ -14,8 +14,8 @@ use snap_frame::Reply;
 use snap_history::{LAST_NUMBER, MAX_VALUE_LEN};
 use snap_memory::Scanner;
 
-/// Refuses an update whose segment isn't there (2, with the number of segments), or whose value is
-/// too long (3, with its length), in this order. `None` where neither is so.
+/// Refuses an update whose segment doesn't exist (2, with the number of segments), or whose value
+/// is too long (3, with its length), in this order. `None` if neither is so.
 pub fn refuse_place(scanner: &Scanner, segment: usize, value: &[u8]) -> Option<Reply>
     ensures refused { IfSome result (λ r. (number : ℕ)
         → AnswersUpdate scanner.now segment number value.now r scanner.now) }
@@ -39,11 +39,11 @@ pub fn refuse_place(scanner: &Scanner, segment: usize, value: &[u8]) -> Option<R
     None
 }
 
-/// Answers an update whose writer can't be asked, by one look at its segment: stored where the
-/// segment has that number and value; refused as `Conflict` where it has that number and another
-/// value; a next number as `Fenced`, or as `Exhausted` behind the largest one; any other number as
-/// `OutOfStep`; each with the segment's number. Nothing is stored. Without a look left it is refused
-/// as `Worn`, with detail 0.
+/// Answers an update without its writer, by one look at its segment: stored if the segment has that
+/// number and value; refused as `Conflict` if it has that number and another value; a next number
+/// as `Fenced`, or as `Exhausted` after the largest one; any other number as `OutOfStep`. The
+/// detail is the segment's number, and nothing is stored. Without a look left it is refused as
+/// `Worn`, with detail 0, and the scanner doesn't change.
 pub fn answer_by_look(scanner: &mut Scanner, segment: usize, number: u64, value: &[u8]) -> Reply
     requires segment { segment < segments scanner.old.plan }
     requires size { IsShort value.now }
@@ -63,12 +63,12 @@ pub fn answer_by_look(scanner: &mut Scanner, segment: usize, number: u64, value:
     }
     let mut held = [0; MAX_VALUE_LEN];
     let (current, size) = scanner.read_one(segment, &mut held);
-    // for what it says of the scanner (docs/DECISIONS.md, 180)
+    // for its clause on the scanner (docs/DECISIONS.md, 180)
     let _segments = scanner.segments();
     reply_found(number, value, current, &held[..size])
 }
 
-/// The reply to an update by the segment's number and value, where nothing is stored.
+/// The reply to an update without a store, by the segment's number and value.
 fn reply_found(number: u64, value: &[u8], current: u64, held: &[u8]) -> Reply
     requires { IsNumber current }
     ensures settled { IsSettled current held.now number value.now result }

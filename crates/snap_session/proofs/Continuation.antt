@@ -1,4 +1,4 @@
--- A talk that goes on.
+-- A talk that continues.
 use Rattle.std.proofs.Common.{◌≡◌, ◌+◌, ℕ, List, [], ◌++◌, length, length-append, arith, Option, Some, None, refl, sym, ◌∙◌, ap, subst}
 use Rattle.std.proofs.Common.{append-nil, append_assoc}
 use Rattle.snap_frame.specs.declared.request.Request.{Request}
@@ -8,7 +8,7 @@ use Rattle.snap_frame.specs.declared.frame_buffer.Failure.TheVariants.{TooLarge,
 use Rattle.snap_session.specs.Talk.{Talk, Goes, GoesBy, Stays, Moves, Run, Phase, frames, came}
 use Rattle.snap_session.proofs.Runs.{frames-append, Joins, run_on, stays_joins, loosen as loosen_run}
 
--- what is taken, cut and said doesn't matter
+-- the phase doesn't depend on the bytes taken in, the payloads and the replies
 phase_any : (o : Option Failure) (taken more : List ℕ) (ps qs rs ss us : List (List ℕ))
     (rest held tail : List ℕ) → Phase None o taken ps rs us rest held tail
     → Phase None o more qs ss us rest held tail
@@ -16,7 +16,7 @@ phase_any None taken more ps qs rs ss us rest held tail p = p
 phase_any (Some TooLarge) taken more ps qs rs ss us rest held tail p = p
 phase_any (Some NoMemory) taken more ps qs rs ss us rest held tail p = p
 
--- it stays over
+-- a talk that is over stays over
 phase_over : (o : Option Failure) (w : Failure) (taken : List ℕ) (ps rs us : List (List ℕ))
     (rest held kept tail : List ℕ) → Phase o (Some w) taken ps rs us rest held tail
     → Phase o (Some w) taken ps rs us rest kept tail
@@ -149,7 +149,7 @@ module _ {S : Type 0} (between : S → S → Type 0) (joins : Joins between)
       → Goes between gives s u t0 (a ++ b) (g ++ h) t2
   goes_on one two = (goes_by t1.over refl one two).0
 
--- the same frames and replies by another run
+-- another run of these payloads, with these replies, gives `Goes` too
 pub by_run : {S : Type 0} (before between : S → S → Type 0) (gives : S → Request → Reply → S
     → Type 0) (s t u : S) (old : Talk) (taken given : List ℕ) (new : Talk)
     (one : Goes before gives s t old taken given new)
@@ -169,7 +169,7 @@ by_run before between gives s t u old taken given new one run =
     }
 
 module _ {S : Type 0} (gives : S → Request → Reply → S → Type 0) where
-  -- with nothing read or written, and the frames that are answered in both
+  -- two parts with nothing read or written are one, with the frames that both answer
   pub goes_more : (s t u : S) (t0 t1 t2 : Talk) (m n : ℕ) → GoesBy m Stays gives s t t0 [] [] t1
       → GoesBy n Stays gives t u t1 [] [] t2 → GoesBy (m + n) Stays gives s u t0 [] [] t2
   goes_more s t u t0 t1 t2 m n one two =
@@ -177,7 +177,7 @@ module _ {S : Type 0} (gives : S → Request → Reply → S → Type 0) where
       goes_by Stays stays_joins gives s t u t0 t1 t2 [] [] [] [] t1.over refl one.0 two.0 in
       (both.0, omega (arith, both.1, one.1, two.1))
 
-  -- a talk that nobody disturbs is one that others may disturb
+  -- a talk without other sessions in between is one in which there may be some
   pub loosen : (s t : S) (old : Talk) (taken given : List ℕ) (new : Talk)
       → Goes Stays gives s t old taken given new → Goes (Moves gives) gives s t old taken given new
   loosen s t old taken given new one =

@@ -1,4 +1,4 @@
--- How much is held.
+-- How many bytes are held.
 use Rattle.std.proofs.Common.{◌≡◌, ℕ, ◌+◌, ◌<◌, ◌≤◌, List, ◌++◌, length, get_or, Option, Some, None}
 use Rattle.std.proofs.Common.{Bool, true, false, is_some, inl, inr, refl, sym, ◌∙◌, ap, subst, arith, length-append}
 use Rattle.std.proofs.lemmas.List.{get_or-append-add}
@@ -13,7 +13,7 @@ use Rattle.snap_session.specs.Turns.{Sends}
 pub bytes_append : (xs ys : List ℕ) → IsBytes xs → IsBytes ys → IsBytes (xs ++ ys)
 bytes_append = bytes-append
 
--- those behind a frame
+-- the bytes after a frame
 pub bytes_behind : (xs x rest : List ℕ) → IsBytes xs → HasFrame xs x rest → IsBytes rest
 bytes_behind xs x rest bytes has i =
     rw (sym (get_or-append-add (frame x) rest i 0))
@@ -23,7 +23,7 @@ bytes_behind xs x rest bytes has i =
 pub shorter_behind : (xs x rest : List ℕ) → HasFrame xs x rest → length rest ≤ length xs
 shorter_behind xs x rest has = omega (arith, ap length has.split, length-append (frame x) rest)
 
--- it holds no more once bytes were written and frames answered
+-- no more is held after bytes were written and frames answered
 pub holds_sent : (more : ℕ) (old mid : Talk) (w0 w1 : _) → Sends old mid w0 w1
     → HoldsFrameAnd more old → HoldsFrameAnd more mid
 holds_sent more old mid w0 w1 sent holds going =
@@ -34,7 +34,7 @@ pub holds_answered : (more : ℕ) (old new : Talk) → old.over ≡ None
     → HoldsFrameAnd more new
 holds_answered more old new going fewer holds still = omega (arith, fewer still, holds going)
 
--- a piece behind less than a frame
+-- a piece after less than a frame
 pub holds_taken : (more : ℕ) (old : Talk) (piece : List ℕ) (new : Talk)
     → length old.held < longest_frame → length piece ≤ more → HasTaken old piece new
     → HoldsFrameAnd more new

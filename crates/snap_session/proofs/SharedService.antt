@@ -8,7 +8,7 @@ use Rattle.snap_session.proofs.Runs.{moves_joins}
 use Rattle.snap_session.proofs.Continuation.{loosen}
 use Rattle.snap_session.proofs.TurnRuns.{turns_on, begins}
 
--- the same reads and writes by another way of the talk
+-- another way of the talk, with these reads and writes, gives `Turns` too
 by_talk : {S : Type 0} (before between : S → S → Type 0) (gives : S → Request → Reply → S
     → Type 0) (s t u : S) (old : Talk) (r0 r1 w0 w1 : Option (List ℕ)) (new : Talk)
     (one : Turns before gives s t old r0 r1 w0 w1 new)

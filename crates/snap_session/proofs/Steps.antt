@@ -62,7 +62,7 @@ said_one : (owed y : List ℕ) → owed ++ frame y ≡ owed ++ (frames (y ∷ []
 said_one owed y =
     ap (λ zs. owed ++ zs) (sym (append-nil (frame y)) ∙ sym (append-nil (frames (y ∷ []))))
 
--- the first frame that is held is the first one that came
+-- the first frame that is held is the first one that arrived
 pub found_first : (old mid : Talk) (x : List ℕ) → old.asked ≡ None → HasFrame old.held x mid.held
     → mid.asked ≡ old.asked → came old ≡ frame x ++ came mid
 found_first old mid x free found same =
@@ -73,7 +73,7 @@ pub owes_free : (old : Talk) (y : List ℕ) (new : Talk) (ok : Bool) → Owes ol
 owes_free old y new true owes free = ap asked_of owes ∙ free
 owes_free old y new false owes free = ap asked_of owes ∙ free
 
--- bytes are owed then, unless it is over
+-- after an answer bytes are owed, unless it is over
 owes_some : (old : Talk) (y : List ℕ) (new : Talk) (ok : Bool) → Owes old y new ok
     → new.over ≡ None → new.owed ≡ [] → ⊥
 owes_some old y new true owes going none =
@@ -86,12 +86,12 @@ owes_some old y new true owes going none =
 owes_some old y new false owes going none =
     let wrong : Some NoMemory ≡ None = sym (ap over_of owes) ∙ going in absurd cc
 
--- so a turn is wanted, with no request handed over
+-- so it needs another call, with no request handed over
 pub owes_turn : (old : Talk) (y : List ℕ) (new : Talk) (ok : Bool) → Owes old y new ok
     → old.asked ≡ None → (new.asked ≡ None) × (new.over ≡ None → new.owed ≡ [] → ⊥)
 owes_turn old y new ok owes free = (owes_free old y new ok owes free, owes_some old y new ok owes)
 
--- what is held stays as it is
+-- the held bytes don't change
 pub owes_held : (old : Talk) (y : List ℕ) (new : Talk) (ok : Bool) → Owes old y new ok
     → new.held ≡ old.held
 owes_held old y new true owes = ap (λ (z : Talk). z.held) owes
@@ -118,7 +118,7 @@ module _ {S : Type 0} (gives : S → Request → Reply → S → Type 0) where
     omega arith,
   )
 
-  -- the bytes that came stay as they are, and some that are owed are sent
+  -- the bytes that arrived don't change, and some that are owed are sent
   pub sends : (s : S) (old : Talk) (given : List ℕ) (new : Talk) → old.owed ≡ given ++ new.owed
       → came new ≡ came old → new.over ≡ old.over → GoesBy 0 Stays gives s s old [] given new
   sends s old given new owed same over =
@@ -151,7 +151,7 @@ module _ {S : Type 0} (gives : S → Request → Reply → S → Type 0) where
   takes s old piece new going (inr none) =
       gives_up s old piece new going (ap owed_of none) (ap over_of none)
 
-  -- a frame is answered, and its reply is owed or no memory was left for it
+  -- a frame is answered, and its reply is owed, or memory for it ran out
   answered_one : (s t : S) (old mid new : Talk) (x y : List ℕ) (ys us : List (List ℕ))
       → ys ++ us ≡ y ∷ [] → came old ≡ frame x ++ came mid → Answer gives s x y t
       → new.owed ≡ old.owed ++ (frames ys ++ [])
@@ -234,7 +234,7 @@ module _ {S : Type 0} (gives : S → Request → Reply → S → Type 0) where
       (fits, inl (q, r, (askable, refl), given, (limits, refl)))
       owes).0
 
-  -- nobody waits for an outcome
+  -- no request is handed over, so the outcome is dropped
   pub nobody : (s : S) (t : Talk)
       → t.asked ≡ None → Goes Stays gives s s t [] [] (record t { asked = None })
   nobody s t free = (sends s t [] (record t {
@@ -242,7 +242,7 @@ module _ {S : Type 0} (gives : S → Request → Reply → S → Type 0) where
         None;
   }) refl (sym (came_free t free)) refl).0
 
-  -- fewer are no more
+  -- a bound may be raised
   pub by_more : (s t : S) (old : Talk) (taken given : List ℕ) (new : Talk) (m n : ℕ) → m ≤ n
       → GoesBy m Stays gives s t old taken given new → GoesBy n Stays gives s t old taken given new
   by_more s t old taken given new m n more goes = (goes.0, omega (arith, more, goes.1))

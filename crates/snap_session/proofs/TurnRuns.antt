@@ -58,7 +58,7 @@ pub few_left : (old given new : List ℕ) → old ≡ given ++ new → length ol
     → length new ≤ most_owed
 few_left old given new is few = omega (arith, ap length is, length-append given new)
 
--- ---- what is handed over
+-- ---- requests that are handed over
 
 pub on_none : (a : Option Request) (P : Type 0) → a ≡ None → OnSome a P
 on_none None P none = tt
@@ -183,7 +183,7 @@ module _ {S : Type 0} (gives : S → Request → Reply → S → Type 0) where
         goes = one.goes;
       }
 
-  -- a session has come to its end with its last turn
+  -- a session ends with its last turn
   pub serves : (s t u : S) (mid last : Talk) (r0 r1 r2 w0 w1 w2 : Option (List ℕ)) (end : End)
       → Turns Stays gives s t start r0 r1 w0 w1 mid → Turns Stays gives t u mid r1 r2 w1 w2 last
       → EndsAt end last r2 → Serves gives s u r0 r2 w0 w2 end
@@ -194,8 +194,8 @@ module _ {S : Type 0} (gives : S → Request → Reply → S → Type 0) where
         ends = at;
       }
 
-  -- what stands in a turn: its bytes are those of a run, few are owed and held, and what is handed
-  -- over is handed over under its key
+  -- the invariant of a turn: its bytes are those of a run, few are owed and held, and a request is
+  -- handed over under the connection's key
   pub record Stood (hands_over one : Type 0)
       (more : ℕ) (s t : S) (old new : Talk) (r0 r1 w0 w1 : Option (List ℕ)) : Type 0 where
     pub turns : Turns Stays gives s t old r0 r1 w0 w1 new
@@ -204,7 +204,7 @@ module _ {S : Type 0} (gives : S → Request → Reply → S → Type 0) where
     pub under : old.asked ≡ None → OnSome new.asked one
     pub held : HoldsFrameAnd more old → HoldsFrameAnd more new
 
-  -- it stands when bytes that are owed are written
+  -- it still holds after bytes that are owed are written
   pub stood_sent : (hands_over one : Type 0)
       (more : ℕ) (s t : S) (old mid new : Talk) (r0 r1 w0 w1 w2 : Option (List ℕ))
       → Stood hands_over one more s t old mid r0 r1 w0 w1 → Sends mid new w1 w2

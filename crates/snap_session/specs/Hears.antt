@@ -1,4 +1,4 @@
--- What stands first among the bytes held.
+-- The first frame of the bytes held.
 use Rattle.std.specs.Prelude.{◌≡◌, ◌<◌, ℕ, List, Some, None, length}
 use Rattle.snap_frame.specs.Messages as messages
 use Rattle.snap_frame.specs.Stream.{IsPartial, HasFrame, HasLongLength}

@@ -1,4 +1,4 @@
--- What a session reads, answers and owes.
+-- The bytes and the requests of a session.
 use Rattle.std.specs.Prelude.{◌≡◌, ℕ, ◌+◌, ◌≤◌, ◌⊎◌, List, [], ◌∷◌, ◌++◌, length, Option, Some, None, Bool, true, false}
 use Rattle.snap_frame.specs.declared.request.Request.{Request}
 use Rattle.snap_frame.specs.Messages.{max_payload, payload, frame, Asks, Malformed, Says, says}
@@ -10,8 +10,8 @@ use Rattle.snap_frame.specs.declared.frame_buffer.Failure.TheVariants.{TooLarge,
 use Rattle.snap_disk.specs.declared.refusal.Refusal.TheVariants as refusals
 use Rattle.snap_session.specs.declared.session.TheConstants.{MAX_OWED}
 
--- a request that was handed over, the bytes that came behind it, the bytes that are owed, and why
--- no more are taken
+-- a request that was handed over, the bytes that arrived after it, the bytes that are owed, and why
+-- no more are taken in
 pub record Talk : Type 0 where
   pub asked : Option Request
   pub held : List ℕ
@@ -26,7 +26,7 @@ abbrev pub asked_bytes : Option Request → List ℕ
 asked_bytes None = []
 asked_bytes (Some q) = frame (payload q)
 
--- the bytes that came and aren't answered
+-- the bytes that arrived and aren't answered
 abbrev pub came : Talk → List ℕ
 came t = asked_bytes t.asked ++ t.held
 
@@ -42,15 +42,15 @@ abbrev pub frames : List (List ℕ) → List ℕ
 frames [] = []
 frames (x ∷ xs) = frame x ++ frames xs
 
--- a service in this state answers the payload so, which fits a frame: a request by a reply of its own,
--- within the limits of replies; any other one is refused as malformed
+-- a service in this state answers the payload, which fits a frame, by this one: a request by a
+-- reply of its own, within the limits of replies; anything else is refused as malformed
 abbrev pub Answer : {S : Type 0} → (S → Request → Reply → S → Type 0) → S → List ℕ → List ℕ → S
     → Type 0
 Answer {S} gives old x y new = (length x ≤ max_payload)
     × (((q : Request) × (r : Reply) × Asks x q × gives old q r new × Says y r)
     ⊎ (Malformed x × (new ≡ old) × (y ≡ refused_malformed)))
 
--- The payloads are answered so, one after another. Between two of them, and before and behind all,
+-- The payloads get these answers, one after another. Between two of them, and before and after all,
 -- the service may move by `between`.
 abbrev pub Run : {S : Type 0} → (S → S → Type 0) → (S → Request → Reply → S → Type 0) → S
     → List (List ℕ) → List (List ℕ) → S → Type 0
@@ -60,16 +60,16 @@ Run {S} between gives old (x ∷ xs) (y ∷ ys) new =
 Run between gives old [] (y ∷ ys) new = ⊥
 Run between gives old (x ∷ xs) [] new = ⊥
 
--- nobody else uses the service
+-- no other session uses the service
 abbrev pub Stays : {S : Type 0} → S → S → Type 0
 Stays old new = new ≡ old
 
--- others may have been answered in between
+-- other sessions may have been answered in between
 abbrev pub Moves : {S : Type 0} → (S → Request → Reply → S → Type 0) → S → S → Type 0
 Moves gives old new = (xs : List (List ℕ)) × (ys : List (List ℕ)) × Run Stays gives old xs ys new
 
--- How it may go on: the bytes that are left of those that came, and the bytes that are owed behind
--- all replies. Once it is over nothing more is taken or answered.
+-- How a talk may continue: the bytes that are left of those that arrived, and the bytes that are
+-- owed after all replies. Once it is over nothing more is taken in or answered.
 abbrev pub Phase : Option Failure → Option Failure → List ℕ → List (List ℕ) → List (List ℕ)
     → List (List ℕ) → List ℕ → List ℕ → List ℕ → Type 0
 Phase None None taken payloads replies unsaid rest held tail = (unsaid ≡ []) × (tail ≡ [])
@@ -81,13 +81,13 @@ Phase None (Some NoMemory) taken payloads replies unsaid rest held tail = (lengt
 Phase (Some a) new taken payloads replies unsaid rest held tail =
     (new ≡ Some a) × (taken ≡ []) × (payloads ≡ []) × (replies ≡ []) × (unsaid ≡ []) × (tail ≡ [])
 
--- From one talk to another, with these bytes taken in and these given out: what came is cut into
+-- From one talk to another, with these bytes taken in and these given out: what arrived is cut into
 -- frames, which the service answers in order, and the replies' frames are owed.
 pub record Goes {S : Type 0} (between : S → S → Type 0) (gives : S → Request → Reply → S
     → Type 0) (s t : S) (old : Talk) (taken given : List ℕ) (new : Talk) : Type 0 where
   pub payloads : List (List ℕ)
   pub replies : List (List ℕ)
-  -- replies that no memory was left for
+  -- replies for which memory ran out
   pub unsaid : List (List ℕ)
   pub rest : List ℕ
   pub tail : List ℕ
@@ -96,22 +96,22 @@ pub record Goes {S : Type 0} (between : S → S → Type 0) (gives : S → Reque
   pub said : given ++ new.owed ≡ old.owed ++ (frames replies ++ tail)
   pub phase : Phase old.over new.over taken payloads replies unsaid rest (came new) tail
 
--- the same, with at most so many frames answered
+-- `Goes`, with at most `most` frames answered
 abbrev pub GoesBy : {S : Type 0} → ℕ → (S → S → Type 0) → (S → Request → Reply → S → Type 0) → S → S
     → Talk → List ℕ → List ℕ → Talk → Type 0
 GoesBy most between gives s t old taken given new =
     (goes : Goes between gives s t old taken given new) × (length goes.payloads ≤ most)
 
--- no memory was left, and nothing else has changed
+-- memory ran out, and nothing else has changed
 abbrev pub HasNoMemory : Talk → Talk → Type 0
 HasNoMemory old new = new ≡ record old { over = Some NoMemory }
 
--- a piece was taken in, or no memory was left
+-- a piece was taken in, or memory ran out
 abbrev pub HasTaken : Talk → List ℕ → Talk → Type 0
 HasTaken old piece new =
     (new ≡ record old { held = old.held ++ piece }) ⊎ HasNoMemory old new
 
--- the frame of a payload is owed behind the rest, or no memory was left
+-- the frame of a payload is owed after the rest, or memory ran out
 abbrev pub Owes : Talk → List ℕ → Talk → Bool → Type 0
 Owes old y new true = new ≡ record old { owed = old.owed ++ frame y }
 Owes old y new false = HasNoMemory old new
@@ -124,10 +124,10 @@ longest_frame = 4 + max_payload
 abbrev pub most_owed : ℕ
 most_owed = MAX_OWED + longest_frame
 
--- how many frames are answered at a time, so that one peer doesn't hold up the others
+-- the most frames that one call answers, so that one peer can't starve the others
 abbrev pub most_answers : ℕ
 most_answers = 64
 
--- while it goes on, it holds at most one frame and so many bytes behind it
+-- while the session isn't over, it holds at most one frame and `more` bytes after it
 abbrev pub HoldsFrameAnd : ℕ → Talk → Type 0
 HoldsFrameAnd more t = t.over ≡ None → length t.held ≤ longest_frame + more

@@ -1,4 +1,4 @@
--- What a session does to its reader and its writer.
+-- How a session uses its reader and its writer.
 use Rattle.std.specs.Prelude.{◌≡◌, ◌≤◌, ◌<◌, ◌⊎◌, ℕ, zero, suc, List, [], ◌++◌, length, Option, Some, None}
 use Rattle.std.specs.Io.KnownBytes.{Appends, Consumes, IsAtEnd}
 use Rattle.snap_frame.specs.declared.request.Request.{Request}
@@ -30,11 +30,11 @@ pub record Sends (old new : Talk) (written_old written_new : Option (List ℕ)) 
   pub over : new.over ≡ old.over
   pub writes : Appends written_old written_new given
 
--- all that came is answered and written, save an unfinished frame
+-- all that arrived is answered and written, except an unfinished frame
 abbrev pub AllSaid : Talk → Type 0
 AllSaid t = (t.over ≡ None) × (t.owed ≡ []) × (t.asked ≡ None) × IsPartial t.held
 
--- where a session stands at its end
+-- the session when its connection has ended so
 abbrev pub EndsAt : End → Talk → Option (List ℕ) → Type 0
 EndsAt ends.Closed t left = (t.over ≡ None) × (t.owed ≡ []) × (t.asked ≡ None) × (t.held ≡ [])
     × IsAtEnd left
@@ -44,7 +44,7 @@ EndsAt ends.ReadFailed t left = AllSaid t
 EndsAt ends.WriteFailed t left = t.owed ≡ [] → ⊥
 EndsAt ends.NoMemory t left = (t.over ≡ Some failures.NoMemory) × (t.owed ≡ [])
 
--- where a session stands after a turn
+-- the session after a turn that came so far
 abbrev pub StandsAt : Turn → Talk → Option (List ℕ) → Type 0
 StandsAt Again t left = Unit {0}
 StandsAt NeedsInput t left = AllSaid t
@@ -60,7 +60,7 @@ pub record Serves {S : Type 0} (gives : S → Request → Reply → S
   pub turns : Turns Stays gives s t start read_old read_new written_old written_new last
   pub ends : EndsAt end last read_new
 
--- how many rounds a turn takes at most, so that one peer doesn't hold up the others
+-- the most rounds of a turn, so that one peer can't starve the others
 abbrev pub most_rounds : ℕ
 most_rounds = 16
 
@@ -72,8 +72,8 @@ pub record Scene (S : Type 0) : Type 0 where
   pub left : Option (List ℕ)
   pub written : Option (List ℕ)
 
--- nothing is read, or one piece is, of at most so many bytes: only while the session goes on, with
--- nothing owed and no request handed over
+-- Nothing is read, or one piece of at most `most` bytes: only while the session isn't over, owes
+-- nothing, and no request is handed over.
 abbrev pub ReadsPiece : ℕ → Talk → Option (List ℕ) → Option (List ℕ) → List ℕ → Talk → Type 0
 ReadsPiece most old left_old left_new piece new =
     Consumes left_old left_new piece
@@ -92,24 +92,24 @@ module _ {S : Type 0} (gives : S → Request → Reply → S → Type 0) (most :
     pub answers : GoesBy most_answers Stays gives a.service b.service sent [] [] answered
     pub reads : ReadsPiece most answered a.left b.left piece b.talk
 
-  -- A round that got on: all that was owed is written, and it is over, something is owed anew, or
-  -- something was read.
+  -- A round with progress: all that was owed is written, and the session is over, or owes something
+  -- new, or has read something.
   pub record WholeRound (a b : Scene S) : Type 0 where
     pub round : Round a b
     pub all : round.sent.owed ≡ []
     pub gets_on : b.talk.over ≡ None → b.talk.owed ≡ [] → round.piece ≡ [] → ⊥
 
-  -- so many rounds that got on
+  -- this many rounds with progress
   abbrev pub WholeRounds : ℕ → Scene S → Scene S → Type 0
   WholeRounds zero a c = c ≡ a
   WholeRounds (suc n) a c = (b : Scene S) × WholeRounds n a b × WholeRound b c
 
-  -- fewer rounds than a turn may take, all of which but the last one got on
+  -- fewer rounds than a turn may take, all of which but the last one made progress
   abbrev pub FewRounds : Scene S → Scene S → Type 0
   FewRounds a c = (n : ℕ) × (b : Scene S) × (n < most_rounds) × WholeRounds n a b × Round b c
 
-  -- The rounds of a turn that came so far. It stops before the last round that it may take only
-  -- where it would wait, or has ended.
+  -- The rounds of a turn that came so far. It stops before the last round that it may take only if
+  -- it would block, or has ended.
   abbrev pub TakesRounds : Turn → Scene S → Scene S → Type 0
   TakesRounds Again a c = WholeRounds most_rounds a c
   TakesRounds NeedsInput a c = FewRounds a c

@@ -1,22 +1,22 @@
 //! Work on requests that a service handed over.
 
-/// A request that was handed over is done.
+/// The completion of a request that was handed over.
 #[derive(Drop)]
 pub struct Done<O: Drop> {
-    /// Which service handed it over, by its place among those of the server.
+    /// The service that handed it over, by its place among the server's workers.
     pub worker: usize,
-    /// Whose request it is: the key that came with it.
+    /// The key with which the request was handed over.
     pub key: usize,
-    /// What became of it.
+    /// The outcome of the work.
     pub outcome: O,
 }
 
 /// Works on the requests that services hand over, in a thread of its own.
 pub trait Background {
-    /// What it tells of a request.
+    /// The outcome of one request.
     type Outcome: Drop;
 
-    /// Waits for a request and works on it. `None` where no more will come: the services that
-    /// handed requests over to it are gone.
+    /// Waits for a request and works on it. `None` if no more will arrive, since the services that
+    /// handed requests over were dropped.
     fn next_done(&mut self) -> Option<Done<Self::Outcome>>;
 }

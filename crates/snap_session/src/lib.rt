@@ -1,11 +1,12 @@
-//! Sessions: what one connection has read and owes, as a value over memory, and run over any
-//! reader and writer.
+//! The server's half of one connection: takes in what was read, has a service answer it, and keeps
+//! the replies to be written.
 //!
-//! One relation, `Goes` of `specs/Talk.antt`, says what a session does: the bytes that came are
-//! cut into frames, a [`Service`] answers them in order, and the replies' frames are owed. It
-//! holds for any pieces and any number of turns, and for requests that are handed over and answered
-//! later. With the steps of others between the answers (`Moves` in place of `Stays`) it is what
-//! holds of each of several sessions on one service.
+//! A [`Session`] is a value over memory; [`proceed`] and [`serve`] run one over any reader and
+//! writer. One relation, `Goes` of `specs/Talk.antt`, says what a session does: the bytes that
+//! arrived are cut into frames, a [`Service`] answers them in order, and the replies' frames are
+//! owed. It holds for any pieces and any number of turns, and for requests that are handed over and
+//! answered later. With `Moves` in place of `Stays` it holds for each of several sessions on one
+//! service, between whose answers others are answered.
 #![tactic(auto)]
 
 mod background;

@@ -1,4 +1,4 @@
-//! What answers requests: one at a time, or later.
+//! Services, which answer requests at once or later.
 ghost use Rattle.std.specs.Prelude.{◌≡◌, ℕ, IfSome, IfNone};
 ghost use Rattle.snap_frame.specs.declared.request.Request.{Request};
 ghost use Rattle.snap_frame.specs.declared.reply.Reply.{Reply};
@@ -7,28 +7,28 @@ ghost use Rattle.snap_frame.specs.Messages.{IsAskable, IsInLimits};
 use snap_disk::Refusal;
 use snap_frame::{Reply, Request};
 
-/// Answers requests, one at a time. It may hand a request over to somebody who works on it
-/// meanwhile, and answer it once that has told its outcome.
+/// Answers requests, one at a time. It may hand a request over to a background thread, and answer
+/// it once its outcome has arrived.
 pub trait Service {
-    /// What is told of a request that was handed over.
+    /// The outcome of a request that was handed over.
     type Outcome;
 
-    /// What it may answer: from the old state the request may get this reply and leave the new
-    /// state.
+    /// The answers that it may give: from the old state the request may get this reply and leave
+    /// the new state.
     ghost gives: { Self → Request → Reply → Self → Type 0 };
 
     /// Whether it may hand a request over.
     ghost hands_over: { Type 0 };
 
-    /// Under which keys it may do so.
+    /// The keys under which it may do so.
     ghost hands_over_under: { ℕ → Type 0 } = { λ _. Unit {0} };
 
-    /// What the reply to a request that was handed over says of its outcome.
+    /// How a reply fits the outcome of the request that was handed over.
     ghost tells: { Self.Outcome → Request → Reply → Type 0 } = { λ _ _ _. Unit {0} };
 
-    /// The reply, or `None` where the request was handed over: the service is then as it was, and
-    /// [`finish`](Service::finish) answers the request once its outcome has come. `key` says
-    /// whose request it is. A scan of some segments names one or more.
+    /// Answers a request, or returns `None` if it was handed over: then the service is unchanged,
+    /// and [`finish`](Service::finish) answers the request once its outcome has arrived. `key` is
+    /// the connection's key. A scan of some segments names at least one.
     fn answer(&mut self, request: &Request, key: usize) -> Option<Reply>
         requires askable { IsAskable request.now }
         ensures gives { IfSome result (λ r. Self.gives self.old request.now r self.new) }
@@ -37,14 +37,13 @@ pub trait Service {
         ensures may { IfNone result Self.hands_over }
         ensures under { IfNone result (Self.hands_over_under key) };
 
-    /// The reply to a request that was handed over: it tells its outcome. A scan of some segments
-    /// names one or more.
+    /// Answers a request that was handed over, by its outcome. A scan of some segments names at least one.
     fn finish(&mut self, request: &Request, outcome: Self::Outcome) -> Reply
         requires askable { IsAskable request.now }
         ensures gives { Self.gives self.old request.now result self.new }
         ensures limits { IsInLimits result }
         ensures tells { Self.tells outcome request.now result };
 
-    /// A session refused a frame for this reason by itself: it was no request, or too large.
+    /// Notes that a session refused a frame without the service: it was no request, or too large.
     fn refused(&self, _why: Refusal) {}
 }

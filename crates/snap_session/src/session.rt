@@ -1,7 +1,7 @@
 //! One connection's conversation as a value, over memory.
 //!
-//! A session holds the bytes that came and aren't answered, and the bytes that are owed to the
-//! peer. It reads and writes nothing itself: somebody gives it what came, has it answer, and
+//! A session holds the bytes that arrived and aren't answered, and the bytes that are owed to the
+//! peer. It does no input or output itself: its caller gives it what arrived, has it answer, and
 //! takes off what was written, in any pieces and any order of these calls (`specs/Talk.antt`).
 ghost use Rattle.std.specs.Prelude.{◌≡◌, ◌≤◌, ◌<◌, ◌+◌, ◌↔◌, IsTrue, [], length, drop};
 ghost use Rattle.std.specs.Prelude.{Some, None, IfSome, true, false};
@@ -29,14 +29,14 @@ use snap_frame::{Failure, Feed, MAX_PAYLOAD, Reply, Request, write_reply};
 use std::alloc::Global;
 use std::marker::Model;
 
-/// No request is answered while this many bytes or more are owed, so a peer that doesn't read
-/// costs at most these and one more reply.
+/// The limit of owed bytes from which on no request is answered: a peer that doesn't read its
+/// replies costs at most these and one more reply.
 pub const MAX_OWED: usize = 65_536;
 
-/// How many requests one call answers at most, so that one peer doesn't hold up the others.
+/// The most requests that one call answers, so that one peer can't starve the others.
 const MAX_ANSWERS: u32 = 64;
 
-/// What stands first among the bytes held.
+/// The first frame of the bytes held.
 #[derive(Drop)]
 enum Heard {
     Nothing,
@@ -46,22 +46,22 @@ enum Heard {
     NoMemory,
 }
 
-/// What a session waits for.
+/// The next event that a session needs.
 #[derive(Clone, Copy, Debug, PartialEq, Eq, Drop)]
 pub enum Wants {
-    /// No whole frame is held.
+    /// More bytes: no whole frame is held.
     Bytes,
-    /// There may be more to answer.
+    /// Another call: there may be more to answer.
     Turn,
-    /// A request was handed over, and its outcome hasn't come.
+    /// The outcome of the request that was handed over.
     Outcome,
 }
 
-/// What one connection has read and owes: the bytes that came and aren't answered, and the bytes
-/// that are owed to the peer.
+/// One connection's state: the bytes that arrived and aren't answered, and the bytes that are owed
+/// to the peer.
 ///
-/// It is over once a length above the limit came or a growth of memory was refused. From then on
-/// nothing is taken in or answered, and what is owed may still be sent.
+/// It is over once a length above the limit arrived or memory ran out. From then on nothing is
+/// taken in or answered; what is owed may still be sent.
 #[derive(Drop)]
 pub struct Session {
     feed: Feed,
@@ -93,7 +93,7 @@ impl Model for Session {
 }
 
 impl Session {
-    /// Nothing came and nothing is owed. It takes no memory before the first piece comes.
+    /// A session to which nothing has arrived. It takes no memory before the first piece.
     pub fn new(alloc: Global) -> Session
         ensures { result ≡ start }
     {
@@ -112,21 +112,21 @@ impl Session {
         self.owed.as_slice()
     }
 
-    /// Why it takes no more bytes, or `None` while it goes on.
+    /// Why it takes no more bytes, or `None` while it does.
     pub fn over(&self) -> Option<Failure>
         ensures { result ≡ self.now.over }
     {
         self.over
     }
 
-    /// Whether it goes on and no byte of an unfinished frame is held.
+    /// Whether it isn't over and no byte of an unfinished frame is held.
     pub fn is_between(&self) -> bool
         ensures { IsTrue result ↔ ((self.now.over ≡ None) × (self.now.held ≡ [])) }
     {
         self.over.is_none() && self.feed.is_between()
     }
 
-    /// The first n bytes owed were written. At most all of them.
+    /// Removes the first `n` bytes owed, which were written. There are at least `n`.
     pub fn sent(&mut self, n: usize)
         requires { n ≤ length self.old.owed }
         ensures { self.new ≡ record self.old { owed = drop n self.old.owed } }
@@ -134,7 +134,7 @@ impl Session {
         self.owed.advance(n);
     }
 
-    /// Takes a piece of the stream in. Where memory is refused the session is over. Not called on
+    /// Takes in a piece of the stream. If memory runs out the session is over. Not to be called on
     /// a session that is over.
     pub fn take_in(&mut self, piece: &[u8])
         requires { self.old.over ≡ None }
@@ -145,8 +145,8 @@ impl Session {
         }
     }
 
-    /// Puts the frame of a reply behind what is owed; `false` where memory was refused, and then
-    /// it is over.
+    /// Appends the frame of a reply to what is owed; `false` if memory ran out, and then the
+    /// session is over.
     fn owe(&mut self, reply: &Reply) -> bool
         requires { IsInLimits reply.now }
         ensures owes { Owes self.old (says reply.now) self.new result }
@@ -187,14 +187,14 @@ impl Session {
         self.asked.is_none()
     }
 
-    /// Whether a reply more may be owed.
+    /// Whether one more reply may be owed.
     fn has_room(&self) -> bool
         ensures { IsTrue result ↔ (length self.now.owed < MAX_OWED) }
     {
         self.owed.len() < MAX_OWED
     }
 
-    /// Takes back a request that was handed over.
+    /// Takes out the request that was handed over, if there is one.
     fn take_asked(&mut self) -> Option<Request>
         ensures asked { result ≡ self.old.asked }
         ensures fits { IfSome result (λ q. length (payload q) ≤ max_payload) }
@@ -252,10 +252,12 @@ impl Session {
         Wants::Turn
     }
 
-    /// Answers whole frames that are held, in order, until none is held, one was handed over, too
-    /// much is owed, or [`MAX_ANSWERS`] are answered. A frame that is no request is refused as
-    /// malformed. A length above the limit is refused, and the session is over. `key` says to the
-    /// service whose requests these are. Not called on a session that is over.
+    /// Answers the whole frames that are held, in order, until none is left, one is handed over,
+    /// [`MAX_OWED`] bytes are owed, or [`MAX_ANSWERS`] are answered.
+    ///
+    /// A frame that is no request is refused as malformed. A length above the limit is refused, and
+    /// the session is over. `key` is the connection's key, with which requests are handed over. Not
+    /// to be called on a session that is over.
     pub fn answer<S: Service>(&mut self, service: &mut S, key: usize) -> Wants
         requires { self.old.over ≡ None }
         ensures goes { Goes Stays S.gives service.old service.new self.old [] [] self.new }
@@ -281,8 +283,8 @@ impl Session {
         Wants::Turn
     }
 
-    /// Answers the request that was handed over. An outcome that nobody waits for is dropped. Not
-    /// called on a session that is over.
+    /// Answers the request that was handed over. If there is none, the outcome is dropped and
+    /// nothing changes. Not to be called on a session that is over.
     pub fn finish<S: Service>(&mut self, service: &mut S, outcome: S::Outcome)
     where
         S::Outcome: Drop,

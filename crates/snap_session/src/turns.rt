@@ -14,23 +14,23 @@ use std::sync::Wait;
 #[cfg(test)]
 mod tests;
 
-/// How many rounds one turn takes at most, so that one peer doesn't hold up the others.
+/// The most rounds of one turn, so that one peer can't starve the others.
 const MAX_ROUNDS: u32 = 16;
 
-/// How a connection ended.
+/// Why a connection ended.
 #[derive(Clone, Copy, Debug, PartialEq, Eq, Drop)]
 pub enum End {
     /// The input ended between frames.
     Closed,
     /// The input ended inside a frame.
     Truncated,
-    /// A length above the limit came: it was refused, as the last reply.
+    /// A length above the limit arrived: it was refused, as the last reply.
     TooLarge,
     /// A read failed.
     ReadFailed,
     /// A write failed, or took no byte.
     WriteFailed,
-    /// A growth of memory was refused.
+    /// Memory ran out.
     NoMemory,
 }
 
@@ -39,11 +39,11 @@ pub enum End {
 pub enum Turn {
     /// There may be more to do at once.
     Again,
-    /// All that came is answered and written.
+    /// All that arrived is answered and written.
     NeedsInput,
     /// The writer takes no more bytes for now.
     NeedsRoom,
-    /// A request was handed over, and its outcome hasn't come.
+    /// A request was handed over, and its outcome hasn't arrived.
     NeedsOutcome,
     /// The connection has ended.
     Over(End),
@@ -72,13 +72,13 @@ fn send_owed<W: Write>(session: &mut Session, writer: &mut W) -> Sent
     Sent::All
 }
 
-/// One turn of at most 16 rounds: each writes what is owed, answers what is held and reads one
-/// piece, in this order. It ends sooner where one of them would wait.
+/// Takes one turn of at most 16 rounds: each writes what is owed, answers what is held and reads
+/// one piece, in this order. It ends sooner if one of them would block.
 ///
-/// A reader or writer says by `WouldBlock` that it would wait. Every other error ends the
-/// connection with no retry, and so does a write that takes no byte. Nothing is read while bytes
-/// are owed, and nothing is answered while [`MAX_OWED`](crate::MAX_OWED) bytes or more are.
-/// `piece` is where a read puts its bytes: it has at least one place.
+/// A reader or writer reports by `WouldBlock` that it would block. Every other error ends the
+/// connection without a retry, and so does a write that takes no byte. Nothing is read while bytes
+/// are owed, and nothing is answered while [`MAX_OWED`](crate::MAX_OWED) bytes or more are. `piece`
+/// is the buffer of a read and isn't empty.
 pub fn proceed<R: Read, W: Write, S: Service>(
     session: &mut Session,
     reader: &mut R,
@@ -99,7 +99,7 @@ pub fn proceed<R: Read, W: Write, S: Service>(
     ensures under { session.old.asked ≡ None
         → OnSome session.new.asked (S.hands_over_under key) }
 
-    // What a peer sends is read no faster than it takes its replies.
+    // A peer's bytes are read no faster than it takes its replies.
     ensures held { HoldsFrameAnd (length piece.old) session.old
         → HoldsFrameAnd (length piece.old) session.new }
     ensures rounds { TakesRounds S.gives (length piece.old) result
@@ -149,16 +149,16 @@ pub fn proceed<R: Read, W: Write, S: Service>(
 
 /// Answers all that is read, in order, until the input ends or something fails.
 ///
-/// It reads pieces of at most 4,096 bytes. What was written then are the frames of the replies of
-/// a run of the service over the requests that were read:
+/// It reads pieces of at most 4,096 bytes. By then it has written the frames of the replies of a
+/// run of the service over the requests that were read:
 ///
 /// - [`End::Closed`], [`End::Truncated`], [`End::ReadFailed`]: all of them;
-/// - [`End::TooLarge`]: all of them, and the refusal of that length behind them;
-/// - [`End::NoMemory`]: whole frames, those of all requests that were answered but at most the
-///   last one, and no refusal behind them;
+/// - [`End::TooLarge`]: all of them, followed by the refusal of that length;
+/// - [`End::NoMemory`]: whole frames, those of all requests that were answered but at most the last
+///   one, and no refusal after them;
 /// - [`End::WriteFailed`]: a beginning of these bytes, and not all of them.
 ///
-/// The service hands nothing over. An error of `WouldBlock` is an error here.
+/// The service hands no request over. A `WouldBlock` is an error here.
 pub fn serve<X: Wait, R: Read, W: Write, S: Service>(
     rt: &X,
     alloc: Global,

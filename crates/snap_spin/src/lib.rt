@@ -1,9 +1,9 @@
-//! Whether a thread spins for a while before it sleeps.
+//! Decides whether a thread spins for a while before it sleeps.
 //!
-//! To wake a sleeping thread takes tens of microseconds, about as long as a fast disk takes to sync.
-//! So a thread that waits for another one, or for a peer, first spins: it asks again and again, for less
-//! than a millisecond. That pays only where what it waits for mostly comes so soon: after spinning in vain
-//! it sleeps at once for some waits, and a slow disk or an idle peer costs next to nothing.
+//! Waking a sleeping thread takes tens of microseconds, about as long as a fast disk takes to sync.
+//! So a thread that waits for another thread, or for a peer, first polls for less than a millisecond.
+//! That pays only if the event mostly comes that soon: after a vain spin the thread sleeps at once
+//! for the next [`WAITS_IN_A_REST`] waits, so a slow disk or an idle peer costs next to nothing.
 #![tactic(auto)]
 
 mod spin;

@@ -1,14 +1,13 @@
-//! Whether one thread spins.
+//! The decision of one thread.
 ghost use Rattle.std.specs.Prelude.{◌≡◌, ◌+◌, ◌<◌, true, false};
 ghost use Rattle.snap_spin.specs.declared.spin.TheConstants.{WAITS_IN_A_REST};
 
 use std::marker::Model;
 
-/// How many waits go by without spinning after one that was in vain.
+/// How many waits are made without spinning after a vain one.
 pub const WAITS_IN_A_REST: u32 = 15;
 
-/// Whether a thread spins before it sleeps, asked once a wait. Its value is how many waits are still to
-/// go by without.
+/// Whether a thread spins before it sleeps, asked once per wait. Models how many of the next waits don't spin.
 #[derive(Drop)]
 pub struct Spin {
     resting: u32,
@@ -23,7 +22,8 @@ impl Model for Spin {
 }
 
 impl Spin {
-    /// A thread that rests: a server without callers has nothing to spin for.
+    /// A thread that rests: its first [`WAITS_IN_A_REST`] waits don't spin, since a server without callers
+    /// has nothing to spin for.
     pub fn new() -> Spin
         ensures { result ≡ WAITS_IN_A_REST }
     {
@@ -32,7 +32,7 @@ impl Spin {
         }
     }
 
-    /// Whether to spin before the sleep of this wait.
+    /// Whether this wait spins before it sleeps.
     pub fn is_due(&mut self) -> bool
         ensures ready { self.old ≡ 0 → (result ≡ true) × (self.new ≡ 0) }
         ensures resting { 0 < self.old → (result ≡ false) × (self.new + 1 ≡ self.old) }
@@ -44,7 +44,7 @@ impl Spin {
         false
     }
 
-    /// This wait spun in vain: the next ones go by without.
+    /// Records that this wait spun in vain: the next ones don't spin.
     pub fn rest(&mut self)
         ensures { self.new ≡ WAITS_IN_A_REST }
     {

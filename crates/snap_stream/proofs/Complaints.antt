@@ -1,4 +1,4 @@
--- What was told of a text that was put together in place.
+-- A complaint in a fixed buffer.
 use Rattle.std.proofs.Common.{◌≡◌, ◌-◌, ℕ, List, length, drop, sym, Bool, true, false, not, nat_eq}
 use Rattle.std.proofs.Common.{Option, Some, None, IfSome, inl, inr, codes}
 use Rattle.std.specs.Cmp.Lexicographic.{pointwise, same_text, other_text}
@@ -8,11 +8,11 @@ use Rattle.snap_stream.specs.declared.complaint.TheConstants.{IN_PLACE}
 use Rattle.snap_stream.specs.Streams.{Complains, complaint_line}
 use Rattle.snap_stream.proofs.Lines.{whole_is}
 
--- what `ends_with` says of the last three bytes
+-- whether the last three bytes are dots, as `ends_with` computes it
 abbrev dotted : List ℕ → Bool
 dotted text = pointwise nat_eq (codes "...") (drop (length text - 3) text)
 
--- the line of what there was room for was written
+-- the line of the text that fitted was written
 pub told_in_place : (known old new : Option (List ℕ)) (text : List ℕ) (is_cut : Bool)
     → IfSome known (λ bytes. IsTextOrCut IN_PLACE bytes text) → is_cut ≡ dotted text
     → Appends old new (complaint_line text) → Complains known (not is_cut) old new

@@ -1,4 +1,4 @@
--- What was read and written, part by part.
+-- Bytes that are read or written part by part.
 use Rattle.std.proofs.Common.{◌≡◌, ℕ, ◌+◌, ◌-◌, ◌≤◌, List, ◌++◌, length, take, drop, sym, ◌∙◌, ap}
 use Rattle.std.proofs.Common.{length-drop, drop_at, length-take-le, le_refl, append-nil, Option}
 use Rattle.std.proofs.Common.{Some, None}
@@ -9,17 +9,17 @@ use Rattle.snap_stream.specs.Streams.{Had}
 use borrow.Rule.Slice.PartMut.{put_mid, post_of}
 use lib.Seq.{take-append-le}
 
--- what is behind i, as `&xs[i..]`
+-- the bytes from i on, as `&xs[i..]`
 rest_is : (i : ℕ) (xs : List ℕ) → take (length xs - i) (drop i xs) ≡ drop i xs
 rest_is i xs =
     ap (λ k. take k (drop i xs)) (sym (length-drop i xs)) ∙ take-length (drop i xs)
 
--- the first i bytes, and then n of `&xs[i..]`
+-- the first i bytes, followed by n of `&xs[i..]`
 pub take_on : (i n : ℕ) (xs : List ℕ)
     → take i xs ++ take n (take (length xs - i) (drop i xs)) ≡ take (i + n) xs
 take_on i n xs = ap (λ ys. take i xs ++ take n ys) (rest_is i xs) ∙ sym (take-add i n xs)
 
--- the first i bytes, and then n that were put behind them
+-- the first i bytes, followed by n that were put after them
 pub take_put : (i k n : ℕ) (xs ys : List ℕ) → i ≤ length xs → n ≤ length ys
     → take i xs ++ take n ys ≡ take (i + n) (put_mid i k xs ys)
 take_put i k n xs ys within fits =
@@ -31,7 +31,7 @@ take_put i k n xs ys within fits =
     sym (take-add i n (put_mid i k xs ys) ∙ ap (λ l. l ++ take n (drop i (put_mid i k xs ys))) front
     ∙ ap (λ l. take i xs ++ l) behind)
 
--- a reader at its end had what it gave
+-- a reader at its end had exactly the bytes that it gave
 pub had : (old new : Option (List ℕ)) (v : List ℕ) → Consumes old new v → IsAtEnd new → Had old v
 had None new v came ended = tt
 had (Some xs) None v came ended = absurd came

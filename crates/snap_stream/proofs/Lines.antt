@@ -1,4 +1,4 @@
--- Two lines written one behind the other.
+-- Two lines, one written after the other.
 use Rattle.std.proofs.Common.{arith, ◌≡◌, ℕ, ◌+◌, List, ◌++◌, length, take, drop, sym, ◌∙◌, ap}
 use Rattle.std.proofs.Common.{subst, Option, true, Result, Ok, Err, OnOk, OnErr, is_ok}
 use Rattle.std.proofs.Common.{take-append-drop}
@@ -9,7 +9,7 @@ use Rattle.std.proofs.KnownBytes.{Appends-trans}
 use Rattle.snap_stream.specs.Streams.{AppendsBeginning, AppendsLess}
 use lib.Seq.{take-append-le}
 
--- a beginning of the first list is one of both
+-- a beginning of the first list is one of both together
 taken : (p : ℕ) (xs ys : List ℕ) → take (length (take p xs)) (xs ++ ys) ≡ take p xs
 taken p xs ys =
     ap (λ l. take (length (take p xs)) (l ++ ys)) (sym (take-append-drop p xs))
@@ -62,12 +62,12 @@ less_behind a b c xs ys came less = (
       (Appends-trans a b c xs (take less.0 ys) came less.2),
 )
 
--- what holds where a call succeeded, of one that did
+-- what holds if a call succeeded, of one that did
 pub on_ok : {T E : Type 0} (result : Result T E) (P : Type 0) → OnOk result P → is_ok result ≡ true → P
 on_ok (Ok x) P holds told = holds
 on_ok (Err e) P holds told = absurd (cc)
 
--- the same of a part of what was written, which failed
+-- what always holds also holds if a call failed
 pub on_failed : {T E : Type 0} (result : Result T E) (P : Type 0) → P → OnErr result P
 on_failed (Ok x) P holds = tt
 on_failed (Err e) P holds = holds

@@ -1,4 +1,4 @@
--- What a program does to the known bytes of its streams.
+-- What a program reads from and writes to its streams, as far as their bytes are known.
 use Rattle.std.specs.Prelude.{◌≡◌, ◌<◌, ◌⊎◌, ℕ, Bool, true, false, List, ◌++◌, length, Option}
 use Rattle.std.specs.Prelude.{IfSome, codes, take, string_bytes, String}
 use Rattle.std.specs.Global.{Global}
@@ -13,16 +13,16 @@ use Rattle.snap_stream.specs.declared.complaint.TheConstants.{IN_PLACE}
 abbrev pub AppendsBeginning : Option (List ℕ) → Option (List ℕ) → List ℕ → Type 0
 AppendsBeginning old new bytes = (p : ℕ) × Appends old new (take p bytes)
 
--- a beginning of these bytes was written, and not all of them
+-- a beginning of these bytes was written, but not all of them
 abbrev pub AppendsLess : Option (List ℕ) → Option (List ℕ) → List ℕ → Type 0
 AppendsLess old new bytes = (p : ℕ) × (p < length bytes) × Appends old new (take p bytes)
 
--- standard error got a beginning of these lines, and where it took them whole, all of them
+-- standard error got a beginning of these lines, and all of them if `is_told`
 abbrev pub SaysLines : List ℕ → (is_told : Bool) (old new : Option (List ℕ)) → Type 0
 SaysLines lines is_told old new =
     AppendsBeginning old new lines × (is_told ≡ true → Appends old new lines)
 
--- the reader had these bytes and no more, as far as it tells
+-- the reader had exactly these bytes, if its bytes are known
 abbrev pub Had : Option (List ℕ) → List ℕ → Type 0
 Had known v = IfSome known (λ xs. xs ≡ v)
 
@@ -38,20 +38,20 @@ complaint_line text = codes "snapd: " ++ (text ++ codes "\n")
 abbrev pub file_line : (file text : List ℕ) → List ℕ
 file_line file text = codes "snapd: " ++ (file ++ (codes ": " ++ (text ++ codes "\n")))
 
--- a line that names the file, with some text behind its name
+-- a line that begins with the file's name
 abbrev pub NamesFile : (file : List ℕ) → List ℕ → Type 0
 NamesFile file line = (text : List ℕ) × (line ≡ file_line file text)
 
--- the text that is there
+-- the bytes of a text, if there is one
 abbrev pub text_of : Option (String Global) → Option (List ℕ)
 text_of text = option_map (λ t. string_bytes t) text
 
--- the text is the one that is known, where one is
+-- the text is the known one, if it is known
 abbrev pub IsText : (known : Option (List ℕ)) (text : List ℕ) → Type 0
 IsText known text = IfSome known (λ bytes. text ≡ bytes)
 
--- Standard error got the whole line of a text. Where it wasn't told, it got less than the line, or,
--- for want of memory, a beginning of the line of a text that was cut to fit in place.
+-- Standard error got the whole line of the text if `is_told`. If not, it got less than the line,
+-- or, if memory ran out, a beginning of the line of the text cut to the fixed buffer.
 abbrev pub Complains : (known : Option (List ℕ)) (is_told : Bool) (old new : Option (List ℕ))
     → Type 0
 Complains known true old new =

@@ -1,21 +1,20 @@
-//! What the system said of a device that failed.
+//! The system's reason for a fault of a device.
 ghost use Rattle.std.specs.Prelude.{◌≡◌, ℕ, List, Option, None};
 ghost use Rattle.snap_stream.specs.Streams.{text_of};
 
 use std::alloc::Global;
 
-/// Knows what the system said of a file's device, when a call of it failed.
+/// Knows the system's reason for the first call of a file's device that failed.
 pub trait Cause {
-    /// What may be given as that.
+    /// What `text` may return.
     ghost may_give: { Self → Option (List ℕ) → Type 0 };
 
-    /// What it said, as text of one line. `None` where nothing is known, or no memory is left for
-    /// it.
+    /// The reason, as text of one line. `None` if none is known, or if memory runs out.
     fn text(&self, alloc: Global) -> Option<String>
         ensures { may_give self.now (text_of result) };
 }
 
-/// Knows nothing: the cause of a device in memory, and of one that made no call.
+/// Knows no reason: for a device in memory, or one that made no call.
 #[derive(Clone, Copy, Debug, PartialEq, Eq)]
 pub struct Unknown;
 

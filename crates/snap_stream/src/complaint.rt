@@ -1,4 +1,4 @@
-//! What a program says before it stops.
+//! Complaints: the line on standard error that says why a program stops.
 ghost use Rattle.std.specs.Prelude.{◌≡◌, ◌++◌, List, ℕ, IfSome, IsNone, OnErr, OnOk, false, true};
 ghost use Rattle.std.specs.Prelude.{string_bytes};
 ghost use Rattle.std.specs.Io.KnownBytes.{Appends};
@@ -11,25 +11,27 @@ use std::alloc::Global;
 use std::fmt::{Display, InlineText};
 use std::io::{self, Write};
 
-/// The most bytes of a text that is put together where there is no memory for it.
+/// The size of the buffer for a text that there is no memory for, in bytes.
 const IN_PLACE: usize = 4096;
 
-/// Writes on standard error: `snapd: `, the text and one line feed, by one call where memory allows
-/// and the writer takes it whole. Says whether it took the whole line.
+/// Writes `snapd: `, the text and a line feed on standard error: in one call, if there is memory
+/// and the writer takes it whole. Returns whether the whole line was written.
 ///
-/// With no memory for it, a text of more than 4,096 bytes is cut and ends in dots, which is not told.
+/// Without memory, a text of more than 4,096 bytes is cut and ends in dots; then it returns
+/// `false`.
 pub fn complain<E: Write, T: Display>(alloc: Global, errors: &mut E, text: &T) -> bool
     ensures { Complains (T.output text.now) result (E.contents errors.old)
         (E.contents errors.new) }
 {
-    // The text comes first: what a `Display` leaves of a writer isn't known where its text isn't.
+    // The text is made first: after a `Display` whose text isn't known, the writer's contents
+    // wouldn't be known either.
     match format!(in alloc; "{text}") {
         Ok(text) => write_line(alloc, errors, text.as_str()).is_ok(),
         Err(_) => complain_in_place(errors, text),
     }
 }
 
-/// The same with no memory.
+/// [`complain`] without memory.
 fn complain_in_place<E: Write, T: Display>(errors: &mut E, text: &T) -> bool
     ensures { Complains (T.output text.now) result (E.contents errors.old)
         (E.contents errors.new) }
@@ -40,7 +42,7 @@ fn complain_in_place<E: Write, T: Display>(errors: &mut E, text: &T) -> bool
     write_parts(errors, text).is_ok() && !is_cut
 }
 
-/// Writes the line of a text, by one call where memory allows and the writer takes it whole.
+/// Writes the line of a text: in one call, if there is memory and the writer takes it whole.
 fn write_line<E: Write>(alloc: Global, errors: &mut E, text: &str) -> io::Result<()>
     ensures whole { OnOk result
         (Appends (E.contents errors.old) (E.contents errors.new) (complaint_line text.now)) }
@@ -53,7 +55,7 @@ fn write_line<E: Write>(alloc: Global, errors: &mut E, text: &str) -> io::Result
     }
 }
 
-/// The same with no memory.
+/// [`write_line`] without memory.
 fn write_parts<E: Write>(errors: &mut E, text: &str) -> io::Result<()>
     ensures whole { OnOk result
         (Appends (E.contents errors.old) (E.contents errors.new) (complaint_line text.now)) }
@@ -65,8 +67,8 @@ fn write_parts<E: Write>(errors: &mut E, text: &str) -> io::Result<()>
     write_whole(errors, b"\n")
 }
 
-/// Writes on standard error the line of a refusal, as `snapd: refused 10 Damaged`, and says whether
-/// it took the whole line. It takes no memory.
+/// Writes the line of a refusal on standard error, such as `snapd: refused 10 Damaged`. Returns
+/// whether the whole line was written. It takes no memory.
 pub fn complain_of_refusal<E: Write>(errors: &mut E, why: Refusal) -> bool
     ensures whole { result ≡ true
         → Appends (E.contents errors.old) (E.contents errors.new) (refused_line why) }
@@ -81,8 +83,8 @@ pub fn complain_of_refusal<E: Write>(errors: &mut E, why: Refusal) -> bool
     }
 }
 
-/// Writes the line of a refusal, and behind it another one, where there was memory for it. Says
-/// whether both were taken whole.
+/// Writes the line of a refusal and then `more`, which is `None` if memory ran out for it. Returns
+/// whether both were written whole.
 pub fn complain_twice<E: Write>(errors: &mut E, why: Refusal, more: Option<String>) -> bool
     ensures says { (line : List ℕ) → IfSome more (λ m. string_bytes m ≡ line)
         → SaysLines (refused_line why ++ line) result (E.contents errors.old)
@@ -98,7 +100,7 @@ pub fn complain_twice<E: Write>(errors: &mut E, why: Refusal, more: Option<Strin
     }
 }
 
-/// The line that standard error gets of a refusal.
+/// The line of a refusal.
 fn line_of(why: Refusal) -> &'static str
     ensures { result.now ≡ refused_line why }
 {

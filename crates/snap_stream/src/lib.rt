@@ -1,10 +1,9 @@
-//! Whole reads and writes of a program's streams.
+//! Reads and writes whole inputs and outputs, and prints why a program stops.
 //!
-//! [`write_whole`] and [`read_up_to`] go on after a call that moved fewer bytes than asked for,
+//! [`write_whole`] and [`read_up_to`] continue after a call that moved fewer bytes than asked for,
 //! and end at the first one that failed. [`complain`], [`complain_of_refusal`] and
-//! [`complain_twice`] say on standard error why a program stops, and a [`Cause`] knows what the
-//! system said of a device that failed. [`TestStream`] is a stream for tests. What is refused is a
-//! [`Refusal`], as the layers below have it.
+//! [`complain_twice`] print on standard error why a program stops. A [`Cause`] knows the system's
+//! reason for a fault of a device. [`TestStream`] is a stream for tests.
 #![tactic(auto)]
 
 mod cause;

@@ -1,22 +1,22 @@
 //! A stream for tests.
 use std::io::{self, Read, Write};
 
-/// A reader and a writer over memory that moves few bytes a call and fails at a chosen place: for
-/// tests of what reads or writes a stream.
+/// A reader and writer in memory that moves few bytes a call and fails at a chosen place.
 #[derive(Drop)]
 pub struct TestStream {
-    /// What is read, or was written.
+    /// The bytes to read, or those that were written.
     pub bytes: Vec<u8>,
-    /// How many bytes have passed.
+    /// How many bytes have been moved.
     pub passed: usize,
-    /// How many bytes may pass. The call behind them fails.
+    /// How many bytes may be moved. The next call after them fails.
     pub passes: usize,
     /// The most bytes that a call moves.
     pub step: usize,
 }
 
 impl TestStream {
-    /// How many bytes the next call moves, of those that there are.
+    /// How many bytes the next call moves, of those available. An error if none may be moved any
+    /// more.
     fn next(&self, there: usize) -> io::Result<usize> {
         let left = self.passes.saturating_sub(self.passed);
         let n = there.min(self.step).min(left);

@@ -1,14 +1,15 @@
-//! Reads and writes that go on until all is done.
+//! Reads and writes that continue until all is done.
 ghost use Rattle.std.specs.Prelude.{◌≡◌, ◌<◌, ◌≤◌, OnOk, OnErr, IfOk, length, take};
 ghost use Rattle.std.specs.Io.KnownBytes.{Appends, Consumes, IsAtEnd};
 ghost use Rattle.snap_stream.specs.Streams.{AppendsBeginning, AppendsLess};
 
 use std::io::{self, ErrorKind, Read, Write};
 
-/// Writes all the bytes, in as few calls as the writer takes. The first call that fails ends it,
-/// and so does one that takes no byte; the writer then holds a beginning of the bytes, and not all.
+/// Writes all the bytes, in as few calls as the writer takes. It ends at the first call that fails
+/// or takes no byte; then a beginning of the bytes was written, and not all.
 ///
-/// A call that a signal interrupts has failed: these programs set no handler, so none is.
+/// A call that a signal interrupts counts as failed: these programs set no signal handler, so none
+/// is interrupted.
 pub fn write_whole<W: Write>(writer: &mut W, bytes: &[u8]) -> io::Result<()>
     ensures whole { OnOk result
         (Appends (W.contents writer.old) (W.contents writer.new) bytes.now) }
@@ -27,7 +28,7 @@ pub fn write_whole<W: Write>(writer: &mut W, bytes: &[u8]) -> io::Result<()>
     Ok(())
 }
 
-/// Reads to the end, or until the buffer is full, and says how many bytes came.
+/// Reads until the end or until the buffer is full, and returns the number of bytes read.
 pub fn read_up_to<R: Read>(reader: &mut R, buffer: &mut [u8]) -> io::Result<usize>
     ensures fits { IfOk result (λ len. len ≤ length buffer.new) }
     ensures came { IfOk result (λ len.

@@ -1,4 +1,4 @@
--- A set that names one more segment.
+-- A set with one more segment.
 use Rattle.std.proofs.Common.{◌≡◌, ◌↔◌, ◌∙◌, ℕ, zero, suc, ◌*◌, ◌%◌, ◌^◌, ◌<◌, List, [], ◌∷◌, ◌++◌, Contains, bit_or, arith, inl, inr, refl, subst, sym, w16}
 use Rattle.std.specs.Int.{bit_at}
 use Rattle.std.proofs.lemmas.Bool.{cases_eq}
@@ -6,20 +6,20 @@ use Rattle.std.proofs.lemmas.List.Elements.{Contains-append_cases, Contains-appe
 use Rattle.std.proofs.lemmas.Nat.Bits.{bit_at-zero, bit_at_set_other, bit_at_set_same}
 use Rattle.snap_frame.specs.Sets.{Names}
 
--- the bits with that of segment s
+-- the bits with that of segment s added
 abbrev pub with : (bits s : ℕ) → ℕ
 with bits s = bit_or bits (1 * 2 ^ s % 2 ^ 16)
 
--- the last of these is one of them
+-- the list with s at its end contains s
 last_one : (xs : List ℕ) (s : ℕ) → Contains (xs ++ s ∷ []) s
 last_one xs s = Contains-append_right xs (s ∷ []) s (0, omega arith, refl)
 
--- a list of one has no other one
+-- a list of one element contains only that
 only_one : (s k : ℕ) → Contains (s ∷ []) k → k ≡ s
 only_one s k (zero, below, is) = sym is
 only_one s k (suc i, below, is) = absurd (omega arith)
 
--- the set of these and one more
+-- the set that names the segments of a list, with one more
 pub names_more : (bits s : ℕ) (xs : List ℕ) → s < 16 → ((k : ℕ) → Names bits k ↔ Contains xs k)
     → (k : ℕ) → Names (with bits s) k ↔ Contains (xs ++ s ∷ []) k
 names_more bits s xs small before k =
@@ -38,7 +38,7 @@ names_more bits s xs small before k =
       )
     ]
 
--- one names a segment, and so it isn't empty
+-- such a set isn't empty
 pub some_named : (bits s : ℕ) → s < 16 → 0 < with bits s
 some_named bits s small =
     elim (cases_eq (with bits s) 0) [

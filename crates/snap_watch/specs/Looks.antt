@@ -1,4 +1,4 @@
--- What a look at a server asks, and what the board is then.
+-- What a poll requests, and the rows that follow.
 use Rattle.std.specs.Prelude.{◌≡◌, ◌⊎◌, ℕ, Bool, false, ◌==◌, ◌&&◌, List, [], ◌∷◌, length, map, slice_get, MatchBool}
 use Rattle.std.specs.Prelude.{Option, Some, None, Result, Ok, Err, IsOkAnd}
 use Rattle.std.specs.Option.{option_map_or}
@@ -22,30 +22,30 @@ use Rattle.snap_watch.specs.declared.row.Row.{Row}
 use Rattle.snap_watch.specs.declared.trouble.Trouble.{Trouble}
 use Rattle.snap_watch.specs.declared.trouble.Trouble.TheVariants as trouble
 
--- segment i is fenced by what was told
+-- segment i is fenced in `statuses`
 abbrev pub fence_of : List SegmentStatus → ℕ → Bool
 fence_of statuses i = option_map_or (λ (s : SegmentStatus). s.is_fenced) (slice_get statuses i) false
 
--- how many segments are watched: as many as the server has, or those of the set
+-- the number of watched segments: all of the server's, or those of the set
 abbrev pub wanted : Option SegmentSet → List SegmentStatus → ℕ
 wanted None statuses = length statuses
 wanted (Some set) statuses = size set.bits
 
--- the row has the number that was told of its segment
+-- the row has its segment's number in `statuses`
 abbrev pub is_as_told : List SegmentStatus → Row → Bool
 is_as_told statuses row =
     option_map_or (λ (s : SegmentStatus). s.number == row.number) (slice_get statuses row.segment) false
 
--- No number has moved: each segment that is watched has a row, and each row has the number that was told.
+-- No number has changed: each watched segment has a row, with the number in `statuses`.
 abbrev pub is_settled : Option SegmentSet → List Row → List SegmentStatus → Bool
 is_settled watched shown statuses =
     length shown == wanted watched statuses && list_all (is_as_told statuses) shown
 
--- the row with the fence that was told
+-- the row with its segment's fence in `statuses`
 abbrev pub refenced : List SegmentStatus → Row → Row
 refenced statuses row = record row { is_fenced = fence_of statuses row.segment }
 
--- the row of segment i, with this number and value and the fence that was told
+-- the row of segment i, with this number and value, and its fence in `statuses`
 abbrev pub row_of : List SegmentStatus → (i k : ℕ) → List ℕ → Row
 row_of statuses i k bytes = record {
   segment = i;
@@ -54,24 +54,24 @@ row_of statuses i k bytes = record {
   value = bytes;
 }
 
--- of the entry at place i of a snapshot, which is segment i's
+-- the row of the entry at place i of a snapshot
 abbrev pub value_rows : List SegmentStatus → ℕ → SegmentValue → List Row
 value_rows statuses i v = row_of statuses i v.number v.value ∷ []
 
--- of an entry that names its segment
+-- the row of an entry that names its segment
 abbrev pub named_row : List SegmentStatus → NamedValue → Row
 named_row statuses v = row_of statuses v.segment v.number v.value
 
--- what asks for the values of all segments, or of those of the set
+-- the request for the values of all segments, or of those in the set
 abbrev pub values_request : Option SegmentSet → Request
 values_request None = Scan
 values_request (Some set) = Part set
 
--- these are the rows, or memory was wanting for them
+-- these are the rows, or memory ran out for them
 abbrev pub GivesRows : List Row → Result (Vec Row Global) Trouble → Type 0
 GivesRows rows result = (result ≡ Err (trouble.Lost NoMemory)) ⊎ IsOkAnd result (λ given. given.items ≡ rows)
 
--- what follows the answer to a request for the values
+-- the rows by the answer to the request for the values
 abbrev pub GivesAnswered : List SegmentStatus → Result Reply ClientFault
     → Result (Vec Row Global) Trouble → Type 0
 GivesAnswered statuses (Ok (reply.Snapshot values)) result =
@@ -83,8 +83,8 @@ GivesAnswered statuses (Ok (reply.Refused why detail)) result =
 GivesAnswered statuses (Ok other) result = result ≡ Err (trouble.Lost BadReply)
 GivesAnswered statuses (Err fault) result = result ≡ Err (trouble.Lost fault)
 
--- What follows the answer to a request for the numbers. Where none has moved nothing more is asked; else the
--- values are.
+-- What follows the answer to the request for the numbers. If none has changed, nothing more is
+-- requested; else the values are.
 abbrev pub GoesOn : {R W : Type 0} → (R → Option (List ℕ)) → (W → Option (List ℕ))
     → Option SegmentSet → List Row → Result Reply ClientFault → ClientState R W
     → Result (Vec Row Global) Trouble → ClientState R W → Type 0
@@ -101,7 +101,7 @@ GoesOn remaining contents watched shown (Ok other) mid result new =
 GoesOn remaining contents watched shown (Err fault) mid result new =
     (new ≡ mid) × (result ≡ Err (trouble.Lost fault))
 
--- A look asks for the numbers, and goes on by their answer.
+-- A poll requests the numbers, and continues with their answer.
 abbrev pub Looks : {R W : Type 0} → (R → Option (List ℕ)) → (W → Option (List ℕ))
     → Option SegmentSet → List Row → ClientState R W → Result (Vec Row Global) Trouble
     → ClientState R W → Type 0

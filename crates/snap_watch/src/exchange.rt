@@ -1,4 +1,4 @@
-//! One look at a server.
+//! One poll of a server.
 ghost use Rattle.std.specs.Prelude.{◌≡◌, ◌<◌, IfSome};
 ghost use Rattle.std.specs.List.{list_all};
 ghost use Rattle.snap_client.specs.Calls.{Calls};
@@ -14,12 +14,13 @@ use snap_scan::SegmentSet;
 use std::alloc::Global;
 use std::io::{Read, Write};
 
-/// Looks at a server on its connection, and gives the rows of the segments that are watched, in order: all where
-/// `watched` is `None`. `shown` are the rows that the last look gave, or none.
+/// Polls a server on its connection, and returns the rows of the watched segments in order: of all
+/// segments if `watched` is `None`. `shown` are the rows that the last poll returned, or none.
 ///
-/// It asks for the numbers and fences, and for the values only where a number isn't the one that is shown: so
-/// the values are those of one moment. The fences are those of the moment before. After
-/// [`Trouble::Lost`] the client has failed, but for want of memory behind its answer.
+/// It asks for the numbers and fences, and for the values only if some number differs from the one
+/// in `shown`. Then all numbers and values are of one moment, and the fences are of the moment
+/// before. After [`Trouble::Lost`] the client can't be used again, except if memory ran out after
+/// its answer.
 pub fn look<R: Read, W: Write>(
     alloc: Global,
     client: &mut Client<R, W>,
@@ -33,7 +34,7 @@ pub fn look<R: Read, W: Write>(
     go_on(alloc, client, watched, shown, told)
 }
 
-/// Goes on by the answer to a request for the numbers.
+/// Continues with the answer to the request for the numbers.
 fn go_on<R: Read, W: Write>(
     alloc: Global,
     client: &mut Client<R, W>,
@@ -58,21 +59,21 @@ fn go_on<R: Read, W: Write>(
     }
 }
 
-/// No number has moved.
+/// Whether every watched segment has a row, with the number in `statuses`.
 fn is_settled(watched: Option<SegmentSet>, shown: &[Row], statuses: &[SegmentStatus]) -> bool
     ensures { result ≡ is_settled watched shown.now statuses.now }
 {
     shown.len() == wanted(watched, statuses) && are_as_told(statuses, shown)
 }
 
-/// Each row has the number that was told of its segment.
+/// Whether each row has the number in `statuses`.
 fn are_as_told(statuses: &[SegmentStatus], rows: &[Row]) -> bool
     ensures { result ≡ list_all (is_as_told statuses.now) rows.now }
 {
     rows.iter().all(|row| is_as_told(statuses, row))
 }
 
-/// How many segments are watched.
+/// The number of watched segments.
 fn wanted(watched: Option<SegmentSet>, statuses: &[SegmentStatus]) -> usize
     ensures { result ≡ wanted watched statuses.now }
 {
@@ -82,7 +83,7 @@ fn wanted(watched: Option<SegmentSet>, statuses: &[SegmentStatus]) -> usize
     }
 }
 
-/// The row has the number that was told of its segment.
+/// Whether the row has its segment's number in `statuses`.
 fn is_as_told(statuses: &[SegmentStatus], row: &Row) -> bool
     ensures { result ≡ is_as_told statuses.now row.now }
 {
@@ -92,7 +93,7 @@ fn is_as_told(statuses: &[SegmentStatus], row: &Row) -> bool
     }
 }
 
-/// Asks for the values that are watched.
+/// Requests the values of the watched segments.
 fn ask_values<R: Read, W: Write>(
     client: &mut Client<R, W>,
     watched: Option<SegmentSet>,
@@ -106,7 +107,7 @@ fn ask_values<R: Read, W: Write>(
     }
 }
 
-/// The rows by the answer to a request for the values.
+/// The rows of an answer to the request for the values.
 fn rows_by(
     alloc: Global,
     statuses: &[SegmentStatus],

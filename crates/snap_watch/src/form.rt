@@ -1,10 +1,10 @@
-//! How changes are printed.
+//! The formats in which changes are printed.
 
-/// How the rows of a board are printed, one a line.
+/// The format in which a board's rows are printed, one a line.
 #[derive(Clone, Copy, Debug, PartialEq, Eq)]
 pub enum Form {
-    /// In words, with each value as quoted text where it is printable.
+    /// As `segment I number K ..`, with each value as quoted text if it is printable.
     Lines,
-    /// As a JSON object each.
+    /// As one JSON object each.
     Objects,
 }

@@ -1,10 +1,10 @@
-//! A board: what a running server holds, and each change of it.
+//! The board of `snapd watch`: polls a running server and prints each change of a segment.
 //!
-//! [`look`] asks a server over any connection: for the numbers and fences of its segments, and for their values
-//! only where a number has moved. [`changes`] is what is printed of the rows that are other ones than those
-//! that were shown. In a terminal [`drawing`] draws all rows, with what was seen of them before ([`followed`]).
-//! When to look, and where it is printed, is for the caller. `specs/Looks.antt` says what is asked and what the
-//! board is then. No clause says what is printed of it: docs/FORMATS.md does, and the tests.
+//! [`look`] polls a server over any connection: it asks for the numbers and fences of its segments,
+//! and for their values only if a number has changed. [`changes`] is the text of the rows that
+//! differ from those shown before. In a terminal [`drawing`] draws all rows, with the age and rate
+//! of each ([`followed`]). The caller decides when to poll and where to print. `specs/Looks.antt`
+//! says what is requested and which rows follow. docs/FORMATS.md has the texts, which only tests check.
 #![tactic(auto)]
 
 mod exchange;

@@ -1,11 +1,11 @@
-//! A row as a JSON object.
+//! Rows as JSON objects.
 
 use crate::row::Row;
 use base64::engine::general_purpose::STANDARD;
 use json::Writer;
 use std::alloc::{AllocError, Global};
 
-/// Appends the object of a row's segment, and a line feed.
+/// Appends the object of a row, and a line feed.
 pub(crate) fn append_object(
     alloc: Global,
     text: Vec<u8>,
@@ -18,7 +18,7 @@ pub(crate) fn append_object(
     Ok(whole)
 }
 
-/// Writes the object of a row's segment.
+/// Writes the object of a row.
 fn put_row(alloc: Global, writer: &mut Writer, row: &Row) -> Result<(), AllocError> {
     writer.begin_object()?;
     writer.key("segment")?;
@@ -31,7 +31,7 @@ fn put_row(alloc: Global, writer: &mut Writer, row: &Row) -> Result<(), AllocErr
     writer.end_object()
 }
 
-/// Writes bytes as text where they are UTF-8, and else in base64.
+/// Writes bytes as text if they are UTF-8, and else in base64.
 fn put_bytes(alloc: Global, writer: &mut Writer, bytes: &[u8]) -> Result<(), AllocError> {
     match str::from_utf8(bytes) {
         Ok(text) => {

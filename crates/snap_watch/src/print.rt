@@ -1,4 +1,4 @@
-//! What is printed of the rows of a board.
+//! The text of the rows that changed.
 
 use crate::form::Form;
 use crate::member::append_object;
@@ -8,8 +8,8 @@ use snap_hex::put_hex;
 use snap_json::quote;
 use std::alloc::{AllocError, Global};
 
-/// What is printed where these rows come after those that were shown: a line for each row whose segment wasn't
-/// shown with that number and that fence, in order, and nothing of the others.
+/// The text of the changes between the rows that were shown and these: a line for each row whose
+/// segment wasn't shown with that number and that fence, in order.
 pub fn changes(
     alloc: Global,
     form: Form,
@@ -57,7 +57,7 @@ fn put_line(alloc: Global, out: &mut Vec<u8>, row: &Row) -> Result<(), AllocErro
     out.extend_from_slice(b"\n")
 }
 
-/// Appends what a line says of a value.
+/// Appends a value: as quoted text if it is printable, and else in hexadecimal digits.
 fn put_value(alloc: Global, out: &mut Vec<u8>, value: &[u8]) -> Result<(), AllocError> {
     if let Some(text) = quote(alloc, value)? {
         out.extend_from_slice(b" text ")?;

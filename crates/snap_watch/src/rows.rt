@@ -1,4 +1,4 @@
-//! The rows of a board, by what was told.
+//! Makes rows of the server's replies.
 ghost use Rattle.std.specs.Prelude.{◌≡◌, IfOk, map};
 ghost use Rattle.snap_json.specs.Each.{each_from};
 ghost use Rattle.snap_watch.specs.Looks.{fence_of, named_row, refenced, value_rows};
@@ -7,7 +7,7 @@ use crate::row::Row;
 use snap_frame::{NamedValue, SegmentStatus, SegmentValue};
 use std::alloc::{AllocError, Global};
 
-/// Whether the segment is fenced by what was told.
+/// Whether the segment is fenced in `statuses`.
 fn fence_of(statuses: &[SegmentStatus], segment: usize) -> bool
     ensures { result ≡ fence_of statuses.now segment }
 {
@@ -17,7 +17,7 @@ fn fence_of(statuses: &[SegmentStatus], segment: usize) -> bool
     }
 }
 
-/// The same rows with the fences that were told.
+/// The rows in `shown`, with the fences in `statuses`.
 pub(crate) fn refenced(
     alloc: Global,
     shown: &[Row],
@@ -37,7 +37,7 @@ pub(crate) fn refenced(
     Ok(rows)
 }
 
-/// The rows of all segments, by their values and the fences that were told.
+/// The rows of all segments, with the fences in `statuses`.
 pub(crate) fn rows_of_all(
     alloc: Global,
     values: &[SegmentValue],
@@ -58,7 +58,7 @@ pub(crate) fn rows_of_all(
     Ok(rows)
 }
 
-/// The rows of some segments, by their values and the fences that were told.
+/// The rows of some segments, with the fences in `statuses`.
 pub(crate) fn rows_of_some(
     alloc: Global,
     values: &[NamedValue],

@@ -1,10 +1,11 @@
-//! The segments that are watched, as a set.
+//! The watched segments as a set.
 ghost use Rattle.std.specs.Prelude.{◌≡◌, ◌↔◌, ◌<◌, ℕ, All, Contains, IfSome, IsNone, [], MatchOption};
 ghost use Rattle.snap_frame.specs.Sets.{Names};
 
 use snap_scan::SegmentSet;
 
-/// The set of these segments, each below 16. `None` where there are none, which stands for all of a server's.
+/// The set of these segments, each less than 16. `None` if there are none, which means all segments
+/// of the server.
 pub fn set_of(segments: &[u8]) -> Option<SegmentSet>
     requires below { All (λ s. s < 16) segments.now }
     ensures none { IsNone result ↔ (segments.now ≡ []) }

@@ -1,4 +1,4 @@
-//! A board in a terminal.
+//! The board in a terminal.
 
 use crate::row::Row;
 use crate::track::Track;
@@ -6,16 +6,17 @@ use snap_hex::put_hex;
 use snap_json::quote;
 use std::alloc::{AllocError, Global};
 
-/// How many lines stand above the rows: whose board it is, and what the columns are.
+/// How many lines are above the rows: the title and the names of the columns.
 const HEAD: usize = 2;
 
-/// The most bytes of a value's text that are drawn. No terminal is so wide.
+/// The most bytes of a value's text that are drawn. No terminal is that wide.
 const MOST: usize = 1_000;
 
-/// Ends a line: what stood behind it is erased, and the cursor goes to the next one, or stays where there is none.
+/// Ends a line: erases the rest of it, and moves the cursor to the start of the next one, or leaves
+/// it where it is on the last.
 const END: &str = "\x1b[K\r\x1b[B";
 
-/// What stands above each column.
+/// The names of the columns.
 const COLUMNS: &str = "segment      number   age    rate  state   value";
 
 const BOLD: &str = "\x1b[1m";
@@ -24,16 +25,16 @@ const RED: &str = "\x1b[31m";
 
 const PLAIN: &str = "\x1b[0m";
 
-/// What a board in a terminal shows.
+/// The contents of a board in a terminal.
 #[derive(Clone, Copy, Debug)]
 pub struct Panel<'a> {
     /// The server's address.
     pub address: &'a str,
-    /// Why it shows what was true before. `None` while the server answers.
+    /// Why the server doesn't answer, so that the rows are outdated. `None` while it answers.
     pub loss: Option<&'a str>,
-    /// The segments as they were told last.
+    /// The segments at the last poll that was answered.
     pub rows: &'a [Row],
-    /// What was seen of each of them before, in the same order.
+    /// The age and rate of each segment, in the same order.
     pub tracks: &'a [Track],
     /// The time in milliseconds since the watch began.
     pub now: u64,
@@ -42,19 +43,20 @@ pub struct Panel<'a> {
 }
 
 impl Panel<'_> {
-    /// How many lines it has.
+    /// The number of its lines.
     pub fn len(&self) -> usize {
         self.rows.len().saturating_add(HEAD)
     }
 }
 
-/// What draws the board in a terminal, in the place of the lines above the cursor, of which there are so many.
-/// The cursor stands at the beginning of the line below the board then.
+/// The text that draws the board in a terminal, over the `above` lines above the cursor. Afterwards
+/// the cursor is at the start of the line below the board.
 ///
-/// The terminal cuts it: a line at its width, of which the last column stays empty, and the board at its height,
-/// of which the last line stays the cursor's. So it needs no size, and is right in any. But for the room that the
-/// first drawing makes it scrolls nothing. The cursor is hidden meanwhile, and all is as it was at its end: so it
-/// is to be written whole. A terminal gets no control character of a value.
+/// The terminal clips it: each line at its width, of which the last column stays empty, and the
+/// board at its height, of which the last line is left to the cursor. So it fits any size without
+/// knowing it. Nothing scrolls, except to make room for the first drawing. The text hides the
+/// cursor and turns line wrap off, and its end restores both, so it has to be written whole. It has
+/// no control character of a value.
 pub fn drawing(alloc: Global, above: usize, panel: &Panel<'_>) -> Result<String, AllocError> {
     let len = panel.len();
     let up = above.max(len);
@@ -73,7 +75,7 @@ pub fn drawing(alloc: Global, above: usize, panel: &Panel<'_>) -> Result<String,
     Ok(text)
 }
 
-/// Appends the line that says which server it is, and whether it answers.
+/// Appends the title: the server's address, and whether it answers.
 fn put_title(text: &mut String, panel: &Panel<'_>) -> Result<(), AllocError> {
     for letter in panel.address.chars() {
         if !letter.is_control() {
@@ -126,7 +128,7 @@ fn cell(alloc: Global, value: &[u8]) -> Result<Vec<u8>, AllocError> {
     Ok(digits)
 }
 
-/// A number of seconds, in the unit that fits it.
+/// A number of seconds in the largest unit that it fills, or `-`.
 fn age_text(alloc: Global, age: Option<u64>) -> Result<String, AllocError> {
     let Some(seconds) = age else {
         return String::from_str(alloc, "-");
@@ -143,7 +145,7 @@ fn age_text(alloc: Global, age: Option<u64>) -> Result<String, AllocError> {
     }
 }
 
-/// A number of tenths.
+/// A number of tenths as a decimal number, or `-`.
 fn rate_text(alloc: Global, rate: Option<u64>) -> Result<String, AllocError> {
     let Some(rate) = rate else {
         return String::from_str(alloc, "-");
@@ -152,7 +154,7 @@ fn rate_text(alloc: Global, rate: Option<u64>) -> Result<String, AllocError> {
     format!(in alloc; "{whole}.{tenths}")
 }
 
-/// Appends these words, in this colour where there are any.
+/// Appends these words, in this colour if the board has colours.
 fn put_painted(
     text: &mut String,
     is_coloured: bool,

@@ -1,33 +1,33 @@
-//! What a watch has seen of the numbers of its segments.
+//! The age and rate of each segment, from the numbers that a watch has seen.
 
 use crate::row::Row;
 use std::alloc::{AllocError, Global};
 
-/// A rate is of at least so long a time, once so much has passed, in milliseconds.
+/// The least time over which a rate is taken, once that much has passed, in milliseconds.
 const SPAN: u64 = 5_000;
 
-/// A number, and when it was seen, in milliseconds since the watch began.
+/// A number that was seen, and when, in milliseconds since the watch began.
 #[derive(Clone, Copy, Debug, PartialEq, Eq)]
 struct Sight {
     at: u64,
     number: u64,
 }
 
-/// What a watch has seen of one segment's number.
+/// The history of one segment's number, as far as its age and rate need it.
 #[derive(Clone, Copy, Debug, PartialEq, Eq)]
 pub struct Track {
     segment: usize,
-    /// When it was seen to be another one than before, the last time. `None` where it never was.
+    /// When the number was last seen to change. `None` if it never was.
     changed: Option<u64>,
     last: Sight,
-    /// What comes in the place of `begin` once it is as old as [`SPAN`].
+    /// Takes the place of `begin` once it is [`SPAN`] old.
     middle: Sight,
-    /// Where the time of the rate begins.
+    /// The beginning of the time over which the rate is taken.
     begin: Sight,
 }
 
 impl Track {
-    /// The track of a segment that is seen for the first time.
+    /// The track of a segment that was seen for the first time.
     fn new(row: &Row, at: u64) -> Track {
         let sight = Sight {
             at,
@@ -42,7 +42,8 @@ impl Track {
         }
     }
 
-    /// The track once the segment was seen again. A number below the last one is another server's.
+    /// The track after the segment was seen again. A number less than the last one means another
+    /// server, and so a new rate.
     fn after(&self, row: &Row, at: u64) -> Track {
         let mut next = Track::new(row, at);
         next.changed = if row.number == self.last.number {
@@ -62,12 +63,12 @@ impl Track {
         next
     }
 
-    /// How many seconds ago the number was seen to change. `None` where it never was.
+    /// How many seconds ago the number was seen to change. `None` if it never was.
     pub(crate) fn age(&self, now: u64) -> Option<u64> {
         Some(now.saturating_sub(self.changed?) / 1_000)
     }
 
-    /// How many updates a second there were lately, in tenths. `None` where no time has passed.
+    /// The recent rate of updates, in tenths of an update a second. `None` if no time has passed.
     pub(crate) fn rate(&self) -> Option<u64> {
         let time = self.last.at.saturating_sub(self.begin.at);
         if time == 0 {
@@ -78,8 +79,8 @@ impl Track {
     }
 }
 
-/// The tracks once these rows were seen, one for each and in their order. `at` is the time in milliseconds since
-/// the watch began.
+/// The tracks after these rows were seen, one for each row in the same order. `at` is the time in
+/// milliseconds since the watch began.
 pub fn followed(
     alloc: Global,
     tracks: &[Track],

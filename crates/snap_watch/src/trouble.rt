@@ -1,14 +1,14 @@
-//! Why a look gives no rows.
+//! Reasons why a poll returns no rows.
 use snap_client::ClientFault;
 use snap_disk::Refusal;
 use std::alloc::AllocError;
 
-/// Why a look gives no rows.
+/// The reason why a poll returned no rows.
 #[derive(Clone, Copy, Debug, PartialEq, Eq)]
 pub enum Trouble {
-    /// The server refused what it was asked.
+    /// The server refused a request.
     Refused { why: Refusal, detail: u64 },
-    /// It gave no answer, and the connection is of no use any more; or memory was wanting.
+    /// The server gave no valid answer, and the connection can't be used again; or memory ran out.
     Lost(ClientFault),
 }
 

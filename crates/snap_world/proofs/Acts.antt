@@ -1,4 +1,4 @@
--- What writers and scanners do, and each as an event.
+-- The acts of writers and scanners, each as an event.
 use Rattle.std.proofs.Common.{ℕ, Vec, Global}
 use Rattle.snap_scan.specs.declared.set.SegmentSet.{SegmentSet}
 use Rattle.snap_world.specs.declared.event.Actor.{Actor}

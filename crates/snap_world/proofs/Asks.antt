@@ -1,4 +1,4 @@
--- What a scanner is asked for, and the reply.
+-- The segments that a scanner is asked for, and the reply.
 use Rattle.std.proofs.Common.{◌≡◌, ℕ, suc, ◌^◌, ◌<◌, ◌≤◌, List, [], ◌∷◌, length, map, take, Some, slice_get, refl, ap, sym, ◌∙◌, subst}
 use Rattle.std.proofs.Common.{arith}
 use Rattle.std.proofs.Math.Nat.{pow-le-pow_right}
@@ -22,7 +22,7 @@ use Rattle.snap_world.specs.declared.scanner.Asked.TheVariants.{All, Only}
 use Rattle.snap_world.specs.declared.scanner.ScannerPhase.TheVariants as scanner
 use Rattle.snap_world.proofs.Moves.{whole}
 
--- what is asked for names a segment, and none that isn't there
+-- a scan names at least one segment, and only existing ones
 pub all_some : (n : ℕ) → 0 < n → 0 < all_of n
 all_some n pos = let more = pow_below 0 n pos in omega arith
 
@@ -62,7 +62,7 @@ module _ (n : ℕ) (x : State) (i : ℕ) where
   asked_moves All p q e = ap up e
   asked_moves (Only set) p q e = ap up e
 
-  -- the entries of what was seen are those of the moment
+  -- the entries of the memory are those of the moment
   entries : (set : ℕ) (memory : List (List ℕ)) (p : ℕ) → IsSeen set x.history memory p
       → map (entry_in memory) (named set) ≡ part_at set x.history p
   entries set memory p seen = same (named set) (λ place j at.
@@ -116,7 +116,7 @@ answer_came asked memory reply is e = none asked (subst (IsReplyOf asked memory)
     none All is = is
     none (Only set) is = is
 
--- each segment of an answer's set is there
+-- each segment of an answer's set exists
 pub seen_within : (n : ℕ) (h : List Update) (scan : ScanState) (memory : List (List ℕ))
     (asked : Asked)
     → IsAnswer (set_of n asked) h scan (IsSeen (set_of n asked) h memory)

@@ -23,7 +23,7 @@ left_from : (calls : List NextCall) (call : NextCall) → first_call calls ≡ c
 left_from [] call e ne = absurd (ne (sym e))
 left_from (c ∷ rest) call e ne = (rest, ap (λ z. z ∷ rest) e)
 
--- which call failed
+-- the call that failed
 pub call_missed : (at : Stage) (call : NextCall) (slot : ℕ) (fill : Fill) (d e : Device)
     → first_call (calls_left at) ≡ call → (call ≡ next.Done → ⊥) → IsMissed slot fill call d e
     → (call : NextCall) × (rest : List NextCall) × (calls_left at ≡ call ∷ rest)
@@ -111,7 +111,7 @@ module _ (i n k : ℕ) (u v : List ℕ) (small : k + 1 < 2 ^ 63) (fits : length 
     stage = first;
   }
 
--- a store under way of which no call is left is stored
+-- a current store without a call left is stored
 pub going_done : (at : Stage) → calls_left at ≢ []
     → first_call (calls_left (after_call at)) ≡ next.Done → after_call at ≡ stage.Stored
 going_done stage.Opening going done = refl

@@ -75,7 +75,7 @@ module _ (n : ℕ) (h : List Update) (g i : ℕ) (a : Writer) (s : WriterState) 
       inl (at_rest_leaves i n k u drive.spare_open d drive.rest b left)
   phase_leaves writer.Fenced at drive b left = begun_either at.0 at.1 b (drive at.0 at.1 b left)
 
--- what a crash leaves of each device: the same again after the crash
+-- what a crash leaves of each device: the same holds after the crash
 abbrev Leaves : ℕ → List Update → List WriterState → List Drive → Type 0
 Leaves n h ss ds =
     (i : ℕ) (d : Drive) (s : WriterState) → slice_get ds i ≡ Some d → slice_get ss i ≡ Some s
@@ -134,7 +134,7 @@ crashed_drives n h ss ds es fills size left crash i e t ee et b may =
     s.2
     (left i d.0 s.0 d.1 s.1 b (unsynced_leaves here.left b may))
 
--- the sizes of actors, and how many they are
+-- the sizes and the number of actors
 pub record IsSized (w : Actors) (x : State) : Type 0 where
   pub least : 0 < w.segments
   pub most : w.segments ≤ 16

@@ -44,7 +44,7 @@ device_changes ds i d e there R change = record {
 abbrev pub SameBut : {A : Type 0} → ℕ → List A → List A → Type 0
 SameBut i xs ys = (j : ℕ) → j ≢ i → slice_get ys j ≡ slice_get xs j
 
--- one segment's part changes, and the number and value of no other one
+-- one segment's part changes, and the number and value of no other segment
 pub drives_change : (n : ℕ) (h g : List Update) (ss ts : List WriterState)
     (ps qs : List WriterPhase) (ds es : List Drive) (i : ℕ)
     → SameBut i ss ts → SameBut i ps qs → SameBut i ds es
@@ -115,7 +115,7 @@ module _ (n : ℕ) (h : List Update) (ss : List WriterState) (ps : List WriterPh
       (λ d ph ed ep. subst (λ z. DriveStands n h w z s.pending d) (set_is ps w phase ph ep)
       (here d ed))
 
-  -- a writer's embedded scan was told a number more
+  -- a writer's embedded scan has read one more number
   writer_told : (w : ℕ) (s t : WriterState) → slice_get ss w ≡ Some s → s.pending ≡ t.pending
       → DrivesStand n h (slice_set ss w t) ps ds
   writer_told w s t es same = part_changes h w t ps (λ j ne. refl) (nothing_grows h w)
@@ -145,7 +145,7 @@ module _ (n : ℕ) (h : List Update) (ss : List WriterState) (ps : List WriterPh
       subst (λ z. DriveStands n (h ++ u ∷ []) w z t.pending d)
       (set_is ps w writer.Shown ph eq) now))
 
--- after a look the phases are as they were, or those of the store that begins
+-- after a look the phases are unchanged, or the writer's store begins
 look_follows : (n : ℕ) (h : List Update) (ss : List WriterState) (p q : Phases) (ds : List Drive)
     (stand : DrivesStand n h ss p.writers ds) (w : ℕ) (s t : WriterState)
     → slice_get ss w ≡ Some s → slice_get p.writers w ≡ Some writer.Scanning → s.pending ≡ t.pending

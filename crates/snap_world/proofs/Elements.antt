@@ -1,4 +1,5 @@
--- Elements of a list: of one that was written, of one that a function made, of one with a partner at each place.
+-- Elements of a list: of one that was written, of one that a function made, of one with a partner
+-- at each place.
 use Rattle.std.proofs.Common.{◌≡◌, ◌≢◌, ℕ, zero, suc, ◌<◌, List, [], ◌∷◌, length, map, get_or, replicate, Some, slice_get, slice_set, refl}
 use Rattle.std.proofs.Common.{ap, sym, ◌∙◌, subst, arith}
 use Rattle.std.specs.Prelude.{option_map}
@@ -7,7 +8,7 @@ use Rattle.std.proofs.lemmas.Option.{slice_get-map, slice_get_read, slice_get_wi
 use Rattle.snap_history.specs.Pairs.{Pairs}
 use Rattle.snap_history.proofs.Pairs.{element}
 
--- what holds of the element that was written and of each other one holds of each
+-- what holds for the element that was written and for all others holds for each element
 pub each-set : {A : Type 0} (P : ℕ → A → Type 0) (xs : List A) (i : ℕ) (x : A) → P i x
     → ((j : ℕ) (y : A) → j ≢ i → slice_get xs j ≡ Some y → P j y)
     → (j : ℕ) (y : A) → slice_get (slice_set xs i x) j ≡ Some y → P j y
@@ -45,7 +46,7 @@ pub map_at : {A B : Type 0} (f : A → B) (xs : List A) (i : ℕ) (a : A) → sl
     → slice_get (map f xs) i ≡ Some (f a)
 map_at f xs i a there = slice_get-map f xs i ∙ ap (option_map f) there
 
--- of a list that has an element at this place: an element that was read, and what it is mapped to
+-- in a mapped list with an element at this place: an element that was read, and its image
 module _ {A B : Type 0} (f : A → B) (xs : List A) (i : ℕ) (b : B)
     (is : slice_get (map f xs) i ≡ Some b) where
   pub map_within : i < length xs
@@ -56,7 +57,7 @@ module _ {A B : Type 0} (f : A → B) (xs : List A) (i : ℕ) (b : B)
       let there = slice_get_read xs (length xs) i a refl map_within read in
       (there, same_Some _ _ (sym (map_at f xs i a there) ∙ is))
 
--- two lists that a function maps to the same, and one that it maps to one value
+-- two lists that a function maps to one list, and one that it maps to one value
 pub map_same : {A B : Type 0} (f : A → B) (xs ys : List A) → length xs ≡ length ys
     → ((i : ℕ) (a b : A) → slice_get xs i ≡ Some a → slice_get ys i ≡ Some b → f a ≡ f b)
     → map f xs ≡ map f ys
@@ -79,7 +80,7 @@ all_same f v (x ∷ xs) (suc n) size each =
     let rest : map f xs ≡ replicate n v = all_same f v xs n (omega arith) (λ i y. each (suc i) y) in
     cc
 
--- the element that one of the second list is paired with
+-- the element that an element of the second list is paired with
 pub origin : {A B : Type 0} {R : ℕ → A → B → Type 0} {xs : List A} {ys : List B} (i : ℕ) (b : B)
     → Pairs R xs ys → slice_get ys i ≡ Some b → (a : A) × (slice_get xs i ≡ Some a) × R i a b
 origin {xs = xs} {ys = ys} i b p e =

@@ -57,7 +57,7 @@ same_phases p q node actors calls =
     ap (λ a. Made a q.actors q.calls) node ∙ ap (λ b. Made p.node b q.calls) actors
     ∙ ap (λ c. Made p.node p.actors c) calls
 
--- what is left of phases: those of writers and scanners
+-- equal phases of a node have equal phases of writers and scanners
 from_up : {p q : Phases} → up q ≡ up p → q ≡ p
 from_up e = ap (λ (r : WorldPhases). r.actors) e
 
@@ -144,7 +144,7 @@ acts w actors event reply a is running s =
       unchanged = λ e. ap (with_actors w) (s.unchanged e);
     })
 
--- so it is where memory may have run out
+-- `acts`, also if memory may have run out
 pub acts_or_fails : (w : Node) (actors : Actors) (event : Event) (result : Result Reply AllocError)
     (a : Act) → event ≡ event_of a → w.phase ≡ Up
     → IfOk result (λ reply. IsActorsStep w.actors (event_of a) reply actors)

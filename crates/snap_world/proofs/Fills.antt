@@ -20,7 +20,7 @@ use Rattle.snap_world.specs.declared.drive.Drive.{Drive}
 use Rattle.snap_world.specs.declared.world.World.{World}
 use Rattle.snap_world.proofs.Elements.{map_element, each-set}
 
--- each of them is short enough for an index
+-- each device is short enough for an index
 abbrev pub AllSmall : List Device → Type 0
 AllSmall devices = (i : ℕ) (d : Device) → slice_get devices i ≡ Some d → length d.bytes < 2 ^ 63
 
@@ -72,7 +72,7 @@ crash_of devices few small left may =
     let size : length f.0 ≡ length devices = f.1 in
     record { fills = vec_of f.0 (omega (arith, size, few)); one_each = f.1; filled = f.2 }
 
--- of a device that is written, what a crash inside the write leaves is left by one right after it
+-- whatever a crash inside a write leaves of a device, one right after the write leaves
 inside : (at n : ℕ) (old new left : Device) → IsTouched at n old new
     → IsUnsynced (opened at n old) left → IsUnsynced new left
 inside at n old new left touched is = record {
@@ -138,7 +138,7 @@ fault_of devices small = record {
   sync = λ w old new there is. refilled old new (small w old there) is;
 }
 
--- the devices of a world are so, since each is an image in memory
+-- the devices of a world are short enough, since each is an image in memory
 
 small_of : (drives : List Drive) → AllSmall (map device_of drives)
 small_of drives i device there =
@@ -173,5 +173,5 @@ crash_inside_any_write_of w =
 pub any_fault_of : (w : World) → AnyFault (devices_of w)
 any_fault_of w = fault_of (devices_of w) (small_of w.node.drives.items)
 
--- the three, for `World::run`
+-- the three clauses of `World::run`
 pub ruleset no_bytes_left_out = (any_crash_of, crash_inside_any_write_of, any_fault_of)

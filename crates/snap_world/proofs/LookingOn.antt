@@ -28,7 +28,7 @@ use Rattle.snap_world.proofs.Moves.{WriterFound, ScannerFound, the_writer, the_s
 use Rattle.snap_world.proofs.PhaseMoves.{writer_read, scanner_read, scanner_there, with_actors_writer, with_actors_scanner}
 use Rattle.snap_world.proofs.PhaseMoves.{writer_moved, writer_kept, scanner_moved, scanner_kept, came}
 
--- the registers and the collector stand for a state and a scan, which has a look to make
+-- the registers and the collector represent a state and a scan, which has a look to make
 abbrev LooksNext : List Register → Collector → Type 0
 LooksNext rs c = (n set : ℕ) × (x : State) × (g : ℕ) × (s : ScanState) × (g ≤ s.start)
     × RegistersStand n x g rs × Gathers n set x.history s c × IsUnderWay c
@@ -39,7 +39,7 @@ can_look rs c is = (
   ∥∥₁_map is (λ q. (q.0, q.1, q.2, q.3, q.4, q.5, q.6, q.7)),
 )
 
--- behind a look the scan has a further one to make, and its owner stays in phase p, or it has its
+-- after a look the scan has a further one to make, and its owner stays in phase p, or it has its
 -- answer, and the owner is in phase r
 abbrev pub Ends : {P : Type 0} → Collector → P → P → P → Type 0
 Ends c p r q = (IsUnderWay c × (q ≡ p))
@@ -76,7 +76,7 @@ module _ {n set k : ℕ} {x : State} {s t : ScanState} {c : Collector} (look : I
 module _ (w : Actors) (i : ℕ) (is : WriterIs (phases_of_actors w) i writer.Scanning) (old : Writer)
     (read : old ≡ get_or w.writers.items i old) where
   module _ (x : State) (stands : ActorsStand w x) where
-    -- what the embedded scan looks at, and the writer's part
+    -- the set of the embedded scan, and the writer's part
     abbrev all : ℕ
     all = all_of w.segments
 
@@ -99,7 +99,7 @@ module _ (w : Actors) (i : ℕ) (is : WriterIs (phases_of_actors w) i writer.Sca
 
   module _ (k : ℕ) (c : Collector) (look : IsLookOf w.registers.items old.collector k c)
       (q : WriterPhase) (ends : Ends c writer.Scanning writer.Storing q) where
-    -- the writer in its phase behind the look
+    -- the writer in its phase after the look
     abbrev writer_in : WriterPhase → Writer
     writer_in p = record old { phase = p; collector = c }
 
@@ -174,14 +174,14 @@ module _ (w : Actors) (i : ℕ) (is : WriterIs (phases_of_actors w) i writer.Sca
         (ap up (writer_kept w i (writer_in writer.Scanning) old read (sym (writer_read w i is old read).1)))
         (ap up (writer_moved w i (writer_in writer.Storing))) ends)))
 
--- a fact of the set and of the numbers told of a scanner's scan, if it has one
+-- a property of the set and of the numbers read of a scanner's scan, if it has one
 abbrev OfScan : ℕ → (ℕ → List ℕ → Type 0) → ScannerState → Type 0
 OfScan n P Closed = Unit {0}
 OfScan n P (Opened asked s) = P (set_of n asked) s.told
 
 module _ (w : Actors) (i : ℕ) (is : ScannerIs (phases_of_actors w) i scanner.Scanning)
     (old : Scanner) (read : old ≡ get_or w.scanners.items i old) where
-  -- what the scan looks at
+  -- the set of the scan
   abbrev set : ℕ
   set = set_of w.segments old.asked
 
@@ -196,7 +196,7 @@ module _ (w : Actors) (i : ℕ) (is : ScannerIs (phases_of_actors w) i scanner.S
 
   module _ (k : ℕ) (c : Collector) (look : IsLookOf w.registers.items old.collector k c)
       (q : ScannerPhase) (ends : Ends c scanner.Scanning scanner.Ready q) where
-    -- the scanner in its phase behind the look
+    -- the scanner in its phase after the look
     abbrev scanner_in : ScannerPhase → Scanner
     scanner_in p = record old { phase = p; collector = c }
 

@@ -69,7 +69,7 @@ module _ (n set : ℕ) (x : State) (g : ℕ) (s : ScanState) (col : Collector)
   turn_within : j < n
   turn_within = at_below set n place j gat.among at
 
-  -- the scan, which looked last at this moment, was told these numbers and saw this memory
+  -- the scan, whose last look was at this moment, has read these numbers and saw this memory
   abbrev Collected : ℕ → List ℕ → List (List ℕ) → Type 0
   Collected last told memory = Collects (List ℕ) (size set) (numbers_of set h) (values_of set h)
       s.start last told (picked set memory)
@@ -92,7 +92,7 @@ module _ (n set : ℕ) (x : State) (g : ℕ) (s : ScanState) (col : Collector)
       (subst (λ z. IsNoFall (size set) s.told z number) (at_once set place p j at at_p)
       (subst (IsNoFall (size set) s.told place) number_is fits)))
 
-  -- the moment and the values after a look, by what the scan does next
+  -- the moment and the values after a look, by the scan's next step
   abbrev Goes : List (List ℕ) → Next → Type 0
   Goes memory v = (m : Option ℕ) × Decides set x (looked x s k m) m
       × Gathered set h (looked x s k m) memory v
@@ -253,7 +253,7 @@ module _ (n set : ℕ) (x : State) (g : ℕ) (s : ScanState) (col : Collector)
           p.1,
         ) (subst (IsMemory n from_nothing (take p.0 h)) (sym memory-is) view.is_memory)))
 
--- what the code may rely on, where the registers and the collector stand for some state
+-- the facts for the code, if the registers and the collector represent some state
 module _ (rs : List Register) (col : Collector) (may : MayLook rs col) (j : ℕ)
     (turn : col.scan.next ≡ Look j) where
   pub place_there : j < length col.memory.items

@@ -1,4 +1,4 @@
--- What stays of a world when one writer, one scanner or the history moves on.
+-- The parts of a world that stay when one writer, one scanner or the history changes.
 use Rattle.std.proofs.Common.{◌≡◌, ◌≢◌, ℕ, ◌+◌, ◌^◌, ◌<◌, ◌≤◌, List, [], ◌∷◌, ◌++◌, length, take, get_or, Option, Some, slice_index}
 use Rattle.std.proofs.Common.{slice_get, refl, ap, sym, ◌∙◌, subst, arith}
 use Rattle.std.specs.Vec.{with_item}
@@ -35,7 +35,7 @@ use Rattle.snap_world.proofs.Looks.{number_now}
 use Rattle.snap_world.proofs.PhaseMoves.{writer_there, writer_read, scanner_read, with_actors_writer, with_actors_scanner}
 use Rattle.snap_world.proofs.ScanEnds.{first_look}
 
--- a scan that was told nothing
+-- a scan that has read no number
 pub Gathers-none : (n set : ℕ) (h : List Update) (c : Collector) → 0 < size set → set < 2 ^ n
     → c.scan.set ≡ set → c.scan.told ≡ [] → IsNext c.scan.set c.scan.told c.scan.next
     → length c.memory.items ≡ n
@@ -62,7 +62,7 @@ Gathers-none n set h c some among set_is told next long =
       first,
     )
 
--- the part of a writer that is in phase p, and of a scanner
+-- the part of a writer in phase p, and of a scanner
 pub record WriterFound (n : ℕ) (h : List Update) (g i : ℕ) (parts : List WriterState) (a : Writer)
     (p : WriterPhase) : Type 0 where
   pub state : WriterState
@@ -79,14 +79,14 @@ pub record ScannerFound (n : ℕ) (h : List Update) (g i : ℕ) (parts : List Sc
   pub phase : IsScannerAt n h g a state p
 
 module _ (w : Actors) (x : State) (stands : ActorsStand w x) where
-  -- a writer that is in a phase is that of a segment
+  -- a writer that is in a phase is a segment's
   pub within : (i : ℕ) {p : WriterPhase} → WriterIs (phases_of_actors w) i p → i < w.segments
   within i is =
       let there = writer_there w i is in
       let size : length w.writers.items ≡ w.segments = stands.writers_n in
       omega arith
 
-  -- the writer or the scanner that was read, which is in phase p, with what it stands for
+  -- the writer or the scanner that was read, which is in phase p, with the part that it represents
   pub the_writer : (i : ℕ) {p : WriterPhase} → WriterIs (phases_of_actors w) i p → (a : Writer)
       → a ≡ get_or w.writers.items i a
       → WriterFound w.segments x.history stands.since i x.writers a p
@@ -158,7 +158,7 @@ module _ (w : Actors) (x : State) (stands : ActorsStand w x) where
         scanners = stands.scanners;
       }
 
-  -- one that stands for the same state
+  -- a writer that represents the same state
   pub writer_stays : (i : ℕ) (a : Writer) → i < w.segments → (s : WriterState)
       → slice_get x.writers i ≡ Some s → WriterStands w.segments x.history stands.since i a s
       → ActorsStand (with_actors_writer w i a) x
@@ -410,8 +410,7 @@ pub whole : (n : ℕ) (h : List Update) (memory : List (List ℕ)) (p : ℕ) →
 whole n h memory p most long seen =
     record { size = long; values = λ i l. seen i i (all_at n most i l) }
 
--- the moment of the answer comes after the writer's update before, and no update of its own came
--- since
+-- the moment of the answer is after the writer's update before, and the writer has had no update since
 pub own_moment : (n : ℕ) (h : List Update) (since i : ℕ) (a : Writer) (s : WriterState)
     (begun : HasBegun n h since i a s) (p : ℕ) → s.scan.start ≤ p → p ≤ s.scan.last
     → number_at h p i ≡ number_after from_nothing h i

@@ -1,4 +1,4 @@
--- A new world stands for the start.
+-- A new world represents the start.
 use Rattle.std.proofs.Common.{◌≡◌, ℕ, ◌<◌, ◌≤◌, [], length, map, replicate, ap, sym, ◌∙◌, subst}
 use Rattle.std.proofs.Common.{arith}
 use Rattle.std.proofs.lemmas.List.{length-replicate}
@@ -72,7 +72,7 @@ starts w count least most nr nw ns regs writers scanners = record {
   };
 }
 
--- where nobody is at work
+-- if all actors are idle
 pub phases_idle : (w : Actors) (segments count : ℕ) → length w.writers.items ≡ segments
     → length w.scanners.items ≡ count → Each (λ (a : Writer). a.phase ≡ writer.Idle) w.writers.items
     → Each (λ (c : Scanner). c.phase ≡ scanner.Idle) w.scanners.items

@@ -1,4 +1,4 @@
--- How the phases of the actors read and move.
+-- Reading and moving the phases of the actors.
 use Rattle.std.proofs.Common.{◌≡◌, ℕ, ◌<◌, List, length, get_or, Some, slice_get, refl, ap, ◌∙◌, arith}
 use Rattle.std.specs.Vec.{vec_len, with_item}
 use Rattle.std.proofs.Math.Seq.{map-set_same}
@@ -26,7 +26,7 @@ abbrev pub with_actors_scanner : Actors → ℕ → Scanner → Actors
 with_actors_scanner w i a = record w { scanners = with_item w.scanners i a }
 
 module _ (w : Actors) (i : ℕ) where
-  -- a writer that is in this phase is there, and what was read is that writer
+  -- a writer in this phase exists, and the one that was read is that writer
   module _ {p : WriterPhase} (is : WriterIs (phases_of_actors w) i p) where
     pub writer_there : i < length w.writers.items
     writer_there = map_within (λ (v : Writer). v.phase) w.writers.items i p is

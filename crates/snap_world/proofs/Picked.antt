@@ -1,4 +1,4 @@
--- What a memory has at the places of a set.
+-- A memory's values at the places of a set.
 use Rattle.std.proofs.Common.{◌≡◌, ℕ, ◌<◌, inl, inr, List, [], length, get_or, Some, slice_get, slice_set, slice_index, ap, sym, ◌∙◌}
 use Rattle.std.proofs.Common.{subst, arith}
 use Rattle.std.specs.Prelude.{option_map, unwrap_or}
@@ -10,7 +10,7 @@ use Rattle.snap_scan.specs.Sets.{named, size, IsAt}
 use Rattle.snap_scan.proofs.Sets.{at_some, at_once, at_within}
 use Rattle.snap_world.specs.inside.Gathers.{value_in, picked}
 
--- elements that are the same are read alike
+-- equal elements are read alike
 read_alike : (xs ys : List (List ℕ)) (i j : ℕ) → slice_get xs i ≡ slice_get ys j
     → get_or xs i [] ≡ get_or ys j []
 read_alike xs ys i j e =
@@ -25,7 +25,7 @@ module _ (set : ℕ) (memory : List (List ℕ)) where
   pub picked_size : length (picked set memory) ≡ size set
   picked_size = length-map (named set) (value_in memory)
 
--- what is written at a segment of the set is written at its place
+-- a value that is written at a segment of the set is written at its place
 pub picked-set : (set : ℕ) (memory : List (List ℕ)) (p j : ℕ) (v : List ℕ) → IsAt set p j
     → j < length memory
     → picked set (slice_set memory j v) ≡ slice_set (picked set memory) p v

@@ -89,7 +89,7 @@ after_read actors ds x n i size low at = elim (nat_lt (i + 1) n) as (λ b. nat_l
     ] refl
 
 module _ (w : Node) (i : ℕ) (call : OpeningCall) (restarting : w.phase ≡ Restarting i call) where
-  -- the segment whose call comes next is there
+  -- the segment whose call is next exists
   module _ (x : State) (stands : NodeStands w x) where
     at_call : (i < w.actors.segments) × IsRestarting w.actors w.drives.items x i call
     at_call = subst (IsNodeAt w.actors w.drives.items x) restarting stands.at
@@ -109,7 +109,7 @@ module _ (w : Node) (i : ℕ) (call : OpeningCall) (restarting : w.phase ≡ Res
 
 module _ (w : Node) (i : ℕ) (d : Drive) (read : d ≡ get_or w.drives.items i d) (e : Drive)
     (persist : e.persist ≡ d.persist) where
-  -- the phases, of which the node's alone has moved
+  -- the phases, of which only the node's has moved
   phases_to : (phase : NodePhase) → phases_of_node (record w {
     phase = phase;
     drives = with_item w.drives i e;
@@ -218,7 +218,7 @@ module _ (w : Node) (i : ℕ) (d : Drive) (read : d ≡ get_or w.drives.items i 
     unchanged = λ f. cc;
   }
 
--- what a restart reads is the file of its segment
+-- the bytes that a restart reads are the file of its segment
 pub a_file : (w : Node) (i : ℕ) → w.phase ≡ Restarting i opening.Read → (d : Drive)
     → d ≡ get_or w.drives.items i d → (x : State) → NodeStands w x → (n : ℕ)
     → length w.drives.items ≡ n → (k : ℕ) × (v : List ℕ) × IsFileOf i n k v (device_of d).bytes

@@ -21,7 +21,7 @@ use Rattle.snap_world.specs.declared.world.World.{World}
 stays : (x y : State) → y.history ≡ x.history → IsBeginning x.history y.history
 stays x y e = subst (IsBeginning x.history) (sym e) (beginning-self x.history)
 
--- a step adds to the history at its end alone
+-- a step only appends to the history
 pub Step-grows : (n : ℕ) (x : State) (event : Event) (reply : Reply) (y : State)
     → Step n x event reply y → IsBeginning x.history y.history
 Step-grows n x event NotNow y s = stays x y (ap (λ v. v.history) s)
@@ -112,7 +112,7 @@ pub IsRun-grows : (old new : World) (events : List Event) (replies : List Reply)
     × IsBeginning x.history y.history
 IsRun-grows old new events replies a x stands = let f = a.run x stands in (f.0, f.2, f.3)
 
--- a world that stayed as it was
+-- a world that is unchanged
 pub IsRun-same : (old mid new : World) (events : List Event) (replies : List Reply) → new ≡ mid
     → IsRun old events replies mid → IsRun old events replies new
 IsRun-same old mid new events replies e a = subst (IsRun old events replies) (sym e) a

@@ -1,4 +1,4 @@
--- What a scan does next, by the numbers told.
+-- The next step of a scan, by the numbers that it has read.
 use Rattle.std.specs.Prelude.{◌↔◌}
 use Rattle.std.proofs.Common.{IsTrue, false, ◌≡◌, ℕ, ◌+◌, ◌*◌, ◌<◌, List, [], inl, inr, slice_index, refl, arith}
 use Rattle.std.proofs.Math.Logic.{∥∥₁_elim}
@@ -10,7 +10,7 @@ use Rattle.snap_scan.proofs.Sets.{at_some}
 use Rattle.snap_scan.specs.declared.next.Next.{Next}
 use Rattle.snap_scan.specs.declared.next.Next.TheVariants.{Look, Clean, Borrow}
 
--- a scan that has a look to make has no answer, and each other one has
+-- a scan that has a look to make has no answer, and any other one has
 pub undecided : (set : ℕ) (L : List ℕ) (v : Next) (j : ℕ) → IsNext set L v → v ≡ Look j
     → IsDecided (size set) L → ⊥
 undecided set L v j is e (inl clean) = let f : v ≡ Clean = is.clean.1 clean in cc
@@ -35,7 +35,7 @@ decided set L (Borrow j) is none =
     let borrows = (is.borrow j).0 refl in
     inr (borrows.0, borrows.2)
 
--- a scan that was told nothing has a look to make
+-- a scan that has read no number has a look to make
 pub first_look : (set : ℕ) (v : Next) → 0 < size set → IsNext set [] v → (j : ℕ) × (v ≡ Look j)
 first_look set (Look j) pos is = (j, refl)
 first_look set Clean pos is =
@@ -47,7 +47,7 @@ first_look set (Borrow j) pos is =
     let long : 0 ≡ borrows.2.last.0 * size set + borrows.0 + 1 = borrows.2.last.1 in
     absurd (omega arith)
 
--- which look it is follows from that there is one
+-- the segment of the look follows from the fact that there is one
 pub look_from : (v : Next) → ∥ ((j : ℕ) × (v ≡ Look j)) ∥₁ → (j : ℕ) × (v ≡ Look j)
 look_from (Look j) some = (j, refl)
 look_from Clean some = absurd (∥∥₁_elim some (hlevel props) (λ q. (let e : Clean ≡ Look q.0 = q.1 in

@@ -1,4 +1,4 @@
--- Which begun updates a restart takes, and the number and value of each segment after it.
+-- The begun updates that a restart takes, and the number and value of each segment after it.
 use Rattle.std.proofs.Common.{◌≡◌, ◌≢◌, ℕ, zero, suc, ◌+◌, ◌<◌, ◌⊎◌, inl, inr, Bool, true, false, List, [], ◌∷◌, ◌++◌, Option, Some}
 use Rattle.std.proofs.Common.{None, slice_get, refl, ap, ◌∙◌, arith}
 use Rattle.std.specs.Prelude.{◌==◌, if◌then◌else◌, unwrap_or}
@@ -20,7 +20,7 @@ taken (s ∷ ss) (false ∷ marks) zero = None
 taken (s ∷ ss) (true ∷ marks) zero = begun_value s.pending
 taken (s ∷ ss) (mark ∷ marks) (suc i) = taken ss marks i
 
--- how many updates it has by them, and which value where d is the one before
+-- how many updates it gets by them, and its value if d is the one before
 abbrev pub times : Option (List ℕ) → ℕ
 times None = 0
 times (Some v) = 1
@@ -101,8 +101,7 @@ served-is start h ss marks i =
     let sum = updates-append i h all in
     (omega arith, last-append (start i).1 i h all ∙ is.1)
 
--- Where each segment's device gives either the history's part or the begun one, some marks give
--- just these
+-- If each segment's device gives either the history's part or the begun one, some marks give exactly these.
 
 abbrev pub Given : (A : ℕ → Type 0) → (B : ℕ → List ℕ → Type 0) → List WriterState → List Bool → ℕ
     → Type 0

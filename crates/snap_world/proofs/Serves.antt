@@ -95,7 +95,7 @@ module _ (w : Node) (x : State) (stands : NodeStands w x) (is_ready : w.phase �
           omega arith);
     }
 
-  -- what a device holds is the number and value of the history, or those of the begun update
+  -- the device holds the number and value of the history, or those of the begun update
   abbrev Kept : ℕ → Type 0
   Kept i = (d : Drive) → slice_get ds i ≡ Some d
       → (d.found.number ≡ number_after from_nothing x.history i)
@@ -105,7 +105,7 @@ module _ (w : Node) (x : State) (stands : NodeStands w x) (is_ready : w.phase �
   Taken i v = (d : Drive) → slice_get ds i ≡ Some d
       → (d.found.number ≡ number_after from_nothing x.history i + 1) × (found_value d ≡ v)
 
-  -- what was found on a device is what it holds
+  -- the number and value that were found on a device are those that it holds
   found_as : (i k : ℕ) (v : List ℕ) (d : Drive) → slice_get ds i ≡ Some d
       → Holds (device_of d).bytes k v → (e : Drive) → slice_get ds i ≡ Some e
       → (e.found.number ≡ k) × (found_value e ≡ v)
@@ -139,7 +139,7 @@ module _ (w : Node) (x : State) (stands : NodeStands w x) (is_ready : w.phase �
   abbrev pub h : List Update
   h = history_with x marks
 
-  -- what was found is what the history with these updates leaves
+  -- the numbers and values that were found are those after the history with these updates
   pub is_after : (i : ℕ) (d : Drive) → slice_get ds i ≡ Some d
       → (d.found.number ≡ number_after from_nothing h i)
       × (found_value d ≡ value_after from_nothing h i)
@@ -177,7 +177,7 @@ module _ (w : Node) (x : State) (stands : NodeStands w x) (is_ready : w.phase �
   module _ (registers : Vec Register) (es : List Drive)
       (recovered : AreRecovered ds w.actors.registers.items registers.items)
       (resumed : Pairs (λ i. IsResumed) ds es) where
-    -- the actors with what was found
+    -- the actors with the registers that were found
     abbrev pub actors : Actors
     actors = record (w.actors) { registers = registers }
 
@@ -204,7 +204,7 @@ module _ (w : Node) (x : State) (stands : NodeStands w x) (is_ready : w.phase �
     abbrev free : WriterState
     free = resting
 
-    -- nothing was shown yet since the restart
+    -- nothing was shown since the restart
     view_stands : (i : ℕ) (r : Register) (s : WriterState)
         → slice_get registers.items i ≡ Some r
         → slice_get (map (λ (z : WriterState). free) x.writers) i ≡ Some s

@@ -1,4 +1,4 @@
--- The sizes of actors that stand for some state.
+-- The sizes of actors that represent some state.
 use Rattle.std.proofs.Common.{◌≡◌, ℕ, ◌<◌, ◌≤◌, length, arith}
 use Rattle.std.specs.Vec.{vec_len}
 use Rattle.std.proofs.Math.Logic.{∥∥₁_elim}

@@ -85,7 +85,7 @@ module _ (w : Node) (x : State) (stands : NodeStands w x) (i : ℕ) (may : MaySt
       ap (λ (s : WriterState). s.pending) (same_Some at.state t (sym at.there ∙ there)) in
       let both : Begun v ≡ Begun z = sym begun.pending ∙ same ∙ is in cc
 
-  -- what the code reads
+  -- the values that the code reads
   pub value_is : (a : Writer) → a ≡ get_or w.actors.writers.items i a → a.value ≡ v
   value_is a read = ap (λ (z : Writer). z.value) (same_read w.actors.writers.items i a found.0
       (writer_there w.actors i may.1) read found.1)
@@ -290,7 +290,7 @@ module _ (w : Node) (i : ℕ) (d : Drive) (there : slice_get w.drives.items i �
           next moved,
     )
 
--- what the code may rely on
+-- the facts for the code
 module _ (w : Node) (i : ℕ) (may : MayStore w i) (t : NodeStand w) where
   pub segment_there : i < w.actors.segments
   segment_there = ∥∥₁_elim t (hlevel props) (λ q. store_within w q.0 q.1 i may)

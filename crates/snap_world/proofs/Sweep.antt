@@ -14,7 +14,7 @@ pub record Swept {A : Type 0} (R : ℕ → A → A → Type 0) (k : ℕ) (old no
   pub above : (i : ℕ) → k ≤ i → slice_get now i ≡ slice_get old i
 
 module _ {A : Type 0} {R : ℕ → A → A → Type 0} {k : ℕ} {old now : List A} (s : Swept R k old now) where
-  -- the element that comes next is as it was
+  -- the next element is unchanged
   pub swept-next : (a : A) → k < length now → a ≡ get_or now k a → slice_get old k ≡ Some a
   swept-next a l read =
       sym (s.above k (omega arith)) ∙ slice_get_read now (length now) k a refl l read

@@ -1,5 +1,5 @@
--- What a scan may answer: its segments as they stood at one moment. A moment is told by a number:
--- how many updates the history had then.
+-- The answers of a scan: its segments as they were at one moment. A moment is a number: how many
+-- updates the history had then.
 use Rattle.std.specs.Prelude.{◌≡◌, ℕ, ◌-◌, ◌^◌, List, [], map, Option, Some, None, slice_index, take}
 use Rattle.snap_history.specs.History.{Update, from_nothing, number_after, value_after}
 use Rattle.snap_scan.specs.Collects.{IsMoment}
@@ -15,7 +15,7 @@ number_at h t i = number_after from_nothing (take t h) i
 abbrev pub value_at : List Update → ℕ → ℕ → List ℕ
 value_at h t i = value_after from_nothing (take t h) i
 
--- the set of all n segments, and the set of what was asked for
+-- the set of all n segments, and the set of the segments that were asked for
 abbrev pub all_of : ℕ → ℕ
 all_of n = 2 ^ n - 1
 
@@ -23,8 +23,7 @@ abbrev pub set_of : ℕ → Asked → ℕ
 set_of n All = all_of n
 set_of n (Only set) = set.bits
 
--- number and value of the segment at this place of the set after the first t updates: what the laws
--- of a scan speak of
+-- number and value of the segment at this place of the set after the first t updates, for the laws of a scan
 abbrev pub numbers_of : ℕ → List Update → ℕ → ℕ → ℕ
 numbers_of set h t place = number_at h t (slice_index (named set) place)
 
@@ -42,20 +41,20 @@ part_at set h t = map (entry_at h t) (named set)
 abbrev pub pair_of : PartEntry → ℕ × List ℕ
 pair_of e = (e.segment, e.value.items)
 
--- a scan: the moments of its beginning and of its last look, the numbers told, and, once they
--- decide an answer, the moment that it answers
+-- a scan: the moments of its beginning and of its last look, the numbers that it has read, and,
+-- once they decide an answer, the moment of that answer
 pub record ScanState : Type 0 where
   pub start : ℕ
   pub last : ℕ
   pub told : List ℕ
   pub moment : Option ℕ
 
--- one that begins at moment b
+-- a scan that begins at moment b
 abbrev pub scan_from : ℕ → ScanState
 scan_from b = record { start = b; last = b; told = []; moment = None }
 
--- a scan of this set answers what is so at its moment, which lies between its beginning and its
--- last look, and is the one that the numbers told tell
+-- a scan of this set answers with what `Is` says of its moment, which lies between its beginning
+-- and its last look, and follows from the numbers that it has read
 pub record IsAnswer (set : ℕ) (h : List Update) (s : ScanState) (Is : ℕ → Type 0) : Type 0 where
   pub p : ℕ
   pub moment : s.moment ≡ Some p

@@ -6,7 +6,7 @@ use Rattle.snap_world.specs.declared.event.Kind.TheVariants as kind
 use Rattle.snap_world.specs.declared.node.OpeningCall.{OpeningCall}
 use Rattle.snap_world.specs.declared.node.OpeningCall.TheVariants as opening
 
--- the call of a store that is of this kind; a store makes no read
+-- the call of a store of this kind; a store makes no read
 abbrev pub store_call : Kind → NextCall
 store_call (kind.Write w) = Write w
 store_call kind.Sync = Sync

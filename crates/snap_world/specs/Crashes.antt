@@ -1,4 +1,4 @@
--- No bytes that the disk model allows at a fault or a crash are left out: some fill leaves them.
+-- Each outcome of a fault or a crash that the disk model allows is left by some fill.
 use Rattle.std.specs.Prelude.{◌≡◌, ℕ, List, length, Some, slice_get, slice_set}
 use Rattle.std.specs.Global.{Vec}
 use Rattle.snap_disk.specs.Device.{Device, opened, IsTouched, IsUnsynced}
@@ -6,7 +6,7 @@ use Rattle.snap_disk.specs.declared.fill.Fill.{Fill}
 use Rattle.snap_history.specs.Pairs.{Pairs}
 use Rattle.snap_world.specs.Devices.{AreRefilled, Changes, IsWriteFailed, IsRefilled}
 
--- by the disk model a crash may leave this of the devices: any bytes at the open places of each
+-- the disk model lets a crash leave this of the devices: any bytes at the open places of each
 abbrev pub CrashMayLeave : List Device → List Device → Type 0
 CrashMayLeave devices left = Pairs (λ i. IsUnsynced) devices left
 
@@ -20,8 +20,8 @@ pub record SomeCrashLeaves (devices left : List Device) : Type 0 where
 pub record AnyCrash (devices : List Device) : Type 0 where
   pub leaves : (left : List Device) → CrashMayLeave devices left → SomeCrashLeaves devices left
 
--- whatever a crash may leave inside a write at device w, which opens n places from `at` on: a crash
--- right after that write leaves it, whether or not the write failed
+-- whatever a crash may leave inside a write at device w, which opens n places from `at` on, a crash
+-- right after that write leaves, whether or not the write failed
 pub record CrashInsideAnyWrite (devices : List Device) : Type 0 where
   pub leaves : (w at n : ℕ) (device : Device) (after left : List Device)
       → slice_get devices w ≡ Some device → Changes w (IsTouched at n) devices after

@@ -1,4 +1,4 @@
--- What each event does to the devices.
+-- How each event changes the devices.
 use Rattle.std.specs.Prelude.{◌≡◌, ℕ, Bool, ◌+◌, List, ◌∷◌, Some, slice_get, slice_set}
 use Rattle.snap_disk.specs.Device.{Device, in_range, IsTouched, IsSynced, IsUnsynced}
 use Rattle.snap_disk.specs.Fill.{IsFilled}
@@ -78,7 +78,7 @@ abbrev pub AreServed : ℕ → State → List Device → Type 0
 AreServed n x devices =
     (i : ℕ) (device : Device) → slice_get devices i ≡ Some device → IsServed i n x device
 
--- after a restart the calls of a segment's next store are those for its spare gate
+-- after a restart the calls of a segment's next store fit its spare gate
 abbrev pub GatesTold : Event → Reply → WorldPhases → List Device → Type 0
 GatesTold Serve (Memory m) q devices =
     (i : ℕ) (device : Device) (calls : List NextCall)
@@ -111,7 +111,7 @@ DevicesMove n x p old RestartCall (Called kind) y new =
 DevicesMove n x p old (RestartFail fill) DeviceFailed y new =
     (i : ℕ) × (call : OpeningCall) × (p.node ≡ Restarting i call)
     × RestartMisses i fill call old new
--- a restart answers what the devices hold
+-- a restart answers with the values on the devices
 DevicesMove n x p old Serve (Memory m) y new = (new ≡ old) × AreServed n y new
 -- no other event changes a device
 DevicesMove n x p old event reply y new = new ≡ old

@@ -1,5 +1,5 @@
--- The abstract machine: a history of updates, what each writer has begun or shown, where each scan
--- began and looked last, and which moment it answers.
+-- The abstract machine: a history of updates, each writer's begun or shown update, the moments at
+-- which each scan began and looked last, and the moment of its answer.
 use Rattle.std.proofs.Common.{suc}
 use Rattle.std.specs.Prelude.{◌≡◌, ℕ, Bool, true, false, List, [], ◌∷◌, ◌++◌, length, map, Option, Some, None, slice_get, slice_set}
 use Rattle.std.specs.Prelude.{take}
@@ -20,15 +20,14 @@ use Rattle.snap_world.specs.declared.event.Reply.{Reply}
 use Rattle.snap_world.specs.declared.event.Reply.TheVariants.{Begun as Begun_reply, Number, Called, DeviceFailed, Shown as Shown_reply}
 use Rattle.snap_world.specs.declared.event.Reply.TheVariants.{Stored, ScanBegun, Memory, Part, Crashed, Restarting, NotNow}
 
--- what a writer has under way
+-- a writer's current update
 pub data Pending : Type 0 where
   Free : Pending
   Begun : (v : List ℕ) → Pending
   Shown : (v : List ℕ) → Pending
 
--- a segment: its update under way, whether it is fenced, the scan that is embedded in the update,
--- and the moment with which its last update was shown, where it has shown one since the node began
--- to serve
+-- a segment: its current update, whether it is fenced, the scan that is embedded in the update, and the
+-- moment with which its last update was shown, if it has shown one since the node last began to serve
 pub record WriterState : Type 0 where
   pub pending : Pending
   pub fenced : Bool
@@ -39,7 +38,7 @@ pub record WriterState : Type 0 where
 abbrev pub resting : WriterState
 resting = record { pending = Free; fenced = false; scan = scan_from 0; view = None }
 
--- a scanner: its scan, if it has one, with what was asked for
+-- a scanner: its scan, if it has one, with the segments that were asked for
 pub data ScannerState : Type 0 where
   Closed : ScannerState
   Opened : (asked : Asked) → (scan : ScanState) → ScannerState
@@ -56,7 +55,7 @@ with_writer x w s = record x { writers = slice_set x.writers w s }
 abbrev pub with_scanner : State → ℕ → ScannerState → State
 with_scanner x i s = record x { scanners = slice_set x.scanners i s }
 
--- the state with one update more, of a writer whose part changes with it
+-- the state with one more update, of a writer whose part changes with it
 abbrev pub with_update : State → ℕ → List ℕ → WriterState → State
 with_update x w v s = record x {
   history = x.history ++ record { segment = w; value = v } ∷ [];
@@ -67,9 +66,9 @@ with_update x w v s = record x {
 abbrev pub ShownWith : State → ℕ → ℕ → Type 0
 ShownWith x j p = (s : WriterState) × (slice_get x.writers j ≡ Some s) × (s.view ≡ Some p)
 
--- in state x the moment of a scan of this set that looked just now: none where the numbers told
--- decide nothing, else one from its beginning to now that they tell; and where they borrow from
--- segment j, the very moment with which its last update was shown
+-- In state x, the moment of a scan of this set that looked just now: none if the numbers read
+-- decide nothing, else one from its beginning to now that follows from them; and if they borrow
+-- from segment j, the very moment with which its last update was shown.
 abbrev pub Decides : ℕ → State → ScanState → Option ℕ → Type 0
 Decides set x s None = IsDecided (size set) s.told → ⊥
 Decides set x s (Some p) =
@@ -77,13 +76,12 @@ Decides set x s (Some p) =
     × IsMoment (size set) (numbers_of set x.history) s.start s.last s.told p
     × ((j : ℕ) → Borrows set s.told j → ShownWith x j p)
 
--- scan s after a look in state x that told the number k
+-- scan s after a look in state x that read the number k
 abbrev pub looked : State → ScanState → ℕ → Option ℕ → ScanState
 looked x s k moment =
     record s { last = length x.history; told = s.told ++ k ∷ []; moment = moment }
 
--- in state x scan s of this set is told the number k of the segment whose turn it is, and is scan t
--- then
+-- in state x scan s of this set reads the number k of the segment whose turn it is, and is scan t then
 pub record IsLook (set : ℕ) (x : State) (s : ScanState) (k : ℕ) (t : ScanState) : Type 0 where
   pub segment : ℕ
   pub turn : HasTurn set s.told segment
@@ -91,7 +89,7 @@ pub record IsLook (set : ℕ) (x : State) (s : ScanState) (k : ℕ) (t : ScanSta
   pub after : t ≡ looked x s k t.moment
   pub decides : Decides set x t t.moment
 
--- a crash: what was shown is done, what was begun stays, and no scan is open
+-- a crash: a shown update is done, a begun one stays, and no scan is open
 abbrev pub crashed_pending : Pending → Pending
 crashed_pending Free = Free
 crashed_pending (Begun v) = Begun v
@@ -122,7 +120,7 @@ chosen i (s ∷ ss) (true ∷ marks) = begun_update i s.pending ++ chosen (suc i
 abbrev pub history_with : State → List Bool → List Update
 history_with x marks = x.history ++ chosen 0 x.writers marks
 
--- the state after it: nobody is at work, nothing is fenced
+-- the state after it: all actors are idle, and nothing is fenced
 abbrev pub served : State → List Bool → State
 served x marks = record {
   history = history_with x marks;
@@ -132,14 +130,14 @@ served x marks = record {
 
 -- from state x, over n segments, the event may get this reply and lead to state y
 abbrev pub Step : ℕ → State → Event → Reply → State → Type 0
--- an event that may not come leaves the state as it is
+-- an event that may not come doesn't change the state
 Step n x event NotNow y = y ≡ x
 Step n x (Begin w v) Begun_reply y =
     (s : WriterState) × (slice_get x.writers w ≡ Some s) × (s.pending ≡ Free) × (s.fenced ≡ false)
     × (y ≡ with_writer x w
     (record s { pending = Begun v.items; scan = scan_from (length x.history) }))
--- a look tells the number of the segment whose turn it is; the scan that is embedded in an update is
--- of all segments
+-- a look reads the number of the segment whose turn it is; the scan that is embedded in an update
+-- is of all segments
 Step n x (Look (Writer w)) (Number k) y =
     (s : WriterState) × (slice_get x.writers w ≡ Some s)
     × (t : ScanState) × IsLook (all_of n) x s.scan k t
@@ -148,7 +146,7 @@ Step n x (Look (Scanner i)) (Number k) y =
     (asked : Asked) × (s : ScanState) × (slice_get x.scanners i ≡ Some (Opened asked s))
     × (t : ScanState) × IsLook (set_of n asked) x s k t
     × (y ≡ with_scanner x i (Opened asked t))
--- a device call that succeeds leaves the state as it is; after one that fails the segment is fenced
+-- a device call that succeeds doesn't change the state; after one that fails the segment is fenced
 Step n x (Call w) (Called kind) y = y ≡ x
 Step n x (Fail w fill) DeviceFailed y =
     (s : WriterState) × (v : List ℕ) × (slice_get x.writers w ≡ Some s) × (s.pending ≡ Begun v)
@@ -167,13 +165,13 @@ Step n x (Scan i) ScanBegun y =
 Step n x (Pick i set) ScanBegun y =
     (slice_get x.scanners i ≡ Some Closed)
     × (y ≡ with_scanner x i (Opened (Only set) (scan_from (length x.history))))
--- the memory as it stood at the scan's moment, between its beginning and its last look
+-- the memory as it was at the scan's moment, between its beginning and its last look
 Step n x (Answer i) (Memory m) y =
     (s : ScanState) × (slice_get x.scanners i ≡ Some (Opened All s))
     × IsAnswer (all_of n) x.history s (λ p.
     IsMemory n from_nothing (take p x.history) (map (λ v. v.items) m.items))
     × (y ≡ with_scanner x i Closed)
--- of a scan of some segments, these alone, each with its value as it stood then
+-- of a scan of some segments, these alone, each with its value at that moment
 Step n x (Answer i) (Part m) y =
     (set : SegmentSet) × (s : ScanState) × (slice_get x.scanners i ≡ Some (Opened (Only set) s))
     × IsAnswer set.bits x.history s (λ p.
@@ -183,7 +181,7 @@ Step n x (Crash fills) Crashed y = y ≡ crashed x
 Step n x Restart Restarting y = y ≡ x
 Step n x RestartCall (Called kind) y = y ≡ x
 Step n x (RestartFail fill) DeviceFailed y = y ≡ x
--- a restart answers the memory after the history and some of the begun updates
+-- a restart answers with the memory after the history and some of the begun updates
 Step n x Serve (Memory m) y =
     (marks : List Bool) × IsMemory n from_nothing (history_with x marks)
     (map (λ v. v.items) m.items)

@@ -28,8 +28,7 @@ use Rattle.snap_world.specs.declared.node.OpeningCall.TheVariants as opening
 use Rattle.snap_world.specs.declared.writer.WriterPhase.TheVariants as writer
 use Rattle.snap_world.specs.declared.scanner.ScannerPhase.TheVariants as scanner
 
--- `calls` has for each segment the device calls that are left of the store under way, or of the
--- next one
+-- `calls` has for each segment the device calls that are left of the current store, or of the next one
 pub record WorldPhases : Type 0 where
   pub node : NodePhase
   pub actors : Phases
@@ -43,7 +42,7 @@ up actors = record { node = Up; actors = actors; calls = [] }
 abbrev pub segments_in : WorldPhases → ℕ
 segments_in p = length p.calls
 
--- the set names a segment, and none that isn't there
+-- the set names at least one segment, and only existing ones
 abbrev pub IsChoice : Phases → ℕ → Type 0
 IsChoice p set = (0 < set) × (set < 2 ^ length p.writers)
 
@@ -71,27 +70,27 @@ MayCome x p (RestartFail fill) = (i : ℕ) × (call : OpeningCall) × (p.node �
 -- and serves once they are made
 MayCome x p Serve = p.node ≡ Ready
 
--- the reply is `NotNow` exactly where the event may not come
+-- the reply is `NotNow` exactly if the event may not come
 pub record TellsWhether (x : State) (p : WorldPhases) (event : Event) (reply : Reply) : Type 0 where
   pub refused : reply ≡ NotNow → MayCome x p event → ⊥
   pub came : (reply ≡ NotNow → ⊥) → MayCome x p event
 
--- the same phases but for those of writers and scanners, or for the node's
+-- the phases with those of writers and scanners changed, or with the node's
 abbrev pub actors_to : WorldPhases → Phases → WorldPhases
 actors_to p actors = record p { actors = actors }
 
 abbrev pub node_to : WorldPhases → NodePhase → WorldPhases
 node_to p node = record p { node = node }
 
--- after a look of a scan of this set the phases go on to r where the numbers told decide an answer,
--- and stay otherwise
+-- after a look of a scan of this set the phases become r if the numbers read decide an answer, and
+-- stay otherwise
 pub record LooksOn {P : Type 0} (set : ℕ) (told : List ℕ) (p r q : P) : Type 0 where
   pub ends : IsDecided (size set) told → q ≡ r
   pub goes_on : (IsDecided (size set) told → ⊥) → q ≡ p
   pub either : (q ≡ r) ⊎ (q ≡ p)
 
--- after a call with these ones left; once none is left the update is stored, and the next store
--- finds its spare gate open
+-- the phases after a call with these ones left; once none is left the update is stored, and the
+-- next store finds its spare gate open
 abbrev pub AfterCall : WorldPhases → ℕ → List NextCall → WorldPhases → Type 0
 AfterCall p w [] q = q ≡ record p {
   actors = writer_to p.actors w writer.Stored;
@@ -99,14 +98,14 @@ AfterCall p w [] q = q ≡ record p {
 }
 AfterCall p w (call ∷ calls) q = q ≡ record p { calls = slice_set p.calls w (call ∷ calls) }
 
--- nobody is at work
+-- all actors are idle
 abbrev pub all_idle : Phases → Phases
 all_idle p = record {
   writers = replicate (length p.writers) writer.Idle;
   scanners = replicate (length p.scanners) scanner.Idle;
 }
 
--- of each of the segments a restart makes the sync and then the read; after this call of segment i
+-- for each segment a restart makes the sync and then the read: the phase after this call at segment i
 abbrev pub after_opening_call : ℕ → ℕ → OpeningCall → NodePhase
 after_opening_call segments i opening.Sync = Restarting i opening.Read
 after_opening_call segments i opening.Read =
@@ -143,20 +142,20 @@ PhasesMove n x p RestartCall (Called kind) q =
     (i : ℕ) × (call : OpeningCall) × (p.node ≡ Restarting i call) × (kind ≡ opening_kind call)
     × (q ≡ node_to p (after_opening_call n i call))
 PhasesMove n x p (RestartFail fill) DeviceFailed q = q ≡ node_to p Down
--- everybody is idle again
+-- all actors are idle again
 PhasesMove n x p Serve (Memory m) q =
     (q.node ≡ Up) × (q.actors ≡ all_idle p.actors) × (segments_in q ≡ segments_in p)
 -- no other reply is given
 PhasesMove n x p event reply q = ⊥
 
--- the event's reply holds values, and it may come
+-- the event's reply holds values, and the event may come
 abbrev pub NeedsMemory : WorldPhases → Event → Type 0
 NeedsMemory p event =
     ((i : ℕ) × (event ≡ Answer i) × (p.node ≡ Up) × ScannerIs p.actors i scanner.Ready)
     ⊎ ((event ≡ Serve) × (p.node ≡ Ready))
 
--- with these phases memory can have run out before this one of the events: the first, where the
--- list of replies was to be made, or one whose reply holds values
+-- with these phases memory can have run out before this one of the events: the first, for the list
+-- of replies, or one whose reply holds values
 abbrev pub StopsAt : WorldPhases → List Event → ℕ → Type 0
 StopsAt p events done =
     (done ≡ 0) ⊎ ((event : Event) × (slice_get events done ≡ Some event) × NeedsMemory p event)

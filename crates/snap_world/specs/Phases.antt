@@ -8,14 +8,14 @@ pub record Phases : Type 0 where
   pub writers : List WriterPhase
   pub scanners : List ScannerPhase
 
--- writer w, or scanner i, is there and in this phase
+-- writer w, or scanner i, exists and is in this phase
 abbrev pub WriterIs : Phases → ℕ → WriterPhase → Type 0
 WriterIs p w phase = slice_get p.writers w ≡ Some phase
 
 abbrev pub ScannerIs : Phases → ℕ → ScannerPhase → Type 0
 ScannerIs p i phase = slice_get p.scanners i ≡ Some phase
 
--- these phases with that of one writer, or of one scanner, changed
+-- these phases with one writer's, or one scanner's, changed
 abbrev pub writer_to : Phases → ℕ → WriterPhase → Phases
 writer_to p w phase = record p { writers = slice_set p.writers w phase }
 

@@ -14,7 +14,7 @@ pub record Configuration : Type 0 where
   pub devices : List Device
 
 -- over n segments, the event with this reply leads from configuration a to configuration b: it is a
--- step of the machine, comes exactly where it may, and moves the phases and the devices
+-- step of the machine, comes exactly if it may, and moves the phases and the devices
 pub record Passes (n : ℕ) (a : Configuration) (event : Event) (reply : Reply)
     (b : Configuration) : Type 0 where
   pub step : Step n a.state event reply b.state

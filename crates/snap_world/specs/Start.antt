@@ -1,4 +1,4 @@
--- The start of a world: nothing was shown, nobody is at work.
+-- The start of a world: nothing was shown, and all actors are idle.
 use Rattle.std.specs.Prelude.{◌≡◌, ℕ, false, List, [], length, replicate, Some, slice_get}
 use Rattle.snap_disk.specs.Device.{Device}
 use Rattle.snap_slot.specs.States.{IsAtRest}

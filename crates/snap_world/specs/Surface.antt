@@ -1,4 +1,4 @@
--- What a world shows of itself, and what its events do.
+-- The visible parts of a world, and the relation of its events.
 use Rattle.std.specs.Prelude.{◌≡◌, ℕ, List}
 use Rattle.snap_disk.specs.Device.{Device}
 use Rattle.snap_history.specs.History.{IsBeginning}
@@ -23,17 +23,17 @@ phases_of w = phases_of_node w.node
 abbrev pub devices_of : World → List Device
 devices_of w = devices_of_node w.node
 
--- the world stands for this state of the abstract machine
+-- the world represents this state of the abstract machine
 abbrev pub StandsFor : World → State → Type 0
 StandsFor w x = NodeStands w.node x
 
--- this state, with the phases and the devices that the world shows
+-- this state, with the phases and the devices of the world
 abbrev pub configuration : World → State → Configuration
 configuration w x = record { state = x; phases = phases_of w; devices = devices_of w }
 
--- from each state that the old world stood for, the events with these replies are a run of the
+-- From each state that the old world represented, the events with these replies are a run of the
 -- abstract machine, with the phases and devices of the old world and the new one, to a state that
--- the new one stands for, whose history only grew at its end
+-- the new one represents, whose history was only appended to.
 pub record IsRun (old : World) (events : List Event) (replies : List Reply)
     (new : World) : Type 0 where
   pub segments : segments_of new ≡ segments_of old

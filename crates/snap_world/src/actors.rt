@@ -1,4 +1,4 @@
-//! Writers and scanners, and the registers between them: what a node has in memory.
+//! Writers and scanners, and the registers between them: a node's memory.
 ghost use Rattle.std.specs.Prelude.{◌≡◌, ◌↔◌, ◌<◌, ◌≤◌, IfOk, IsTrue};
 ghost use Rattle.snap_history.specs.declared.limits.TheConstants.{MAX_COUNT};
 ghost use Rattle.snap_world.specs.Phases.{WriterIs, ScannerIs};
@@ -29,7 +29,7 @@ pub struct Actors {
 }
 
 impl Actors {
-    /// Nothing was shown, and nobody is at work.
+    /// New actors: nothing was shown, and all are idle.
     pub fn new(alloc: Global, segments: usize, scanners: usize) -> Result<Actors, AllocError>
         requires least { 0 < segments }
         requires most { segments ≤ MAX_COUNT }
@@ -68,7 +68,7 @@ impl Actors {
         self.scanners[scanner].phase == phase
     }
 
-    /// One look.
+    /// Takes one look.
     pub fn look(&mut self, actor: Actor) -> Reply
         requires stands { Stand self.old }
         ensures step { IsActorsStep self.old (Event.Look actor) result self.new }
@@ -79,7 +79,7 @@ impl Actors {
         }
     }
 
-    /// A crash ends what everybody was at.
+    /// Makes all actors idle: a crash ends their work.
     pub fn halt(&mut self)
         ensures segments { self.new.segments ≡ self.old.segments }
         ensures registers { self.new.registers ≡ self.old.registers }
@@ -92,7 +92,7 @@ impl Actors {
     }
 }
 
-/// No writer is at work any more.
+/// Makes all writers idle.
 fn halt_writers(writers: &mut Vec<Writer>)
     ensures { Pairs (λ i. IsHalted) writers.old.items writers.new.items }
 {
@@ -101,7 +101,7 @@ fn halt_writers(writers: &mut Vec<Writer>)
     }
 }
 
-/// No scanner is at work any more.
+/// Makes all scanners idle.
 fn halt_scanners(scanners: &mut Vec<Scanner>)
     ensures { Pairs (λ i. IsScannerHalted) scanners.old.items scanners.new.items }
 {

@@ -30,16 +30,15 @@ use snap_persist::{Answer, NextCall, Persist, Stage, Write};
 use snap_slot::{BLOCK_LEN, FILE_LEN, Found, encode_body, encode_fresh_file, recover, slot_of};
 use std::alloc::{AllocError, Global};
 
-/// What stands for a body where none is written.
+/// The body that is passed where none is written.
 static NO_BODY: [u8; BLOCK_LEN] = [0; BLOCK_LEN];
 
-/// The device of one segment, with the persist of the store that is under way on it, or of the next
-/// one.
+/// The device of one segment, with the persist of the current store, or of the next one.
 #[derive(Drop)]
 pub struct Drive {
     pub image: Image,
     pub persist: Persist,
-    /// What the last restart found on it.
+    /// The slot that the last restart found on it.
     pub found: Found,
 }
 
@@ -66,7 +65,7 @@ impl Drive {
         })
     }
 
-    /// The next call of the store of this number and value, which succeeds: its kind.
+    /// Makes the next call of the store of this number and value, which succeeds, and returns its kind.
     pub fn call(&mut self, number: u64, value: &[u8]) -> Kind
         requires size { length (device_of self.old).bytes ≡ FILE_LEN }
         requires slot { self.old.persist.slot < SLOT_COUNT }
@@ -96,7 +95,7 @@ impl Drive {
         kind
     }
 
-    /// A write of the store of this number and value.
+    /// Makes a write of the store of this number and value.
     fn put(&mut self, write: Write, number: u64, value: &[u8])
         requires size { length (device_of self.old).bytes ≡ FILE_LEN }
         requires slot { self.old.persist.slot < SLOT_COUNT }
@@ -119,8 +118,7 @@ impl Drive {
         }
     }
 
-    /// The next call of the store, which fails: the touched places get the fill, and the store is
-    /// over.
+    /// Makes the next call of the store, which fails: the touched places get the fill, and the store is over.
     pub fn fail(&mut self, fill: &Fill)
         requires size { length (device_of self.old).bytes ≡ FILE_LEN }
         requires slot { self.old.persist.slot < SLOT_COUNT }
@@ -139,7 +137,7 @@ impl Drive {
         self.persist.told(Answer::Fault);
     }
 
-    /// A write of the store that fails.
+    /// Makes a write of the store that fails.
     fn put_failed(&mut self, write: Write, fill: &Fill)
         requires size { length (device_of self.old).bytes ≡ FILE_LEN }
         requires slot { self.old.persist.slot < SLOT_COUNT }
@@ -153,14 +151,14 @@ impl Drive {
 }
 
 impl Drive {
-    /// A crash: the open places get the fill.
+    /// Crashes the device: the open places get the fill.
     pub fn crash(&mut self, fill: &Fill)
         ensures { IsCrashed fill.now self.old self.new }
     {
         self.image.crash(fill);
     }
 
-    /// Reads the file of segment `index` of `count`, and keeps what it holds.
+    /// Reads the file of segment `index` of `count`, and keeps what it found.
     pub fn read(&mut self, index: u8, count: u8)
         requires { ∥ ((k : ℕ) × (v : List ℕ)
             × IsFileOf index count k v (device_of self.old).bytes) ∥₁ }
@@ -170,7 +168,7 @@ impl Drive {
     {
         match recover(self.image.bytes(), index, count) {
             Ok(found) => self.found = found,
-            // No restart of a world meets damage.
+            // No restart of a world finds damage.
             Err(_) => unreachable!(),
         }
     }
@@ -187,7 +185,7 @@ impl Drive {
         self.found.value(self.image.bytes())
     }
 
-    /// The same in a vector of its own.
+    /// The value that the last restart found, in a vector of its own.
     fn found_bytes(&self, alloc: Global) -> Result<Vec<u8>, AllocError>
         requires size { length (device_of self.now).bytes ≡ FILE_LEN }
         requires limit { self.now.found.length ≤ MAX_VALUE_LEN }
@@ -196,7 +194,7 @@ impl Drive {
         self.found_value().to_vec(alloc)
     }
 
-    /// The store that comes next is that of the number after the one that the last restart found.
+    /// Prepares the next store: of the number after the one that the last restart found.
     pub fn resume(&mut self)
         requires limit { IsNumber self.old.found.number }
         ensures { IsResumed self.old self.new }
@@ -217,7 +215,7 @@ pub fn found_values(alloc: Global, drives: &Vec<Drive>) -> Result<Vec<Vec<u8>>, 
     Ok(all)
 }
 
-/// Each device is ready for its next store.
+/// Prepares each device for its next store.
 pub fn resume_all(drives: &mut Vec<Drive>)
     requires { ∥ AllReadable drives.old.items ∥₁ }
     ensures { Pairs (λ i. IsResumed) drives.old.items drives.new.items }
@@ -227,7 +225,7 @@ pub fn resume_all(drives: &mut Vec<Drive>)
     }
 }
 
-/// Each device crashes with its fill.
+/// Crashes each device with its fill.
 pub fn crash_all(drives: &mut Vec<Drive>, fills: &Vec<Fill>)
     requires { length fills.now.items ≡ length drives.old.items }
     ensures { AreCrashed fills.now.items drives.old.items drives.new.items }

@@ -1,9 +1,9 @@
-//! What may happen in a world, and what it answers.
+//! The events of a world, and its replies.
 use snap_disk::Fill;
 use snap_persist::Write;
 use snap_scan::SegmentSet;
 
-/// Who looks.
+/// The actor that takes a look.
 #[derive(Clone, Copy, Debug, Drop, PartialEq, Eq)]
 pub enum Actor {
     /// The writer of this segment, in the scan that is embedded in its update.
@@ -23,8 +23,8 @@ pub enum Kind {
     Read,
 }
 
-/// One step of a world. Segments and scanners are counted from 0. Each variant says what a world
-/// answers where the event may come; where it may not, the answer is [`Reply::NotNow`].
+/// One step of a world. Segments and scanners are counted from 0. Each variant names the world's
+/// reply if the event may come; else the reply is [`Reply::NotNow`].
 #[derive(Debug, Drop, PartialEq, Eq)]
 pub enum Event {
     /// The writer of this segment, which is idle, begins an update by these bytes, at most 4,080:
@@ -45,14 +45,13 @@ pub enum Event {
     /// This scanner, which is idle, begins a scan: `ScanBegun`.
     Scan(usize),
     /// This scanner, which is idle, begins a scan of these segments alone: `ScanBegun`. The set has
-    /// to name a segment, and none that isn't there.
+    /// to name at least one segment, and only existing ones.
     Pick(usize, SegmentSet),
-    /// This scanner, whose scan has its answer, gives it and is idle again: `Memory`, or `Part` where
+    /// This scanner, whose scan has its answer, gives it and is idle again: `Memory`, or `Part` if
     /// `Pick` began the scan.
     Answer(usize),
     /// Each device crashes, and its open places get its fill, of which there is one for each
-    /// segment: `Crashed`. It may come at any time. Nobody is at work any more, and the node is
-    /// down.
+    /// segment: `Crashed`. It may come at any time. All actors are idle then, and the node is down.
     Crash(Vec<Fill>),
     /// A restart of the node, which is down, begins: `Restarting`.
     Restart,
@@ -63,7 +62,7 @@ pub enum Event {
     /// sync the open places get this fill; a failed read changes nothing.
     RestartFail(Fill),
     /// The restart, whose device calls are all made, ends: `Memory`, the recovered one. The node is
-    /// up, and everybody idle.
+    /// up, and all actors are idle.
     Serve,
 }
 
@@ -74,12 +73,12 @@ pub struct PartEntry {
     pub value: Vec<u8>,
 }
 
-/// What a world answers to an event.
+/// A world's reply to an event.
 #[derive(Debug, Drop, PartialEq, Eq)]
 pub enum Reply {
     /// The update has begun.
     Begun,
-    /// The number of the register that was looked at.
+    /// The number of the register at which the actor looked.
     Number(u64),
     /// The device call of this kind was made.
     Called(Kind),

@@ -1,4 +1,4 @@
-//! A node: its actors, the devices of its segments, and what one event does to them.
+//! A node: its actors, the devices of its segments, and the effect of one event on them.
 ghost use Rattle.std.specs.Prelude.{◌≡◌, ◌<◌, ◌≤◌, IfOk, OnErr};
 ghost use Rattle.snap_history.specs.declared.limits.TheConstants.{MAX_COUNT};
 ghost use Rattle.snap_world.specs.Start.{start_state, start_world_phases, AreFormatted};
@@ -21,10 +21,10 @@ pub enum OpeningCall {
     Read,
 }
 
-/// How far a node is with its restart.
+/// The state of a node between a crash and the end of its restart.
 #[derive(Clone, Copy, Debug, Drop, PartialEq, Eq)]
 pub enum NodePhase {
-    /// Its writers and scanners are at work.
+    /// Its writers and scanners can act.
     Up,
     /// It has crashed.
     Down,
@@ -34,7 +34,7 @@ pub enum NodePhase {
     Ready,
 }
 
-/// What is in memory, and the device of each segment.
+/// The actors in memory, and the device of each segment.
 #[derive(Drop)]
 pub struct Node {
     pub phase: NodePhase,
@@ -43,7 +43,7 @@ pub struct Node {
 }
 
 impl Node {
-    /// Formatted devices, and nobody is at work.
+    /// A node with formatted devices and idle actors.
     pub fn new(alloc: Global, segments: usize, scanners: usize) -> Result<Node, AllocError>
         requires least { 0 < segments }
         requires most { segments ≤ MAX_COUNT }
@@ -62,7 +62,7 @@ impl Node {
         })
     }
 
-    /// One event. Writers and scanners act only while the node is up.
+    /// Does one event. Writers and scanners act only while the node is up.
     #[tactic(auto, using(crate::proofs::Events::actors_of))]
     pub fn step(&mut self, alloc: Global, event: &Event) -> Result<Reply, AllocError>
         requires stands { NodeStand self.old }

@@ -10,7 +10,7 @@ use crate::event::Reply;
 use snap_scan::SegmentSet;
 use std::alloc::{AllocError, Global};
 
-/// How far a scanner is with its scan.
+/// The state of a scanner's scan.
 #[derive(Clone, Copy, Debug, Drop, PartialEq, Eq)]
 pub enum ScannerPhase {
     /// It has no scan.
@@ -21,17 +21,17 @@ pub enum ScannerPhase {
     Ready,
 }
 
-/// What a scanner was asked for.
+/// The segments that a scanner was asked for.
 #[derive(Clone, Copy, Debug, Drop, PartialEq, Eq)]
 pub enum Asked {
     /// All segments.
     All,
-    /// These alone.
+    /// These segments alone.
     Only(SegmentSet),
 }
 
 impl Asked {
-    /// The segments to look at, where there are this many.
+    /// The set of segments to look at, if there are `segments` of them.
     pub fn set(self, segments: usize) -> SegmentSet
         requires most { segments ≤ MAX_COUNT }
         ensures { result.bits ≡ set_of segments self }
@@ -43,7 +43,7 @@ impl Asked {
     }
 }
 
-/// One scanner, with its scan and what that was asked for.
+/// One scanner, with its scan and the segments that it was asked for.
 #[derive(Drop)]
 pub struct Scanner {
     pub phase: ScannerPhase,
@@ -54,8 +54,8 @@ pub struct Scanner {
 impl Scanner {
     ghost use Rattle.snap_scan.specs.declared.set.SegmentSet.{SegmentSet};
 
-    /// The reply to whoever asked: its memory, or the entries of what was asked for. A set has to
-    /// name no segment that the memory has no place for.
+    /// The reply: its memory, or the entries of the segments that it was asked for. Each segment of
+    /// a set has to have a place in the memory.
     pub fn reply(&self, alloc: Global) -> Result<Reply, AllocError>
         requires within { (set : SegmentSet) → self.now.asked ≡ Asked.Only set
             → (place i : ℕ) → IsAt set.bits place i → i < length self.now.collector.memory.items }

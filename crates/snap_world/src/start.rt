@@ -1,4 +1,4 @@
-//! The actors of a new world, with their registers: nothing was shown, nobody is at work.
+//! The actors of a new world, with their registers: nothing was shown, and all are idle.
 ghost use Rattle.std.specs.Prelude.{◌≡◌, ℕ, ◌<◌, ◌≤◌, length, IfOk};
 ghost use Rattle.snap_history.specs.declared.limits.TheConstants.{MAX_COUNT};
 ghost use Rattle.snap_world.specs.inside.Fresh.{
@@ -27,7 +27,7 @@ fn blank(alloc: Global, segments: usize) -> Result<Vec<Value>, AllocError>
     Ok(values)
 }
 
-/// A place for a scan, which has not begun.
+/// A collector whose scan has not begun.
 fn new_collector(alloc: Global, segments: usize) -> Result<Collector, AllocError>
     requires least { 0 < segments }
     requires most { segments ≤ MAX_COUNT }
@@ -39,7 +39,7 @@ fn new_collector(alloc: Global, segments: usize) -> Result<Collector, AllocError
     })
 }
 
-/// The register of each segment.
+/// Makes the register of each segment.
 pub fn new_registers(alloc: Global, segments: usize) -> Result<Vec<Register>, AllocError>
     ensures { IfOk result (λ v. (length v.items ≡ segments)
         × Each (IsFreshRegister segments) v.items) }
@@ -56,7 +56,7 @@ pub fn new_registers(alloc: Global, segments: usize) -> Result<Vec<Register>, Al
     Ok(registers)
 }
 
-/// The writer of each segment.
+/// Makes the writer of each segment.
 pub fn new_writers(alloc: Global, segments: usize) -> Result<Vec<Writer>, AllocError>
     requires least { 0 < segments }
     requires most { segments ≤ MAX_COUNT }
@@ -75,7 +75,7 @@ pub fn new_writers(alloc: Global, segments: usize) -> Result<Vec<Writer>, AllocE
     Ok(writers)
 }
 
-/// This many scanners.
+/// Makes `count` scanners.
 pub fn new_scanners(
     alloc: Global,
     segments: usize,

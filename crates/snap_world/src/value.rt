@@ -1,4 +1,4 @@
-//! A value in a place of its own, so that no copy of one takes memory.
+//! A value in a buffer of fixed size, so that copying one takes no memory.
 ghost use Rattle.std.specs.Prelude.{◌≡◌, [], IfOk};
 ghost use Rattle.snap_history.specs.Limits.{IsShort};
 
@@ -35,7 +35,7 @@ impl Value {
         }
     }
 
-    /// Becomes these bytes.
+    /// Sets the value to these bytes.
     pub fn set(&mut self, bytes: &[u8])
         requires { IsShort bytes.now }
         ensures { self.new ≡ bytes.now }
@@ -44,7 +44,7 @@ impl Value {
         self.len = bytes.len();
     }
 
-    /// Becomes the other value.
+    /// Sets the value to the other one.
     pub fn copy_from(&mut self, other: &Value)
         ensures { self.new ≡ other.now }
     {

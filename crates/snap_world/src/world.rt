@@ -1,4 +1,4 @@
-//! A world, which always stands for some state of the abstract machine.
+//! A world, which always represents some state of the abstract machine.
 ghost use Rattle.std.specs.Prelude.{◌≡◌, ℕ, ◌<◌, ◌≤◌, List, [], ◌∷◌, length, take};
 ghost use Rattle.std.specs.Prelude.{IfOk, IfErr, OnErr};
 ghost use Rattle.snap_history.specs.declared.limits.TheConstants.{MAX_COUNT};
@@ -14,7 +14,7 @@ use crate::event::{Event, Reply};
 use crate::node::Node;
 use std::alloc::{AllocError, Global};
 
-/// Memory ran out. The world stands after the first `done` events.
+/// Memory ran out. The world is as it was after the first `done` events.
 #[derive(Clone, Copy, Debug, Drop, PartialEq, Eq)]
 pub struct Stopped {
     /// How many events were done.
@@ -23,9 +23,9 @@ pub struct Stopped {
 
 /// Registers, devices, writers and scanners, on which events are done one after the other.
 ///
-/// It has no condition but those of [`World::new`]: any list of events may be done on any world. It
-/// stores no history; `StandsFor world state` says for which states of the abstract machine it
-/// stands, and every world stands for some.
+/// Its only conditions are those of [`World::new`]: any list of events may be done on any world. It
+/// stores no history; `StandsFor world state` says which states of the abstract machine it
+/// represents, and every world represents some.
 #[derive(Drop)]
 pub struct World {
     alloc: Global,
@@ -39,11 +39,11 @@ impl World {
     ghost use Rattle.snap_world.specs.Surface.{segments_of, phases_of, devices_of};
 
     /// A world of this many segments and scanners, 1 to 16 each: every segment has number 0 and the
-    /// empty value, its device is formatted, and nobody is at work. The world keeps the allocator,
-    /// and takes the memory of all its calls here, but for the replies of `Answer`, `Serve` and
-    /// `run`.
+    /// empty value, its device is formatted, and all actors are idle. The world keeps the
+    /// allocator, and takes the memory of all its calls here, except for the replies of `Answer`,
+    /// `Serve` and `run`.
     ///
-    /// Where memory runs out it answers the `AllocError`, and nothing is kept.
+    /// If memory runs out the result is the `AllocError`, and nothing is kept.
     pub fn new(alloc: Global, segments: usize, scanners: usize) -> Result<World, AllocError>
         requires least { 0 < segments }
         requires most { segments ≤ MAX_COUNT }
@@ -58,11 +58,11 @@ impl World {
         Ok(World { alloc, node })
     }
 
-    /// One event: a run of that event alone. [`Reply::NotNow`] comes exactly where the event may
-    /// not come, and the world is then unchanged.
+    /// Does one event: a run of that event alone. The reply is [`Reply::NotNow`] exactly if the
+    /// event may not come, and the world is then unchanged.
     ///
-    /// Only `Answer` and `Serve` take memory. Where that runs out the result is the `AllocError`,
-    /// and the world is unchanged.
+    /// Only `Answer` and `Serve` take memory. If that runs out the result is the `AllocError`, and
+    /// the world is unchanged.
     pub fn step(&mut self, event: &Event) -> Result<Reply, AllocError>
         ensures run { IfOk result (λ reply. IsRun self.old (event.now ∷ []) (reply ∷ []) self.new) }
         ensures enabled { IfOk result (λ reply. (x : State) → StandsFor self.old x
@@ -77,26 +77,25 @@ impl World {
         self.node.step(self.alloc, event)
     }
 
-    /// Does the events, one after the other, and gives the reply to each.
+    /// Does the events, one after the other, and returns the reply to each.
     ///
     /// This is the theorem of the world. From each state of the abstract machine that the world
-    /// stood for, the events with their replies are a run of that machine, with the phases and the
-    /// devices that the world had and has, to a state that the world stands for now. So over any
-    /// list of events, with device faults and crashes at any step or inside any write, each restart
-    /// serves the memory after all updates visible by then, followed by at most one begun update of
-    /// each writer; each scan answers the memory as it stood at one moment between its beginning
-    /// and its last look; and `NotNow` comes exactly where an event may not come.
+    /// represented, the events with their replies are a run of that machine, with the phases and
+    /// the devices that the world had and has, to a state that the world represents now. So over
+    /// any list of events, with device faults and crashes at any step or inside any write, each
+    /// restart serves the memory after all updates visible by then, followed by at most one begun
+    /// update of each writer; each scan answers the memory as it was at one moment between its
+    /// beginning and its last look; and `NotNow` comes exactly if an event may not come.
     ///
     /// At any step means with any bytes: whatever the disk model lets a crash leave of the devices
     /// that the world has after the events, the event `Crash` with some fills leaves (`any_crash`),
     /// and whatever it lets a failed write or a failed sync leave, some fill leaves (`any_fault`).
-    /// Inside any write is covered by the moment right after it: what a crash inside a write may
-    /// leave of the devices, the event `Crash` with some fills leaves behind that write
+    /// Inside any write is covered by the moment right after it: whatever a crash inside a write
+    /// may leave of the devices, the event `Crash` with some fills leaves after that write
     /// (`crash_inside_any_write`).
     ///
-    /// The memory of the list of replies is taken before the first event. Where memory runs out,
-    /// there or at an `Answer` or a `Serve`, the result is [`Stopped`], and all this holds of the
-    /// events already done.
+    /// The memory of the list of replies is taken before the first event. If memory runs out, there or at
+    /// an `Answer` or a `Serve`, the result is [`Stopped`], and all this holds of the events already done.
     #[tactic(auto, using(crate::proofs::Fills::no_bytes_left_out))]
     pub fn run(&mut self, events: &[Event]) -> Result<Vec<Reply>, Stopped>
         ensures run { IfOk result (λ replies. IsRun self.old events.now replies.items self.new) }
@@ -106,8 +105,8 @@ impl World {
         ensures memory { IfErr result (λ stopped.
             StopsAt (phases_of self.new) events.now stopped.done) }
 
-        // However it ends, the history only grew, at its end: what was visible once stands in every
-        // later history.
+        // However it ends, the history was only appended to: an update that was visible once is in
+        // every later history.
         ensures grows { (x : State) → StandsFor self.old x
             → (y : State) × StandsFor self.new y × IsBeginning x.history y.history }
 

@@ -2,7 +2,7 @@
 use crate::collector::Collector;
 use crate::value::Value;
 
-/// How far a writer is with its update.
+/// The state of a writer's update.
 #[derive(Clone, Copy, Debug, Drop, PartialEq, Eq)]
 pub enum WriterPhase {
     /// It has no update.

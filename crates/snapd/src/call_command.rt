@@ -1,4 +1,4 @@
-//! Calls of a server over TCP or a Unix socket.
+//! Calls a server over TCP or a Unix socket.
 ghost use Rattle.std.specs.Prelude.{◌≤◌};
 ghost use Rattle.snap_order.specs.Limits.{MAX_TRIES};
 ghost use Rattle.snap_order.specs.Order.{IsCallable};
@@ -19,9 +19,9 @@ use std::sync::atomic::Ordering;
 use std::thread;
 use std::time::Duration;
 
-/// Asks the server at the order's address, and says how the program ends. An address that the
-/// system doesn't take has failed before any connection is made. Why the system made no connection, and that
-/// the time of a call was over, are said in lines of their own.
+/// Does the order `call`, and returns the exit status. An address that the system doesn't take
+/// fails before any connection is made. Two more lines on standard error say why the system made no
+/// connection, and that the time of the call was over.
 pub fn call<N: Net + Clock>(net: &N, rt: &HostRuntime, order: &Calling<'_>) -> Status
     requires { IsCallable order.now }
 {
@@ -49,8 +49,8 @@ pub fn call<N: Net + Clock>(net: &N, rt: &HostRuntime, order: &Calling<'_>) -> S
     status
 }
 
-/// The values of the server at this address, by one scan, or how the program ends without them: as a call
-/// of so many tries, which goes on for so long, does.
+/// The values of the server at this address, by one scan. An error is the exit status, as of a call
+/// with these tries and this patience.
 pub fn fetch<N: Net + Clock>(
     net: &N,
     rt: &HostRuntime,
@@ -80,8 +80,8 @@ pub fn fetch<N: Net + Clock>(
     }
 }
 
-/// Says of a call that failed what the system said of its last connection, and that its time was over, where
-/// they were so.
+/// If a call failed, prints the system's reason for the failure of its last connection, if there is
+/// one, and whether its time was over.
 fn say_why(rt: &HostRuntime, address: &str, patience: Patience, status: Status, course: &Course) {
     if status != Status::Failed {
         return;
@@ -99,7 +99,7 @@ fn say_why(rt: &HostRuntime, address: &str, patience: Patience, status: Status, 
     }
 }
 
-/// Says that there was no answer within the seconds of this option.
+/// Prints that there was no answer within the seconds of this option.
 fn say_late(rt: &HostRuntime, address: &str, seconds: Option<u32>, option: &str) {
     let seconds = seconds.unwrap_or(0);
     say(
@@ -108,8 +108,9 @@ fn say_late(rt: &HostRuntime, address: &str, seconds: Option<u32>, option: &str)
     );
 }
 
-/// The system takes the address, or may know it later where the call waits: then a name is looked up again before
-/// each connection. Says why where it isn't so.
+/// Whether to connect to the address: the system takes it, or may take it later and the call waits.
+/// In that case the name is looked up again before each connection. Prints the reason if it returns
+/// `false`.
 fn is_worth_a_try<N: Net>(net: &N, rt: &HostRuntime, address: &str, patience: Patience) -> bool {
     match look_up(net, address) {
         Err(error) if patience.wait.is_none() || error.kind() == ErrorKind::InvalidInput => {
@@ -120,7 +121,7 @@ fn is_worth_a_try<N: Net>(net: &N, rt: &HostRuntime, address: &str, patience: Pa
     }
 }
 
-/// The system takes the address. Says why where it doesn't.
+/// Whether the system takes the address. Prints the reason if it doesn't.
 pub fn is_known<N: Net>(net: &N, rt: &HostRuntime, address: &str) -> bool {
     let at_once = Patience {
         wait: None,
@@ -129,7 +130,7 @@ pub fn is_known<N: Net>(net: &N, rt: &HostRuntime, address: &str) -> bool {
     is_worth_a_try(net, rt, address, at_once)
 }
 
-/// The system takes the address. That of a Unix socket it takes as it is.
+/// Looks the address up. A Unix socket's needs no look-up.
 fn look_up<N: Net>(net: &N, address: &str) -> io::Result<()> {
     if socket_path(address).is_none() {
         let _ = address.to_socket_addrs(net)?;
@@ -137,7 +138,7 @@ fn look_up<N: Net>(net: &N, address: &str) -> io::Result<()> {
     Ok(())
 }
 
-/// A connection that was made before the time was over. What is written goes out without delay.
+/// Connects before the time is over. What is written over TCP is sent without delay.
 pub fn link_within<N: Net + Clock>(
     net: &N,
     address: &str,
@@ -151,11 +152,11 @@ pub fn link_within<N: Net + Clock>(
     Ok(Link::Tcp(stream))
 }
 
-/// The rest before another try where a server's queue is full, in milliseconds.
+/// The pause before another try if a server's queue is full, in milliseconds.
 const QUEUE_REST: u64 = 10;
 
-/// A connection to the Unix socket at this path, before the time is over. Without a limit the system
-/// waits where the queue is full.
+/// Connects to the Unix socket at this path before the time is over. Without a limit the system
+/// waits while the queue is full.
 fn connect_unix_within<N: Net + Clock>(
     net: &N,
     path: &str,
@@ -174,7 +175,7 @@ fn connect_unix_within<N: Net + Clock>(
     Err(io::Error::from(ErrorKind::TimedOut))
 }
 
-/// A connection to the Unix socket at this path. `None` where its queue is full.
+/// Connects to the Unix socket at this path. `None` if its queue is full.
 fn connect_unix<N: Net>(net: &N, path: &str) -> io::Result<Option<UnixStream>> {
     match mio::net::UnixStream::connect(net, path) {
         Ok(stream) => {
@@ -187,8 +188,8 @@ fn connect_unix<N: Net>(net: &N, path: &str) -> io::Result<Option<UnixStream>> {
     }
 }
 
-/// A connection to the first of the address's that takes one before the time is over, of which each that is left
-/// has an equal share.
+/// Connects to the first of the name's addresses that accepts before the time is over. Each
+/// remaining address gets an equal share of the remaining time.
 fn connect_within<N: Net + Clock>(
     net: &N,
     address: &str,
@@ -207,13 +208,13 @@ fn connect_within<N: Net + Clock>(
     Err(last)
 }
 
-/// The time that one of so many has, which is never nothing.
+/// The share of one among these, which is never zero. `None` without a limit.
 fn share_of(left: Option<Duration>, among: u32) -> Option<Duration> {
     let share = left? / among.max(1);
     Some(share.max(Duration::from_millis(1)))
 }
 
-/// A connection that is made within this time, where there is a limit.
+/// Connects within this time, if there is a limit.
 fn connect_to<N: Net>(
     net: &N,
     address: SocketAddr,

@@ -1,4 +1,4 @@
-//! What the program says of files that it could not take.
+//! Messages on standard error about files and folders that can't be used.
 
 use crate::file_system::remedy_of;
 use crate::folder::FolderTrouble;
@@ -10,17 +10,17 @@ use snap_stream::complain;
 use std::fmt::Display;
 use std::io::{self, ErrorKind};
 
-/// Says this on standard error.
+/// Prints this text on standard error.
 pub fn say<T: Display>(rt: &HostRuntime, text: &T) {
     let _ = complain(rt.alloc(), &mut rt.stderr(), text);
 }
 
-/// Says why the file at this path could not be taken, and what to do where that is known.
+/// Prints why the file at this path couldn't be opened, with advice if there is any.
 pub fn fail_at(rt: &HostRuntime, file: &str, fault: &FileFault) -> Status {
     fail_without(rt, file, fault, None)
 }
 
-/// Says the same of a path that this command makes, where it isn't there.
+/// [`fail_at`] for a path that this command makes, if it doesn't exist.
 pub fn fail_without(
     rt: &HostRuntime,
     path: &str,
@@ -36,7 +36,7 @@ pub fn fail_without(
     Status::Failed
 }
 
-/// Says the same of a server's file, and what to give where it is a folder.
+/// [`fail_at`] for a server's file, with advice for one that is a folder.
 pub fn fail_at_file(rt: &HostRuntime, file: &str, fault: &FileFault) -> Status {
     let command = format!(in rt.alloc(); "snapd format {file} --index I --count N");
     let status = fail_without(rt, file, fault, command.ok());
@@ -49,7 +49,7 @@ pub fn fail_at_file(rt: &HostRuntime, file: &str, fault: &FileFault) -> Status {
     status
 }
 
-/// Says that two paths of one command name one file.
+/// Prints that two paths of one command name one file.
 pub fn fail_twice(rt: &HostRuntime, first: &str, second: &str) -> Status {
     say(
         rt,
@@ -58,7 +58,8 @@ pub fn fail_twice(rt: &HostRuntime, first: &str, second: &str) -> Status {
     Status::Failed
 }
 
-/// Says why the files of a folder could not be taken. What the files themselves are is a refusal.
+/// Prints why the files of a folder can't be used. If the reason is in the files themselves, the
+/// status is [`Status::Refused`].
 pub fn fail_in(rt: &HostRuntime, trouble: &FolderTrouble<'_>) -> Status {
     match trouble {
         FolderTrouble::Path { file, fault } => fail_at(rt, file, fault),
@@ -70,7 +71,7 @@ pub fn fail_in(rt: &HostRuntime, trouble: &FolderTrouble<'_>) -> Status {
     }
 }
 
-/// Says why the folder at this path could not be made or listed.
+/// Prints why the folder at this path couldn't be made or listed.
 pub fn fail_at_folder(rt: &HostRuntime, folder: &str, reason: io::Error) -> Status {
     if reason.kind() == ErrorKind::OutOfMemory {
         return stop_without_memory(rt);
@@ -79,12 +80,12 @@ pub fn fail_at_folder(rt: &HostRuntime, folder: &str, reason: io::Error) -> Stat
     fail_without(rt, folder, &FileFault::System(reason), command.ok())
 }
 
-/// Says why the program stops.
+/// Prints why the program stops.
 pub fn stop(rt: &HostRuntime, failure: &CommandFailure) -> Status {
     failure.report(rt.alloc(), &mut rt.stderr()).status
 }
 
-/// Says that there was no memory.
+/// Prints that memory ran out.
 pub fn stop_without_memory(rt: &HostRuntime) -> Status {
     stop(rt, &CommandFailure::Refused(Refusal::NoMemory))
 }

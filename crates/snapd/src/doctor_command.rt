@@ -1,4 +1,4 @@
-//! The command `doctor`: how the files of a folder are, and the file system that they are on.
+//! The command `doctor`: reports on the files of a folder and on their file system.
 ghost use Rattle.std.specs.Prelude.{◌≡◌, length};
 
 use crate::complaint::{stop, stop_without_memory};
@@ -11,8 +11,8 @@ use snap_folder::SegmentPlace;
 use snap_order::{Examination, Status};
 use std::io::{self, ErrorKind};
 
-/// Looks at the folder's files and at its file system, and says how they are, a line for each. The status
-/// is that of a refusal where something has to be mended before the folder can be served.
+/// Checks the folder's files and its file system, and prints a line for each. The status is
+/// [`Status::Refused`] if something has to be repaired before the folder can be served.
 pub fn examine(rt: &HostRuntime, order: &Examination<'_>) -> Status {
     let files = match segment_files(rt, order.folder) {
         Ok(files) => files,
@@ -26,7 +26,7 @@ pub fn examine(rt: &HostRuntime, order: &Examination<'_>) -> Status {
     }
 }
 
-/// Says how the folder is, and whether it can be served.
+/// Prints the whole report. Returns whether the folder can be served.
 fn report(rt: &HostRuntime, order: &Examination<'_>, files: &[String]) -> io::Result<bool> {
     let are_whole = report_files(rt, order.folder, files)?;
     let are_kept = report_file_system(rt, order.folder, files)?;
@@ -34,8 +34,8 @@ fn report(rt: &HostRuntime, order: &Examination<'_>, files: &[String]) -> io::Re
     Ok(are_whole && are_kept && are_stored)
 }
 
-/// Says how each file is, and whether they are all segments of one server. The first that another process has is
-/// waited for, and no further one.
+/// Reports on each file, and whether they are all the segments of one server. It waits for the
+/// first file that another process has locked, and for no further one.
 fn report_files(rt: &HostRuntime, folder: &str, files: &[String]) -> io::Result<bool> {
     let mut places = Vec::with_capacity(rt.alloc(), files.len())?;
     let (mut are_whole, mut are_free) = (true, true);
@@ -46,25 +46,26 @@ fn report_files(rt: &HostRuntime, folder: &str, files: &[String]) -> io::Result<
             FileState::InUse => are_free = false,
         }
     }
-    // What is wrong with a file comes first. Where all are whole and free, each has its place.
+    // What is wrong with single files comes first. If all are whole and none is in use, each has
+    // its place.
     if !are_whole || places.len() != files.len() {
         return Ok(are_whole);
     }
     report_order(rt, folder, files, &places)
 }
 
-/// What was said of a file.
+/// The result of a file's check.
 #[derive(Clone, Copy)]
 enum FileState {
-    /// It is the file of this segment, and holds a value.
+    /// It is the file of this segment, and has a value.
     Whole(SegmentPlace),
     /// Something is wrong with it.
     Ill,
-    /// Another process has it.
+    /// Another process has locked it.
     InUse,
 }
 
-/// Says how a file is. One that another process has is waited for only where `is_awaited`.
+/// Reports on a file. Only if `is_awaited`, it waits for another process that has locked it.
 fn report_file(
     rt: &HostRuntime,
     folder: &str,
@@ -89,7 +90,7 @@ fn report_file(
     }
 }
 
-/// Says that another process has a file.
+/// Reports that another process has locked a file.
 fn report_use(rt: &HostRuntime, file: &str) -> io::Result<FileState> {
     rt.print(&format_args!(
         "{file}: a server or another command has it: ask it, as by snapd call ADDR status\n"
@@ -97,7 +98,8 @@ fn report_use(rt: &HostRuntime, file: &str) -> io::Result<FileState> {
     Ok(FileState::InUse)
 }
 
-/// Says what a file holds, where it holds anything, and whether a server that this user starts can have it.
+/// Reports on a segment's file: its place and number, and whether a server started by this user
+/// could use it.
 fn report_segment(rt: &HostRuntime, file: &str, found: SegmentContents) -> io::Result<FileState> {
     let SegmentPlace { index, count } = found.place;
     let Some(number) = found.number else {
@@ -117,7 +119,7 @@ fn report_segment(rt: &HostRuntime, file: &str, found: SegmentContents) -> io::R
     }
 }
 
-/// Says what to do about this reason of the system, where that is known.
+/// Prints the advice for this reason of the system, if there is any.
 fn report_remedy(rt: &HostRuntime, path: &str, reason: &io::Error) -> io::Result<()> {
     match remedy_of(rt, path, reason, None) {
         Some(remedy) => rt.print(&format_args!("{remedy}\n")),
@@ -125,7 +127,7 @@ fn report_remedy(rt: &HostRuntime, path: &str, reason: &io::Error) -> io::Result
     }
 }
 
-/// Says whether the files are all segments of one server.
+/// Reports whether the files are all the segments of one server.
 fn report_order(
     rt: &HostRuntime,
     folder: &str,
@@ -148,7 +150,7 @@ fn report_order(
     }
 }
 
-/// Says what is wrong with a file or the folder.
+/// Reports what is wrong with a file or the folder.
 fn report_trouble(rt: &HostRuntime, trouble: &FolderTrouble<'_>) -> io::Result<()> {
     match trouble {
         FolderTrouble::Path { file, fault } => {
@@ -163,8 +165,8 @@ fn report_trouble(rt: &HostRuntime, trouble: &FolderTrouble<'_>) -> io::Result<(
     }
 }
 
-/// Says what file system the folder is on, and whether locks keep anybody out there. They are tried on a
-/// segment's file where there is one: not each file system locks folders.
+/// Reports the type of the folder's file system, and whether locks work there. They are tried on a
+/// segment's file, if there is one, since some file systems don't lock folders.
 fn report_file_system(rt: &HostRuntime, folder: &str, files: &[String]) -> io::Result<bool> {
     let kind = match file_system_of(rt, folder) {
         Some(kind) => kind,
@@ -177,7 +179,7 @@ fn report_file_system(rt: &HostRuntime, folder: &str, files: &[String]) -> io::R
     report_locks(rt, folder, kind.as_str(), tried)
 }
 
-/// Says whether locks keep anybody out on a file system of this type.
+/// Reports whether locks work on a file system of this type.
 fn report_locks(rt: &HostRuntime, folder: &str, kind: &str, tried: &str) -> io::Result<bool> {
     let (are_kept, locks) = match keeps_locks(rt, tried) {
         Ok(true) => (true, "and keeps locks"),
@@ -196,7 +198,7 @@ fn report_locks(rt: &HostRuntime, folder: &str, kind: &str, tried: &str) -> io::
     Ok(are_kept)
 }
 
-/// Says how long a store takes there, and whether it can have waited for a disk.
+/// Reports how long a store takes in the folder, and whether it can have waited for a disk.
 fn report_stores(rt: &HostRuntime, folder: &str) -> io::Result<bool> {
     let times = match measure(rt, rt.alloc(), folder) {
         Ok(times) => times,

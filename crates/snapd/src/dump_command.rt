@@ -1,4 +1,4 @@
-//! The command `dump`: all that a server or a folder of files holds, as one document.
+//! The command `dump`: prints all values of a server or a folder as one document.
 ghost use Rattle.std.specs.Prelude.{◌<◌, ◌≤◌, length};
 ghost use Rattle.snap_order.specs.Limits.{MAX_COUNT};
 ghost use Rattle.snap_order.specs.Order.{IsDumpable};
@@ -18,11 +18,11 @@ use snap_stream::write_whole;
 use std::alloc::Global;
 use std::fmt::InlineText;
 
-/// The room for a time.
+/// The size of the buffer for a time.
 const ROOM: usize = 32;
 
-/// Prints the dump, and nothing where there is none. Its time is from before its values are asked for, so all
-/// that was acknowledged before that time is in it.
+/// Prints a dump, or nothing if it fails. Its time is taken before its values are requested, so it
+/// has every update that was acknowledged before that time.
 pub fn dump(rt: &HostRuntime, order: &Dumping<'_>) -> Status
     requires { IsDumpable order.now }
 {
@@ -43,13 +43,13 @@ pub fn dump(rt: &HostRuntime, order: &Dumping<'_>) -> Status
     }
 }
 
-/// A time by RFC 3339 in UTC, cut to seconds.
+/// A time in RFC 3339 format, in UTC and cut to seconds.
 fn time_text(now: Timestamp) -> InlineText<ROOM> {
     InlineText::of(format_args!("{now:.0}"))
 }
 
-/// Prints the dump of these values whole, if it can be read back: so a copy that no load takes is found when it is
-/// made, and not when it is wanted.
+/// Prints the dump of these values, if it can be read back. So a copy that no load would accept is
+/// noticed when it is made, not when it is needed.
 fn print_dump(rt: &HostRuntime, time: &str, values: &[SegmentValue]) -> Status {
     let Ok(text) = document(rt.alloc(), time, values) else {
         return stop_without_memory(rt);
@@ -84,8 +84,8 @@ fn server_values(
     fetch(rt, rt, address, order.tries, patience)
 }
 
-/// The values of a folder's files, which are locked until all are read: so they are those of the moment at
-/// which the last one was.
+/// The values of a folder's files. All files stay locked until the last one is read, so the values
+/// are of one moment.
 fn folder_values(
     rt: &HostRuntime,
     alloc: Global,
@@ -142,7 +142,8 @@ fn read_file<'f>(
     }
 }
 
-/// Says why the file at this path could not be taken, and whom to ask where somebody has it.
+/// Prints why the file at this path couldn't be opened. If it is in use, advises to ask the server
+/// for a dump.
 fn fail_at_locked(rt: &HostRuntime, file: &str, fault: &FileFault) -> Status {
     if let FileFault::InUse(_) = fault {
         let line = format_args!("{file}: {fault}: where that is a server, ask it: snapd dump ADDR");

@@ -1,4 +1,4 @@
-//! What a folder's file system is, whether its locks keep anybody out, and what keeps this user out of a path.
+//! The type of a folder's file system, whether its locks work, and what denies this user a path.
 
 use std::alloc::Global;
 use std::fs::{self, File, Metadata, TryLockError};
@@ -6,16 +6,17 @@ use std::io::{self, ErrorKind};
 use std::os::unix::fs::MetadataExt;
 use std::path::Path;
 
-/// Where Linux lists what is mounted, a line each.
+/// Linux's list of mounts, a line each.
 const MOUNTS: &str = "/proc/self/mountinfo";
 
-/// What stands in such a line in front of the file system's type.
+/// Precedes the type of the file system in such a line.
 const BEHIND: &str = " - ";
 
-/// The bits of a mode that say who may do what.
+/// The permission bits of a mode, with set-user-ID, set-group-ID and sticky.
 const MODE: u32 = 0o7777;
 
-/// The type of the file system that the path is on, as `ext4`. `None` where the system doesn't say.
+/// The type of the file system that has this path, such as `ext4`. `None` if the system doesn't
+/// say.
 pub fn file_system_of(rt: &HostRuntime, path: &str) -> Option<String> {
     let device = fs::metadata(rt, path).ok()?.dev();
     let mounts = fs::read_to_string(rt, MOUNTS).ok()?;
@@ -24,14 +25,14 @@ pub fn file_system_of(rt: &HostRuntime, path: &str) -> Option<String> {
     String::from_str(rt.alloc(), kind).ok()
 }
 
-/// The number of a device as the list has it.
+/// The number of a device, as in the list of mounts.
 fn device_name(alloc: Global, device: u64) -> Option<String> {
     let major = (device >> 8 & 0xFFF) | (device >> 32 & !0xFFF);
     let minor = (device & 0xFF) | (device >> 12 & !0xFF);
     format!(in alloc; "{major}:{minor}").ok()
 }
 
-/// The type in the last line of this device: what was mounted last covers the others.
+/// The type in the last line of this device, since a later mount covers an earlier one.
 fn kind_in<'m>(mounts: &'m str, device: &str) -> Option<&'m str> {
     let mut found = None;
     for line in mounts.lines() {
@@ -43,8 +44,8 @@ fn kind_in<'m>(mounts: &'m str, device: &str) -> Option<&'m str> {
     found
 }
 
-/// Whether a lock of this file, or folder, keeps another one out. Nothing is written, and a lock that
-/// somebody has is left to him.
+/// Whether one lock of this file or folder excludes another. Nothing is written, and the lock of
+/// another process stays.
 pub fn keeps_locks(rt: &HostRuntime, path: &str) -> io::Result<bool> {
     let first = opened(rt, path)?;
     let second = opened(rt, path)?;
@@ -54,15 +55,15 @@ pub fn keeps_locks(rt: &HostRuntime, path: &str) -> io::Result<bool> {
     Ok(!has_locked(&second)?)
 }
 
-/// Opens the file at this path as a server would, to be written and with its lock where nobody has that, and lets go
-/// of it. Nothing is written.
+/// Opens the file at this path as a server would: for writing, and with its lock unless another
+/// process has that. Then closes it. Nothing is written.
 pub fn try_as_server(rt: &HostRuntime, path: &str) -> io::Result<()> {
     let file = File::options().read(true).write(true).open(rt, path)?;
     has_locked(&file)?;
     Ok(())
 }
 
-/// Another process has the file at this path for itself at this moment.
+/// Whether another process has an exclusive lock of the file at this path right now.
 pub fn is_taken(rt: &HostRuntime, path: &str) -> bool {
     match opened(rt, path) {
         Ok(file) => matches!(file.try_lock_shared(), Err(TryLockError::WouldBlock)),
@@ -70,8 +71,9 @@ pub fn is_taken(rt: &HostRuntime, path: &str) -> bool {
     }
 }
 
-/// The file, to be written where that is allowed: some file systems want that of whose lock is his alone. A pipe
-/// would let a reader wait for a writer.
+/// Opens the file for writing if that is allowed, since some file systems want that for an
+/// exclusive lock. Only files and folders are opened for reading: that would block on a pipe until
+/// a writer came.
 fn opened(rt: &HostRuntime, path: &str) -> io::Result<File> {
     let found = fs::metadata(rt, path)?;
     match File::options().read(true).write(true).open(rt, path) {
@@ -80,7 +82,7 @@ fn opened(rt: &HostRuntime, path: &str) -> io::Result<File> {
     }
 }
 
-/// The file is locked now, and wasn't before.
+/// Locks the file. Returns `false` if it is locked already.
 fn has_locked(file: &File) -> io::Result<bool> {
     match file.try_lock() {
         Ok(()) => Ok(true),
@@ -89,9 +91,9 @@ fn has_locked(file: &File) -> io::Result<bool> {
     }
 }
 
-/// What keeps this user out of the path, where the system gave this reason, and what to do: a text that begins with
-/// what is in the way. `command` is what makes the path, where that isn't there. `None` where nothing is known, or no
-/// memory is left.
+/// What denies this user the path, if the system gave this reason, with advice: a text that begins
+/// with the path in question. `command` makes the path, if it doesn't exist. `None` if there is no
+/// advice, or if memory runs out.
 pub fn remedy_of(
     rt: &HostRuntime,
     path: &str,
@@ -108,7 +110,7 @@ pub fn remedy_of(
     }
 }
 
-/// Who owns what this user may not use.
+/// The owner and mode of the path that this user may not use, with advice.
 fn remedy_of_denial(rt: &HostRuntime, alloc: Global, path: &str) -> Option<String> {
     let (place, found) = nearest(rt, path)?;
     let (owner, mode, user) = (found.uid(), found.mode() & MODE, libc::geteuid());
@@ -122,10 +124,10 @@ fn remedy_of_denial(rt: &HostRuntime, alloc: Global, path: &str) -> Option<Strin
     ).ok()
 }
 
-/// The path, or the nearest folder above it that this user can look at.
+/// The path, or the nearest folder above it whose metadata this user can read.
 fn nearest<'p>(rt: &HostRuntime, path: &'p str) -> Option<(&'p str, Metadata)> {
     for place in Path::new(path).ancestors() {
-        // Relative paths begin where the process is.
+        // The last ancestor of a relative path is the working directory.
         let place = if place.as_str().is_empty() {
             "."
         } else {
@@ -138,7 +140,7 @@ fn nearest<'p>(rt: &HostRuntime, path: &'p str) -> Option<(&'p str, Metadata)> {
     None
 }
 
-/// The folder in which this path is. `None` of the root and of no path.
+/// The folder of this path. `None` for the root and the empty path.
 fn folder_of(path: &str) -> Option<&str> {
     match Path::new(path).parent() {
         Some(folder) if !folder.as_str().is_empty() => Some(folder.as_str()),
@@ -147,7 +149,7 @@ fn folder_of(path: &str) -> Option<&str> {
     }
 }
 
-/// What is wanting of a path that isn't there.
+/// What is missing of a path that doesn't exist, with advice.
 fn remedy_of_want(
     rt: &HostRuntime,
     alloc: Global,

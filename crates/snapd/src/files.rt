@@ -1,4 +1,4 @@
-//! The files of an order, as the system gives them.
+//! Opens the files of an order.
 ghost use Rattle.std.specs.Prelude.{◌≡◌, length, IfOk};
 ghost use Rattle.snap_devices.specs.FileDisk.{IsUncalled};
 
@@ -18,29 +18,29 @@ use std::rt::{Clock, Files};
 use std::sync::OnceLock;
 use thiserror::Error;
 
-/// Why the first call of an open file that failed did. It outlives the file's device, which tells
-/// it.
+/// The reason why a call on an open file failed first. The file's device sets it; it outlives the
+/// device.
 #[derive(Drop)]
 pub struct FirstFault {
     fault: OnceLock<CallFault>,
 }
 
 impl FirstFault {
-    /// No call has failed.
+    /// No call has failed yet.
     pub fn new() -> FirstFault {
         FirstFault {
             fault: OnceLock::new(),
         }
     }
 
-    /// What the file's device tells.
+    /// Where the file's device puts the reason.
     pub fn place(&self) -> &OnceLock<CallFault> {
         &self.fault
     }
 }
 
 impl Cause for FirstFault {
-    // What another thread or the system put there, no contract knows.
+    // No contract says what another thread or the system put there.
     ghost may_give = { λ _ _. Unit {0} };
 
     fn text(&self, alloc: Global) -> Option<String> {
@@ -51,7 +51,7 @@ impl Cause for FirstFault {
     }
 }
 
-/// A place for each of so many files.
+/// An empty reason for each of `count` files.
 pub fn first_faults(alloc: Global, count: usize) -> Result<Vec<FirstFault>, AllocError>
     ensures { IfOk result (λ told. length told.items ≡ count) }
 {
@@ -62,7 +62,7 @@ pub fn first_faults(alloc: Global, count: usize) -> Result<Vec<FirstFault>, Allo
     Ok(told)
 }
 
-/// The order's file as a device, by [`open_file`]. Says why where it can't be taken.
+/// Opens the order's file by [`open_file`]. Prints the reason if that fails.
 pub fn take_file<'a>(
     rt: &'a HostRuntime,
     order: &FileOrder<'_>,
@@ -85,9 +85,9 @@ pub fn take_file<'a>(
     }
 }
 
-/// The order's file as a device: `format` makes the file where it isn't there, and the other
-/// commands take it as it is. What writes the file has it alone. `file` is the order's path, and
-/// `told` gets why a call of the file fails.
+/// Opens the order's file as a device. `format` makes the file if it doesn't exist. A command that
+/// writes gets an exclusive lock. `file` is the order's path, and `told` gets the reason why a call
+/// on the file fails.
 fn open_file<'a, R: Files<File = File> + Clock>(
     rt: &'a R,
     order: &FileOrder<'_>,
@@ -111,7 +111,7 @@ pub fn writes(order: &FileOrder<'_>) -> bool {
     matches!(order, FileOrder::Format { .. } | FileOrder::Put { .. })
 }
 
-/// The files of a migration as devices, by [`open_pair`]. Says why where they can't be taken.
+/// Opens the files of a migration by [`open_pair`]. Prints the reason if that fails.
 pub fn take_pair<'a>(
     rt: &'a HostRuntime,
     order: &Migration<'_>,
@@ -139,20 +139,20 @@ pub fn take_pair<'a>(
     }
 }
 
-/// Why the files of a migration could not be taken.
+/// The reason why the files of a migration couldn't be opened.
 #[derive(Drop)]
 enum PairFault<'a> {
-    /// The file at this path could not be taken as a device.
+    /// The file at this path couldn't be opened.
     Path { file: &'a str, fault: FileFault },
-    /// This file is refused for its length.
+    /// This file has a wrong length.
     WrongFile(Which),
     /// Both paths name one file.
     SameFile,
 }
 
-/// The files of a migration as devices: the old one, which others may read meanwhile, and then the
-/// new one, which is made where it isn't there. Where both have a wrong length, the old one counts.
-/// `told_old` and `told_new` get why a call of each fails.
+/// Opens the files of a migration as devices: first the old one, which others may still read, and
+/// then the new one, which is made if it doesn't exist. If both have a wrong length, the old one is
+/// reported. `told_old` and `told_new` get the reason why a call on each fails.
 fn open_pair<'a, R: Files<File = File> + Clock>(
     rt: &'a R,
     old: &'a str,
@@ -179,11 +179,11 @@ fn open_pair<'a, R: Files<File = File> + Clock>(
     }
 }
 
-/// The number by which Linux knows the limit on the length of files that a process writes.
+/// Linux's RLIMIT_FSIZE: the limit on the length of files that a process writes.
 const FILE_LENGTHS: i32 = 1;
 
-/// The most bytes that a file may have which this process writes, where that is less than a segment
-/// file has. The system ends a process that goes beyond it, with all its segments.
+/// The most bytes of a file that this process may write, if that is less than a segment file has.
+/// Beyond it the system would kill the server with all its segments.
 pub fn too_short_files() -> Option<u64> {
     let mut limit = libc::types::rlimit {
         rlim_cur: 0,
@@ -206,10 +206,10 @@ pub enum ClosedStream {
     Errors(io::Error),
 }
 
-/// Standard input, output and error are all open.
+/// Checks that standard input, output and error are all open.
 ///
-/// A file that is opened takes the lowest free number. Where one of the three is closed that would
-/// be its number, and what the program prints would be written into the segment.
+/// An opened file gets the lowest free descriptor. If one of the three were closed, a segment file
+/// would get its number, and the program's output would be written into the segment.
 pub fn check_streams<I: AsFd, O: AsFd, E: AsFd>(
     reader: &I,
     writer: &O,
@@ -220,7 +220,7 @@ pub fn check_streams<I: AsFd, O: AsFd, E: AsFd>(
     is_open(errors).map_err(ClosedStream::Errors)
 }
 
-/// A number that isn't open has no copy.
+/// A closed descriptor can't be duplicated.
 fn is_open<F: AsFd>(stream: &F) -> io::Result<()> {
     let _copy = stream.as_fd().try_clone_to_owned()?;
     Ok(())

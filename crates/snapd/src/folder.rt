@@ -1,7 +1,7 @@
-//! A folder with the files of all segments: made by `init`, and read by `serve --dir`.
+//! Folders with the files of all segments: `init` makes them, and `serve --dir` opens them.
 //!
-//! Which of its files is which segment's stands in their headers alone, so they may have any names that end
-//! in `.seg`. `snap_folder` judges what the headers say; what is here reads them.
+//! Only the header of a file says which segment it is, so the files may have any names that end in
+//! `.seg`. `snap_folder` judges the headers; this module reads them.
 ghost use Rattle.std.specs.Prelude.{◌≡◌, ◌<◌, ◌≤◌, All, IfOk, length};
 ghost use Rattle.snap_folder.specs.Order.{IsFaultOf};
 ghost use Rattle.snap_order.specs.Limits.{MAX_COUNT};
@@ -20,14 +20,14 @@ use std::fs::{self, DirEntry};
 use std::io::{self, ErrorKind};
 use std::path::Path;
 
-/// Why the files of a folder could not be taken.
+/// The reason why the files of a folder can't be used.
 #[derive(Drop)]
 pub enum FolderTrouble<'f> {
-    /// The file at this path could not be taken as a device.
+    /// The file at this path couldn't be opened.
     Path { file: &'f str, fault: FileFault },
     /// They are not the segments of one server.
     Refused(FolderRefusal<'f>),
-    /// A growth of memory was refused.
+    /// Memory ran out.
     NoMemory,
 }
 
@@ -37,8 +37,8 @@ impl From<AllocError> for FolderTrouble<'_> {
     }
 }
 
-/// Makes the folder at this path where it isn't there, and makes its name last, where the system allows
-/// that. What is there already, a folder or not, is left as it is.
+/// Makes the folder at this path if it doesn't exist, and syncs its name, if the system allows
+/// that. It leaves anything that exists at the path as it is.
 pub fn make_folder(rt: &HostRuntime, folder: &str) -> io::Result<()> {
     match fs::create_dir(rt, folder) {
         Err(reason) if reason.kind() != ErrorKind::AlreadyExists => return Err(reason),
@@ -47,8 +47,8 @@ pub fn make_folder(rt: &HostRuntime, folder: &str) -> io::Result<()> {
     sync_folder_of(rt, folder)
 }
 
-/// The paths of the folder's files whose names end in `.seg`, in order of name. A name that is no text is
-/// none of these. Says why where they can't be listed.
+/// The paths of the folder's files whose names end in `.seg`, in order of name. Names that aren't
+/// UTF-8 are skipped. Prints the reason if they can't be listed.
 pub fn segment_files(rt: &HostRuntime, folder: &str) -> Result<Vec<String>, Status> {
     match listed(rt, rt.alloc(), folder) {
         Ok(files) => Ok(files),
@@ -56,7 +56,7 @@ pub fn segment_files(rt: &HostRuntime, folder: &str) -> Result<Vec<String>, Stat
     }
 }
 
-/// These paths, by the system's list.
+/// [`segment_files`] without the message.
 fn listed(rt: &HostRuntime, alloc: Global, folder: &str) -> io::Result<Vec<String>> {
     let mut files = Vec::new(alloc);
     for entry in fs::read_dir(rt, folder)? {
@@ -68,7 +68,7 @@ fn listed(rt: &HostRuntime, alloc: Global, folder: &str) -> io::Result<Vec<Strin
     Ok(files)
 }
 
-/// The path of this entry of the folder, where its name ends in `.seg`.
+/// The path of this entry of the folder, if its name ends in `.seg`.
 fn segment_file(
     alloc: Global,
     folder: &str,
@@ -89,7 +89,7 @@ fn path_in(alloc: Global, folder: &str, name: &str) -> Result<String, AllocError
     String::from_str(alloc, path.as_str())
 }
 
-/// The path that the file of this segment gets in the folder.
+/// The path of the file that this segment gets in the folder.
 pub fn segment_path(alloc: Global, folder: &str, index: u8) -> Result<String, AllocError>
     requires { index < MAX_COUNT }
 {
@@ -97,7 +97,7 @@ pub fn segment_path(alloc: Global, folder: &str, index: u8) -> Result<String, Al
     path_in(alloc, folder, name.as_str())
 }
 
-/// Which of so many segments has a file of this name in its folder, by the names that [`segment_path`] gives.
+/// The segment among `count` whose file has this name, by the names that [`segment_path`] gives.
 pub fn index_of_name(alloc: Global, name: &str, count: u8) -> Result<Option<u8>, AllocError>
     requires { count ≤ MAX_COUNT }
 {
@@ -109,7 +109,7 @@ pub fn index_of_name(alloc: Global, name: &str, count: u8) -> Result<Option<u8>,
     Ok(None)
 }
 
-/// None of the folder's files has the name of a segment that isn't among so many.
+/// Checks that no file of the folder has the name of a segment `count` or above.
 pub fn check_names<'f>(
     alloc: Global,
     folder: &'f str,
@@ -132,7 +132,7 @@ pub fn check_names<'f>(
     Ok(())
 }
 
-/// The folder's files in order of segment, by what their headers say. Nothing is written.
+/// The folder's files in order of segment, by their headers. Nothing is written.
 pub fn files_in_order<'f>(
     rt: &HostRuntime,
     alloc: Global,
@@ -152,7 +152,7 @@ pub fn files_in_order<'f>(
     order_of(alloc, folder, files, &places)
 }
 
-/// The folder's files in order of segment, where their headers say these places.
+/// The folder's files in order of segment, by these places from their headers.
 pub fn order_of<'f>(
     alloc: Global,
     folder: &'f str,
@@ -185,16 +185,16 @@ fn taken<'f>(
     Ok(paths)
 }
 
-/// What a segment's file holds.
+/// The contents of a segment's file.
 #[derive(Clone, Copy, Debug)]
 pub struct SegmentContents {
-    /// Whose it is, as its header says.
+    /// Its place, by its header.
     pub place: SegmentPlace,
-    /// The number that its slots answer, where they do.
+    /// The number that a restart would recover, if there is one.
     pub number: Option<u64>,
 }
 
-/// What the file at this path holds. Others may read it meanwhile.
+/// The contents of the file at this path. Others may read it at the same time.
 pub fn contents_of<'f>(
     rt: &HostRuntime,
     alloc: Global,
@@ -205,8 +205,8 @@ pub fn contents_of<'f>(
     contents_by(folder, file, &findings)
 }
 
-/// What is found in the file at this path, where it has a segment file's length. Others may read it
-/// meanwhile.
+/// Checks the file at this path, if it has a segment file's length. Others may read it at the same
+/// time.
 pub fn findings_of<'f>(
     rt: &HostRuntime,
     alloc: Global,
@@ -225,7 +225,7 @@ pub fn findings_of<'f>(
     }
 }
 
-/// What a file holds by what was found in it.
+/// The contents of a file whose check found this.
 fn contents_by<'f>(
     folder: &'f str,
     file: &'f str,
@@ -241,7 +241,7 @@ fn contents_by<'f>(
     }
 }
 
-/// Why a file of this length, which isn't a segment's, is none.
+/// The reason why a file of this length, which isn't a segment file's, is none.
 fn no_segment<'f>(folder: &'f str, file: &'f str, len: u64) -> FileRefusal<'f> {
     match len {
         0 => FileRefusal::Unformatted { folder, file },
@@ -250,12 +250,12 @@ fn no_segment<'f>(folder: &'f str, file: &'f str, len: u64) -> FileRefusal<'f> {
     }
 }
 
-/// A file is no segment's.
+/// The refusal of one file.
 fn refused(why: FileRefusal<'_>) -> FolderTrouble<'_> {
     FolderTrouble::Refused(FolderRefusal::File(why))
 }
 
-/// The file could not be read.
+/// The refusal of a file that couldn't be read.
 fn failure_of<'f>(alloc: Global, file: &'f str, told: &FirstFault) -> FolderTrouble<'f> {
     match told.text(alloc) {
         Some(reason) => refused(FileRefusal::Failed { file, reason }),
@@ -263,7 +263,7 @@ fn failure_of<'f>(alloc: Global, file: &'f str, told: &FirstFault) -> FolderTrou
     }
 }
 
-/// What is wrong with the files, of which the headers say these places.
+/// What is wrong with the files, if their headers have these places.
 fn trouble_of<'f>(
     alloc: Global,
     folder: &'f str,
@@ -287,7 +287,7 @@ fn trouble_of<'f>(
     })
 }
 
-/// Two of the files, with what their headers say.
+/// Two of the files with their places.
 fn pair_of<'f>(
     folder: &'f str,
     files: &'f [String],
@@ -304,7 +304,7 @@ fn pair_of<'f>(
     }
 }
 
-/// The path of this file of the folder.
+/// The path of one of the folder's files.
 pub fn path_at<'f>(folder: &'f str, files: &'f [String], at: usize) -> &'f str {
     match files.get(at) {
         Some(file) => file.as_str(),
@@ -312,7 +312,7 @@ pub fn path_at<'f>(folder: &'f str, files: &'f [String], at: usize) -> &'f str {
     }
 }
 
-/// What the header of this file says.
+/// The place of one of the files.
 fn place_at(places: &[SegmentPlace], at: usize) -> SegmentPlace {
     match places.get(at) {
         Some(place) => *place,
@@ -320,7 +320,7 @@ fn place_at(places: &[SegmentPlace], at: usize) -> SegmentPlace {
     }
 }
 
-/// The segment is missing.
+/// The refusal of a folder without the file of this segment.
 fn missing(alloc: Global, folder: &str, index: u8, count: u8) -> FolderTrouble<'_>
     requires { index < MAX_COUNT }
 {

@@ -1,33 +1,33 @@
-//! Why the files of a folder are not those that are wanted, in words.
+//! Refusals of a folder's files, with their messages.
 
 use snap_folder::SegmentPlace;
 use std::fmt::{self, Display, Formatter, Write};
 
-/// Why a folder's files are not the segments of one server, or not those that are to be made. Each text
-/// names a file, or the folder, and says what to do.
+/// The reason why a folder's files aren't the segments of one server, or not those that are to be
+/// made. Each message names a file or the folder, and says what to do.
 #[derive(Drop)]
 pub enum FolderRefusal<'f> {
-    /// It has none.
+    /// There is no segment file.
     NoFiles {
         folder: &'f str,
     },
-    /// A file has the name of a segment that isn't among so many.
+    /// A file has the name of a segment `count` or above.
     Further {
         folder: &'f str,
         file: &'f str,
         count: u8,
     },
-    /// A file is of another count than the one that is wanted.
+    /// A file's header has another count than is wanted.
     AnotherCount {
         file: String,
         count: u8,
         wanted: u8,
     },
-    /// A file is no segment's.
+    /// One file is refused.
     File(FileRefusal<'f>),
-    /// Two files are of different counts.
+    /// The headers of two files have different counts.
     OtherCount(Pair<'f>),
-    /// Two files are the same segment's.
+    /// Two files are of the same segment.
     Twice(Pair<'f>),
     /// A segment has no file.
     Missing {
@@ -71,7 +71,7 @@ impl Display for FolderRefusal<'_> {
     }
 }
 
-/// That a file is of another count.
+/// Writes that a file has another count.
 fn write_another_count<W: Write>(
     f: &mut Formatter<W>,
     file: &str,
@@ -84,7 +84,7 @@ fn write_another_count<W: Write>(
     )
 }
 
-/// That a segment has no file.
+/// Writes that a segment has no file.
 fn write_missing<W: Write>(
     f: &mut Formatter<W>,
     folder: &str,
@@ -98,10 +98,10 @@ fn write_missing<W: Write>(
     )
 }
 
-/// Why a file is no segment's.
+/// The reason why a file isn't a segment's.
 #[derive(Drop)]
 pub enum FileRefusal<'f> {
-    /// It has no header.
+    /// It has no header, or is empty.
     Unformatted { folder: &'f str, file: &'f str },
     /// It has the length of the old format.
     OldFormat { folder: &'f str, file: &'f str },
@@ -134,7 +134,7 @@ impl Display for FileRefusal<'_> {
     }
 }
 
-/// Two files that aren't of one server, with what their headers say.
+/// Two files that can't be of one server, with the places in their headers.
 #[derive(Clone, Copy)]
 pub struct Pair<'f> {
     pub folder: &'f str,
@@ -145,7 +145,7 @@ pub struct Pair<'f> {
 }
 
 impl Pair<'_> {
-    /// That they are of different counts.
+    /// Writes that they have different counts.
     fn write_counts<W: Write>(&self, f: &mut Formatter<W>) -> fmt::Result {
         let (folder, first, file) = (self.folder, self.first, self.file);
         let (first_count, count) = (self.first_place.count, self.place.count);
@@ -155,7 +155,7 @@ impl Pair<'_> {
         )
     }
 
-    /// That they are the same segment's.
+    /// Writes that they are of the same segment.
     fn write_index<W: Write>(&self, f: &mut Formatter<W>) -> fmt::Result {
         let (folder, first, file) = (self.folder, self.first, self.file);
         let SegmentPlace { index, count } = self.place;

@@ -1,4 +1,4 @@
-//! The place at which a server answers HTTP.
+//! The listener for HTTP.
 
 use crate::complaint::{say, stop_without_memory};
 use mio::net::TcpListener;
@@ -9,7 +9,8 @@ use std::net::{Net, SocketAddr, ToSocketAddrs};
 use std::random::RandomSource;
 use std::rt::Clock;
 
-/// Where browsers and monitors are answered, and what answers them once it is given a service.
+/// The listener for browsers and monitors, and the HTTP server that answers them once it has a
+/// service.
 #[derive(Drop)]
 pub struct HttpPlace {
     /// The address, with the port that the system gave.
@@ -18,8 +19,8 @@ pub struct HttpPlace {
     pub stop: Stop,
 }
 
-/// The place that the order names, where it names one: from here on the system takes connections for it. Says
-/// why where it can't be had.
+/// Binds the order's address for HTTP, if it has one; from then on the system accepts connections
+/// there. Prints the reason if that fails.
 pub fn open_http<X: Net + RandomSource + Clock>(
     threads: &X,
     rt: &HostRuntime,
@@ -43,7 +44,7 @@ pub fn open_http<X: Net + RandomSource + Clock>(
     }
 }
 
-/// Says why the address can't be had.
+/// Prints why the address can't be bound.
 fn fail_to_listen(rt: &HostRuntime, address: &str, error: io::Error) -> Status {
     if error.kind() == ErrorKind::OutOfMemory {
         return stop_without_memory(rt);
@@ -55,7 +56,7 @@ fn fail_to_listen(rt: &HostRuntime, address: &str, error: io::Error) -> Status {
     Status::Failed
 }
 
-/// Says that no scanner is left for who asks by HTTP.
+/// Prints that there is no scanner left for HTTP.
 fn refuse_scanners(rt: &HostRuntime) -> Status {
     let most = MAX_SCANNERS - 1;
     let line = format_args!("--http takes a scanner of its own: give --scanners {most} or fewer");
@@ -63,7 +64,7 @@ fn refuse_scanners(rt: &HostRuntime) -> Status {
     Status::Misused
 }
 
-/// Says that browsers and monitors reach no Unix socket.
+/// Prints that HTTP isn't served on a Unix socket.
 fn refuse_socket(rt: &HostRuntime, address: &str) -> Status {
     let line = format_args!(
         "{address}: HTTP is answered at HOST:PORT: give for example 127.0.0.1:7080"
@@ -72,12 +73,13 @@ fn refuse_socket(rt: &HostRuntime, address: &str) -> Status {
     Status::Failed
 }
 
-/// Whether it is an address of the server's own too. At port 0 the system gives each another one.
+/// Whether the server itself listens at this address too. With port 0 the system gives each another
+/// port.
 fn is_taken_twice(order: &Serving<'_>, address: &str) -> bool {
     !address.ends_with(":0") && order.addresses.iter().any(|own| *own == address)
 }
 
-/// Says that no address serves two kinds of callers.
+/// Prints that one address can't serve both clients and HTTP.
 fn refuse_twice(rt: &HostRuntime, address: &str) -> Status {
     let line = format_args!(
         "{address}: clients and HTTP can't have one address: give --http another port"
@@ -86,8 +88,8 @@ fn refuse_twice(rt: &HostRuntime, address: &str) -> Status {
     Status::Misused
 }
 
-/// The place at this address. A name is looked up, and its addresses are tried in order. The error is the last
-/// one's.
+/// Binds this address. A name is looked up, and its addresses are tried in order. The error is that
+/// of the last one.
 fn open_at<X: Net + RandomSource + Clock>(
     threads: &X,
     rt: &HostRuntime,
@@ -103,7 +105,7 @@ fn open_at<X: Net + RandomSource + Clock>(
     Err(why)
 }
 
-/// What answers at this listener.
+/// The HTTP server of this listener.
 fn place_of<X: Net + RandomSource + Clock>(
     threads: &X,
     rt: &HostRuntime,

@@ -1,4 +1,4 @@
-//! Who looks at a server for browsers and monitors.
+//! The HTTP thread of a server.
 
 use crate::http_place::HttpPlace;
 use crate::surroundings::{Process, Seen};
@@ -14,20 +14,20 @@ use std::net::SocketAddr;
 use std::rt::Clock;
 use std::sync::{Mutex, Wait};
 
-/// Answers browsers and monitors of a server, from a thread of its own.
+/// Answers browsers and monitors, on a thread of its own.
 #[derive(Drop)]
 pub struct HttpView<'a, X: Wait + Clock> {
     alloc: Global,
     log: &'a Lines<'a, X>,
     process: Process<'a>,
     address: SocketAddr,
-    /// Taken by who looks.
+    /// Taken by the HTTP thread.
     site: Mutex<Option<Site>>,
     stop: Stop,
 }
 
 impl<'a, X: Wait + Clock> HttpView<'a, X> {
-    /// Answers at this place of this process, and logs here.
+    /// Answers at this listener about this process, and logs here.
     pub fn new(
         alloc: Global,
         log: &'a Lines<'a, X>,
@@ -49,12 +49,13 @@ impl<'a, X: Wait + Clock> HttpView<'a, X> {
         }
     }
 
-    /// What answers, once.
+    /// The HTTP server, for the first caller only.
     fn take_site<Y: Wait>(&self, rt: &Y) -> Option<Site> {
         self.site.lock(rt).take()
     }
 
-    /// Answers by this service until the server ends, and takes a sample of what is counted about once a second.
+    /// Answers with this service until the server ends, and takes a sample of the metrics about
+    /// once a second.
     fn answer<Y: Wait + Clock, S: Service + Drop>(&self, rt: &Y, mut site: Site, service: S) {
         let history = History::new(self.alloc);
         let seen = Seen {

@@ -1,4 +1,4 @@
-//! The command `init`: the files of a folder, one after the other.
+//! The command `init`: makes the files of a folder, one after the other.
 ghost use Rattle.std.specs.Prelude.{◌<◌, ◌≤◌};
 ghost use Rattle.snap_order.specs.Limits.{MAX_COUNT};
 ghost use Rattle.snap_order.specs.Order.{IsOneTo};
@@ -19,10 +19,10 @@ use std::alloc::{AllocError, Global};
 use std::fmt::{self, Display, Formatter, Write};
 use std::path::Path;
 
-/// Makes the folder, and in it the file of each segment in order, or leaves those that are whole already.
-/// It ends at the first that can't be made or left, with its status. Before any is made it ends where a
-/// file is of a further segment, of another count or in use, and where one was lost, unless that is to
-/// be made all the same.
+/// Makes the folder, and in it the file of each segment in order. Whole files are left as they are.
+/// It stops at the first file that can be neither made nor left, with its status. It makes none if
+/// a file has the name of a segment `count` or above, has another count or is in use; nor if a file
+/// was lost, except with `--missing-empty`.
 pub fn init(rt: &HostRuntime, order: &Founding<'_>) -> Status
     requires { IsOneTo MAX_COUNT order.now.count }
 {
@@ -54,18 +54,18 @@ pub fn init(rt: &HostRuntime, order: &Founding<'_>) -> Status
     found_all(rt, order, &survey.kept)
 }
 
-/// What the files of a folder are, before any is made.
+/// The state of a folder's files before any is made.
 #[derive(Drop)]
 struct Survey<'f> {
-    /// For each segment in order its file, where that is there.
+    /// The file of each segment in order, if it has one.
     kept: Vec<Option<&'f str>>,
-    /// The files of the other segments, which are to be made.
+    /// The paths of the missing files, which are to be made.
     lacking: Vec<String>,
-    /// The greatest number that each file of the folder holds.
+    /// The greatest number in each file of the folder.
     numbers: Vec<u64>,
 }
 
-/// What the folder's files are.
+/// Checks all files of the folder.
 fn survey_of<'f>(
     rt: &HostRuntime,
     alloc: Global,
@@ -86,7 +86,7 @@ fn survey_of<'f>(
         }
         if let Some(index) = found.index {
             let at = usize::from(index);
-            // Of two the one that has the segment's name is its file.
+            // If two files are of one segment, the one with the segment's name counts.
             if at < kept.len() && (found.is_named || kept[at].is_none()) {
                 kept[at] = Some(file);
             }
@@ -100,7 +100,7 @@ fn survey_of<'f>(
     })
 }
 
-/// The files of the segments that aren't kept.
+/// The paths of the files that are missing.
 fn lacking_files(
     alloc: Global,
     folder: &str,
@@ -118,7 +118,7 @@ fn lacking_files(
     Ok(lacking)
 }
 
-/// The file of this segment, where it is kept.
+/// The file of this segment, if it has one.
 fn file_in<'f>(kept: &[Option<&'f str>], index: u8) -> Option<&'f str> {
     match kept.get(usize::from(index)) {
         Some(file) => *file,
@@ -126,18 +126,18 @@ fn file_in<'f>(kept: &[Option<&'f str>], index: u8) -> Option<&'f str> {
     }
 }
 
-/// What one of the folder's files is.
+/// The result of one file's check.
 #[derive(Clone, Copy)]
 struct Looked {
-    /// The segment as whose file it is kept.
+    /// The segment whose file it is, if it is kept.
     index: Option<u8>,
     /// Whether it has the name of one of the segments.
     is_named: bool,
-    /// The greatest number that it holds.
+    /// The greatest number in it.
     number: u64,
 }
 
-/// What the file at this path is.
+/// Checks the file at this path.
 fn look_at<'f>(
     rt: &HostRuntime,
     alloc: Global,
@@ -164,9 +164,9 @@ fn look_at<'f>(
     })
 }
 
-/// The segment as whose file it is kept, by its name, and by its header where it has none of theirs. None
-/// where it was never formatted: then it is made. One that is kept may yet be refused, when its turn
-/// comes.
+/// The segment whose file it is: by its name, or by its header if it hasn't the name of a segment.
+/// `None` if it was never formatted, so that it is made. A file that is kept may still be refused
+/// later, in its turn.
 fn segment_by<'f>(
     alloc: Global,
     wanted: u8,
@@ -189,7 +189,8 @@ fn segment_by<'f>(
     }
 }
 
-/// The same of a file that can't be read. What isn't kept out by another process is left to who takes it.
+/// The segment of a file that couldn't be checked. Unless another process has it, the fault is
+/// reported later, in its turn.
 fn segment_in<'f>(
     named: Option<u8>,
     trouble: FolderTrouble<'f>,
@@ -208,7 +209,7 @@ fn segment_in<'f>(
     }
 }
 
-/// The greatest number in a slot, and 0 where no slot has one.
+/// The greatest number in a slot, or 0 if no slot has one.
 fn greatest_number(findings: &Findings) -> u64 {
     let (first, second, third) = findings.slots;
     number_in(first)
@@ -216,7 +217,7 @@ fn greatest_number(findings: &Findings) -> u64 {
         .max(number_in(third))
 }
 
-/// The number in a slot.
+/// The number in a slot, or 0.
 fn number_in(slot: Slot) -> u64 {
     match slot {
         Slot::Open { number, .. } => number,
@@ -224,13 +225,13 @@ fn number_in(slot: Slot) -> u64 {
     }
 }
 
-/// Files that are lacking in a folder which was stored to.
+/// The missing files of a folder that has stored values.
 #[derive(Clone, Copy)]
 struct Loss<'f> {
     folder: &'f str,
     count: u8,
     lacking: &'f [String],
-    /// A file that shows it, and the number that it holds.
+    /// A file with a stored value, and its number.
     sign: &'f str,
     number: u64,
 }
@@ -264,7 +265,7 @@ fn found_all(rt: &HostRuntime, order: &Founding<'_>, kept: &[Option<&str>]) -> S
     Status::Done
 }
 
-/// Makes the file of a segment where none is kept, or leaves that one.
+/// Makes the file of a segment, or leaves the one that is kept.
 fn found_one(rt: &HostRuntime, order: &Founding<'_>, kept: Option<&str>, index: u8) -> Status
     requires below { index < order.now.count }
     requires few { order.now.count ≤ MAX_COUNT }
@@ -278,7 +279,7 @@ fn found_one(rt: &HostRuntime, order: &Founding<'_>, kept: Option<&str>, index: 
     }
 }
 
-/// Makes the file of a segment, or leaves it where it is whole, and says so.
+/// Makes the file of a segment, or leaves it if it is whole, and prints which.
 fn found_at(rt: &HostRuntime, file: &str, index: u8, count: u8) -> Status
     requires below { index < count }
     requires few { count ≤ MAX_COUNT }

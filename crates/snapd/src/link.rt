@@ -13,7 +13,7 @@ pub enum Link<S> {
 }
 
 impl<S: OpenStream> Link<S> {
-    /// Another handle of the same connection.
+    /// A second handle to this connection.
     pub fn try_clone(&self) -> io::Result<Link<S>> {
         match self {
             Link::Tcp(stream) => Ok(Link::Tcp(stream.try_clone()?)),
@@ -21,13 +21,13 @@ impl<S: OpenStream> Link<S> {
         }
     }
 
-    /// The longest that a read or a write waits, which is some time.
+    /// Limits how long a read or a write blocks. The time isn't zero.
     pub fn set_timeouts(&self, most: Duration) -> io::Result<()> {
         self.set_read_timeout(most)?;
         self.set_write_timeout(most)
     }
 
-    /// The longest that a read waits, which is some time.
+    /// Limits how long a read blocks. The time isn't zero.
     pub fn set_read_timeout(&self, most: Duration) -> io::Result<()> {
         match self {
             Link::Tcp(stream) => stream.set_read_timeout(Some(most)),
@@ -35,7 +35,7 @@ impl<S: OpenStream> Link<S> {
         }
     }
 
-    /// The longest that a write waits, which is some time.
+    /// Limits how long a write blocks. The time isn't zero.
     pub fn set_write_timeout(&self, most: Duration) -> io::Result<()> {
         match self {
             Link::Tcp(stream) => stream.set_write_timeout(Some(most)),

@@ -1,7 +1,7 @@
-//! The command `load`: a folder of what a dump holds.
+//! The command `load`: makes a folder of the values of a dump.
 //!
-//! The files are made in a folder beside it, which gets the folder's name once all are on the disk for good. So
-//! the folder is there whole, or not at all.
+//! The files are made in a folder beside it, which is renamed once all of them are synced. So the
+//! folder exists whole or not at all.
 ghost use Rattle.std.specs.Prelude.{◌≡◌, ◌<◌, ◌≤◌, All, IfOk, length};
 ghost use Rattle.snap_dump.specs.Limits.{IsNumber, IsShort};
 ghost use Rattle.snap_order.specs.Limits.{MAX_COUNT};
@@ -21,7 +21,7 @@ use snap_stream::{read_up_to, write_whole};
 use std::fs::File;
 use std::io::Read;
 
-/// Reads the dump, and then makes the folder. A dump that is none is refused before anything is made.
+/// Reads the dump, and then makes the folder. An invalid dump is refused before anything is made.
 pub fn load(rt: &HostRuntime, order: &Loading<'_>) -> Status
     requires { IsLoadable order.now }
 {
@@ -41,7 +41,7 @@ pub fn load(rt: &HostRuntime, order: &Loading<'_>) -> Status
     }
 }
 
-/// The dump in the file at this path, or on standard input.
+/// Reads the dump in the file at this path, or on standard input.
 fn read_dump(rt: &HostRuntime, path: &str) -> Result<Dump, Status>
     ensures { IfOk result (λ dump. AreServable dump.values.items) }
 {
@@ -54,7 +54,7 @@ fn read_dump(rt: &HostRuntime, path: &str) -> Result<Dump, Status>
     }
 }
 
-/// The dump that a reader has, which has this name.
+/// Reads the dump of this reader. `name` is for the messages.
 fn read_from<R: Read>(rt: &HostRuntime, name: &str, reader: &mut R) -> Result<Dump, Status>
     ensures { IfOk result (λ dump. AreServable dump.values.items) }
 {
@@ -75,7 +75,7 @@ fn read_from<R: Read>(rt: &HostRuntime, name: &str, reader: &mut R) -> Result<Du
     }
 }
 
-/// Says why a text is no dump.
+/// Prints why a text isn't a dump.
 fn refuse_dump(rt: &HostRuntime, name: &str, fault: DumpFault) -> Status {
     if fault == DumpFault::NoMemory {
         return stop_without_memory(rt);
@@ -84,13 +84,13 @@ fn refuse_dump(rt: &HostRuntime, name: &str, fault: DumpFault) -> Status {
     Status::Refused
 }
 
-/// Says why nothing is made.
+/// Prints why nothing is made.
 fn refuse(rt: &HostRuntime, why: &LoadRefusal<'_>) -> Status {
     say(rt, why);
     Status::Refused
 }
 
-/// Makes the folder with so many segments, the first of which have these values.
+/// Makes the folder with `count` segments, the first of which have these values.
 fn make_folder(
     rt: &HostRuntime,
     folder: &str,
@@ -102,7 +102,7 @@ fn make_folder(
 {
     let loading = LoadingFolder::take(rt, folder)?;
     make_files(rt, loading.path(), count, values)?;
-    // The line is made first, so that want of memory leaves the folder out of its place.
+    // The line is made first, so that if memory runs out the folder isn't renamed.
     let Ok(line) = format!(in rt.alloc(); "ready {folder}\n") else {
         return Err(stop_without_memory(rt));
     };
@@ -113,7 +113,7 @@ fn make_folder(
     }
 }
 
-/// Makes the files of so many segments, one after the other.
+/// Makes the files of `count` segments, one after the other.
 fn make_files(
     rt: &HostRuntime,
     folder: &str,
@@ -135,7 +135,7 @@ fn make_files(
     Ok(())
 }
 
-/// Makes the file of a segment, with its value, or with none behind the last of these.
+/// Makes the file of a segment, with its value if there is one.
 fn make_file(rt: &HostRuntime, file: &str, index: u8, count: u8, values: &[SegmentValue]) -> Status
     requires below { index < count }
     requires few { count ≤ MAX_COUNT }
@@ -166,7 +166,7 @@ fn make_file(rt: &HostRuntime, file: &str, index: u8, count: u8, values: &[Segme
     ended.status
 }
 
-/// The number and value of this segment: number 0 and no value, where there is none.
+/// The number and value of this segment, or number 0 and the empty value after the last one.
 fn value_at(values: &[SegmentValue], index: u8) -> (u64, &[u8])
     requires { All IsKeepable values.now }
     ensures number { IsNumber result.0 }

@@ -1,4 +1,4 @@
-//! The folder in which `load` makes its files, until it gets the name of the one that is wanted.
+//! The folder in which `load` makes its files, before it is renamed.
 
 use crate::complaint::{fail_at, fail_at_folder, say, stop_without_memory};
 use crate::folder::{index_of_name, make_folder};
@@ -11,7 +11,8 @@ use std::os::unix::fs::{MetadataExt, fchown};
 use std::path::Path;
 use thiserror::Error;
 
-/// Why nothing is made of a dump. Each text names a file or a folder, and says what to do.
+/// The reason why no folder is made of a dump. Each message names a file or a folder, and says what
+/// to do.
 #[derive(Debug, Drop, Error)]
 pub enum LoadRefusal<'f> {
     #[error("{dump}: it has {found} segments, and --count is {count}: give {found} or more")]
@@ -50,28 +51,28 @@ pub enum LoadRefusal<'f> {
     },
 }
 
-/// A folder that is being made. Nobody else who loads is at work in it while this lives.
+/// A folder in the making. Its lock excludes every other load while this value exists.
 #[derive(Drop)]
 pub struct LoadingFolder {
-    /// The path that it is to have.
+    /// The path that it will get.
     folder: String,
-    /// The path that it has.
+    /// The path until then.
     path: String,
     /// Its lock.
     _lock: File,
 }
 
 impl LoadingFolder {
-    /// Makes the folder beside the one that is wanted, or takes what a load left that was cut off, and removes
-    /// the files of that. It gets the owner, the group and the mode of the one that is wanted, where that is there.
-    /// Nothing is changed where that is not empty, and none is removed where a file isn't what a load leaves.
-    /// Says why where it fails.
+    /// Makes the folder beside the wanted one, or takes over that of an interrupted load and
+    /// removes its files. If the wanted folder exists, the new one gets its owner, group and mode;
+    /// if it isn't empty, nothing is changed. If a file isn't one that a load makes, none is
+    /// removed. Prints the reason if it fails.
     pub fn take(rt: &HostRuntime, wanted: &str) -> Result<LoadingFolder, Status> {
         let place = Path::new(wanted);
         let Some(name) = place.file_name() else {
             return Err(refuse(rt, &LoadRefusal::NoName { folder: wanted }));
         };
-        // Without a `/` or a `/.` behind its name.
+        // Without a `/` or a `/.` after its name.
         let Ok(folder) = place.with_file_name(rt.alloc(), name) else {
             return Err(stop_without_memory(rt));
         };
@@ -88,12 +89,12 @@ impl LoadingFolder {
         })
     }
 
-    /// The path that it has until it is in its place.
+    /// The path until [`put_in_place`](Self::put_in_place).
     pub fn path(&self) -> &str {
         self.path.as_str()
     }
 
-    /// Gives it the path that it is to have, and makes that last.
+    /// Renames the folder to its final path, and syncs the name.
     pub fn put_in_place(&self, rt: &HostRuntime) -> Result<(), Status> {
         let (folder, path) = (self.folder.as_str(), self.path.as_str());
         if let Err(reason) = fs::rename(rt, path, folder) {
@@ -112,13 +113,13 @@ impl LoadingFolder {
     }
 }
 
-/// Says why nothing is made.
+/// Prints why nothing is made.
 fn refuse(rt: &HostRuntime, why: &LoadRefusal<'_>) -> Status {
     say(rt, why);
     Status::Refused
 }
 
-/// Makes the folder at this path, in place of which the wanted one is to be, and gives its lock.
+/// Makes the folder at this path, which is to replace the wanted one. Returns its lock.
 fn make_for(rt: &HostRuntime, wanted: &str, path: &str) -> Result<File, Status> {
     if let Err(reason) = make_folder(rt, path) {
         return Err(fail_at_folder(rt, path, reason));
@@ -127,31 +128,32 @@ fn make_for(rt: &HostRuntime, wanted: &str, path: &str) -> Result<File, Status> 
     match prepare(rt, wanted, path, &lock) {
         Ok(()) => Ok(lock),
         Err(status) => {
-            // Where it is empty, as one that was made just now, it goes again.
+            // Removes the folder again if it is empty, as a new one is.
             let _ = fs::remove_dir(rt, path);
             Err(status)
         }
     }
 }
 
-/// Makes the folder, whose lock this is, ready for its files.
+/// Prepares the locked folder for its files.
 fn prepare(rt: &HostRuntime, wanted: &str, path: &str, lock: &File) -> Result<(), Status> {
-    // Another load may have been here before the lock was.
+    // Another load may have finished before this one got the lock.
     check_free(rt, wanted)?;
     clear(rt, path)?;
     carry_over(rt, wanted, lock)
 }
 
-/// Gives the folder that is being made the owner, the group and the mode of the empty one whose place it is to take,
-/// before it has a file that others could read. Nothing is changed where there is none. Says so where
-/// they can't be given.
+/// Gives the new folder the owner, group and mode of the empty one that it replaces, before it has
+/// a file that others could read. Does nothing if that doesn't exist. Prints a message if they
+/// can't be given.
 fn carry_over(rt: &HostRuntime, wanted: &str, loading: &File) -> Result<(), Status> {
     let found = match fs::metadata(rt, wanted) {
         Ok(found) => found,
         Err(reason) if reason.kind() == ErrorKind::NotFound => return Ok(()),
         Err(reason) => return Err(fail_at_folder(rt, wanted, reason)),
     };
-    // What came of both is looked at: a file system may have none of them, and the system may drop a bit.
+    // The result is checked instead: a file system may lack owners or modes, and the system may
+    // drop a bit.
     let _ = fchown(loading, Some(found.uid()), Some(found.gid()));
     let _ = loading.set_permissions(found.permissions());
     match loading.metadata() {
@@ -161,12 +163,12 @@ fn carry_over(rt: &HostRuntime, wanted: &str, loading: &File) -> Result<(), Stat
     }
 }
 
-/// Both folders have the same owner, group and mode.
+/// Whether both folders have the same owner, group and mode.
 fn is_like(given: &Metadata, found: &Metadata) -> bool {
     given.uid() == found.uid() && given.gid() == found.gid() && given.mode() == found.mode()
 }
 
-/// That these can't be given to another folder.
+/// The refusal for these owner, group and mode.
 fn not_given<'f>(folder: &'f str, found: &Metadata) -> LoadRefusal<'f> {
     LoadRefusal::NotGiven {
         folder,
@@ -176,7 +178,7 @@ fn not_given<'f>(folder: &'f str, found: &Metadata) -> LoadRefusal<'f> {
     }
 }
 
-/// The folder isn't there, or is empty. Says so where it isn't.
+/// Checks that the folder is missing or empty. Prints a message if it isn't.
 fn check_free(rt: &HostRuntime, folder: &str) -> Result<(), Status> {
     match fs::read_dir(rt, folder) {
         Ok(mut names) => match names.next() {
@@ -188,7 +190,7 @@ fn check_free(rt: &HostRuntime, folder: &str) -> Result<(), Status> {
     }
 }
 
-/// The folder at this path, with a lock. Says why where it can't be had.
+/// Locks the folder at this path. Prints the reason if that fails.
 fn lock_folder(rt: &HostRuntime, path: &str) -> Result<File, Status> {
     match try_lock_folder(rt, path) {
         Ok(Some(lock)) => Ok(lock),
@@ -197,8 +199,7 @@ fn lock_folder(rt: &HostRuntime, path: &str) -> Result<File, Status> {
     }
 }
 
-/// The folder at this path, with a lock. `None` where another process has one, or has given the folder
-/// another name.
+/// Locks the folder at this path. `None` if another process has locked or renamed it.
 fn try_lock_folder(rt: &HostRuntime, path: &str) -> io::Result<Option<File>> {
     let folder = match File::open(rt, path) {
         Ok(folder) => folder,
@@ -220,7 +221,8 @@ fn try_lock_folder(rt: &HostRuntime, path: &str) -> io::Result<Option<File>> {
     Ok(is_same.then_some(folder))
 }
 
-/// Removes what a load left that was cut off. Says why where something else is there, and then removes none.
+/// Removes the files of an interrupted load. If anything else is there, prints that and removes
+/// nothing.
 fn clear(rt: &HostRuntime, loading: &str) -> Result<(), Status> {
     for name in names_in(rt, loading)? {
         remove(rt, loading, name.as_str())?;
@@ -239,7 +241,7 @@ fn remove(rt: &HostRuntime, loading: &str, name: &str) -> Result<(), Status> {
     }
 }
 
-/// The names in the folder, each of which is one that a load gives. Says so where one isn't.
+/// The names in the folder, if each is one that a load gives. Prints a message if one isn't.
 fn names_in(rt: &HostRuntime, loading: &str) -> Result<Vec<String>, Status> {
     let entries = match fs::read_dir(rt, loading) {
         Ok(entries) => entries,
@@ -254,7 +256,7 @@ fn names_in(rt: &HostRuntime, loading: &str) -> Result<Vec<String>, Status> {
     Ok(names)
 }
 
-/// The name of this entry of the folder, by [`own_name`].
+/// The name of this entry of the folder, checked by [`own_name`].
 fn own_name_of(
     rt: &HostRuntime,
     loading: &str,
@@ -269,7 +271,7 @@ fn own_name_of(
     }
 }
 
-/// The name, where it is one that a load gives. Says so where it isn't.
+/// The name, if it is one that a load gives. Prints a message if it isn't.
 fn own_name(rt: &HostRuntime, loading: &str, name: &str) -> Result<String, Status> {
     let Ok(index) = index_of_name(rt.alloc(), name, MAX_COUNT) else {
         return Err(stop_without_memory(rt));

@@ -1,9 +1,9 @@
-//! The program `snapd`, which keeps one value in each of its files, safe from crashes.
+//! The program `snapd`: runs the commands on the system's files, sockets, threads and streams.
 //!
-//! `snap_args` reads the words. `snap_file_commands` does what they ask for with files, `snap_serve`
-//! as a server, `snap_call` of a server and `snap_script` on a world, over any device, reader,
-//! writer, listener and connection. What is here only ties them to the system: its words, files,
-//! sockets, threads and standard streams, of which the last gets a server's log too (`snap_log`).
+//! `snap_args` parses the arguments. The commands themselves are in `snap_file_commands` (files),
+//! `snap_serve` (a server), `snap_call` (a client) and `snap_script` (scripts), over any device,
+//! reader, writer, listener and connection. This crate connects them to the system. A server's log
+//! goes to standard error (`snap_log`).
 #![tactic(auto)]
 
 ghost use Rattle.std.specs.Prelude.{◌≡◌, ◌<◌, ◌≤◌, length};
@@ -81,7 +81,7 @@ fn main(rt: HostRuntime) -> ExitCode {
     ExitCode::from(status.code())
 }
 
-/// The words that the program was started with, of which the first is its name.
+/// The program's arguments, of which the first is its name.
 fn words_of(rt: &HostRuntime) -> Result<Vec<String>, WordFault> {
     match env::args(rt) {
         Ok(words) => Ok(words.collect(rt.alloc())?),
@@ -90,7 +90,7 @@ fn words_of(rt: &HostRuntime) -> Result<Vec<String>, WordFault> {
     }
 }
 
-/// Does what the words ask for. `threads` is the runtime as what may wait, start threads and open
+/// Does the order. `threads` is the runtime again, for what may block, start threads and open
 /// sockets.
 fn do_order<
     X: Threads + Wait + Clock + Net + Files<File = File> + RandomSource + Sync + Send + Copy,
@@ -112,7 +112,7 @@ fn do_order<
     }
 }
 
-/// Prints the help that was asked for, or says what is wrong with the words.
+/// Prints the help that was asked for, or what is wrong with the arguments.
 fn explain(rt: &HostRuntime, fault: &WordFault) -> Status {
     match fault {
         WordFault::Help(text) => match rt.print(text) {
@@ -122,7 +122,7 @@ fn explain(rt: &HostRuntime, fault: &WordFault) -> Status {
         WordFault::Memory => stop_without_memory(rt),
         _ => {
             match fault.to_string(rt.alloc()) {
-                // Some texts have a line feed of their own.
+                // Some messages end in a line feed of their own.
                 Ok(text) => say(rt, &text.trim_end()),
                 Err(_) => say(rt, fault),
             }
@@ -131,7 +131,7 @@ fn explain(rt: &HostRuntime, fault: &WordFault) -> Status {
     }
 }
 
-/// Opens the order's file, and does the order.
+/// Does a command on one file.
 fn run<'a>(rt: &'a HostRuntime, order: &FileOrder<'a>) -> Status
     requires { IsFileWithinLimits order.now }
 {
@@ -155,7 +155,7 @@ fn run<'a>(rt: &'a HostRuntime, order: &FileOrder<'a>) -> Status
     ended.status
 }
 
-/// Opens both files of the migration, and carries the old one over.
+/// Does the order `migrate`.
 fn run_migration<'a>(rt: &'a HostRuntime, order: &Migration<'a>) -> Status
     requires { IsPlace order.now.index order.now.count }
 {
@@ -184,7 +184,7 @@ fn run_migration<'a>(rt: &'a HostRuntime, order: &Migration<'a>) -> Status
     ended.status
 }
 
-/// Makes the files of a folder.
+/// Does the order `init`.
 fn run_init(rt: &HostRuntime, order: &Founding<'_>) -> Status
     requires { IsOneTo MAX_COUNT order.now.count }
 {
@@ -194,7 +194,7 @@ fn run_init(rt: &HostRuntime, order: &Founding<'_>) -> Status
     init(rt, order)
 }
 
-/// Says how the files of a folder are.
+/// Does the order `doctor`.
 fn run_doctor(rt: &HostRuntime, order: &Examination<'_>) -> Status {
     if !are_streams_open(rt) || (order.is_measured && !may_write(rt)) {
         return Status::Failed;
@@ -202,8 +202,8 @@ fn run_doctor(rt: &HostRuntime, order: &Examination<'_>) -> Status {
     examine(rt, order)
 }
 
-/// Opens the order's files, and serves them: `threads` is the runtime as what may wait, start
-/// threads and open sockets.
+/// Serves the order's files. `threads` is the runtime again, for what may block, start threads and
+/// open sockets.
 fn run_server<
     X: Threads + Wait + Clock + Net + Files<File = File> + RandomSource + Sync + Send + Copy,
 >(threads: &X, rt: &HostRuntime, order: &Serving<'_>) -> Status
@@ -219,7 +219,7 @@ fn run_server<
     status
 }
 
-/// Finds the files of a folder, and serves them. `serving` has none.
+/// Serves the files of a folder. `serving` has none yet.
 fn run_folder_server<
     X: Threads + Wait + Clock + Net + Files<File = File> + RandomSource + Sync + Send + Copy,
 >(threads: &X, rt: &HostRuntime, folder: &str, serving: Serving<'_>) -> Status
@@ -246,7 +246,7 @@ fn serve_in_order<
     }
 }
 
-/// The same order for these files: nothing else of it is another.
+/// The order with these files, and otherwise unchanged.
 fn with_files<'a>(serving: Serving<'a>, files: Vec<&'a str>) -> Serving<'a>
     requires limits { KeepsLimits serving }
     requires some { 0 < length files.items }
@@ -259,7 +259,8 @@ fn with_files<'a>(serving: Serving<'a>, files: Vec<&'a str>) -> Serving<'a>
     order
 }
 
-/// What a server needs of the system before a file is opened is there. Says what isn't.
+/// Checks what a server needs of the system before it opens a file. Prints a message if something
+/// is missing.
 fn may_serve(rt: &HostRuntime, order: &Serving<'_>) -> bool {
     let is_http_address = match order.http {
         Some(address) => is_address(rt, address),
@@ -271,7 +272,7 @@ fn may_serve(rt: &HostRuntime, order: &Serving<'_>) -> bool {
         && may_write(rt)
 }
 
-/// Opens the files, and serves them: those of a folder, where the words name one.
+/// Opens the files, and serves them. `folder` is their folder, if the arguments name one.
 fn serve_files<
     X: Threads + Wait + Clock + Net + Files<File = File> + RandomSource + Sync + Send + Copy,
 >(threads: &X, rt: &HostRuntime, order: &Serving<'_>, folder: Option<&str>) -> Status
@@ -290,7 +291,7 @@ fn serve_files<
     }
 }
 
-/// Asks a server.
+/// Does the order `call`.
 fn run_call(rt: &HostRuntime, order: &Calling<'_>) -> Status
     requires { IsCallable order.now }
 {
@@ -300,7 +301,7 @@ fn run_call(rt: &HostRuntime, order: &Calling<'_>) -> Status
     call(rt, rt, order)
 }
 
-/// Shows what a server holds, and each change of it: `waiting` is the runtime as what may wait and open sockets.
+/// Does the order `watch`. `waiting` is the runtime again, for what may block and open sockets.
 fn run_watch<X: Wait + Clock + Net>(waiting: &X, rt: &HostRuntime, order: &Watching<'_>) -> Status
     requires { IsWatchable order.now }
 {
@@ -310,7 +311,7 @@ fn run_watch<X: Wait + Clock + Net>(waiting: &X, rt: &HostRuntime, order: &Watch
     watch(waiting, rt, order)
 }
 
-/// Prints a dump.
+/// Does the order `dump`.
 fn run_dump(rt: &HostRuntime, order: &Dumping<'_>) -> Status
     requires { IsDumpable order.now }
 {
@@ -323,7 +324,7 @@ fn run_dump(rt: &HostRuntime, order: &Dumping<'_>) -> Status
     }
 }
 
-/// Makes a folder of a dump.
+/// Does the order `load`.
 fn run_load(rt: &HostRuntime, order: &Loading<'_>) -> Status
     requires { IsLoadable order.now }
 {
@@ -333,7 +334,7 @@ fn run_load(rt: &HostRuntime, order: &Loading<'_>) -> Status
     load(rt, order)
 }
 
-/// The standard streams are open. Says which one isn't.
+/// Whether the standard streams are open. Prints which one isn't.
 fn are_streams_open(rt: &HostRuntime) -> bool {
     match check_streams(&rt.stdin(), &rt.stdout(), &rt.stderr()) {
         Ok(()) => true,
@@ -344,7 +345,7 @@ fn are_streams_open(rt: &HostRuntime) -> bool {
     }
 }
 
-/// The process may write files as long as a segment's. Says what is in the way.
+/// Whether the process may write files as long as a segment's. Prints the limit if it may not.
 fn may_write(rt: &HostRuntime) -> bool {
     match too_short_files() {
         None => true,
@@ -358,7 +359,7 @@ fn may_write(rt: &HostRuntime) -> bool {
     }
 }
 
-/// The address has a host and a port, or a path. Says what is missing.
+/// Whether the address has a host and a port, or a path. Prints what is missing.
 fn is_address(rt: &HostRuntime, address: &str) -> bool {
     match lack_of(address) {
         None => true,
@@ -370,8 +371,8 @@ fn is_address(rt: &HostRuntime, address: &str) -> bool {
     }
 }
 
-/// Runs the script on standard input, which need not end: `waiting` is the runtime as what may
-/// wait. Its output is buffered, since each line of it is one write, and flushed before each read.
+/// Runs the script on standard input, which need not end. `waiting` is the runtime again, for what
+/// may block. The output is buffered, so that each line is one write, and flushed before each read.
 fn play_script<X: Wait>(waiting: &X, rt: &HostRuntime) -> Status {
     match BufWriter::new(rt.alloc(), rt.stdout()) {
         Ok(mut writer) => {

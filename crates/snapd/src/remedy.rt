@@ -1,18 +1,18 @@
-//! What to do where the system makes no connection to a server.
+//! Advice if the system can't connect to a server.
 
 use snap_order::socket_path;
 use std::io::{self, ErrorKind};
 
-/// Linux's ENFILE and EMFILE: no descriptor is left.
+/// Linux's ENFILE and EMFILE: no descriptors are left.
 const NO_DESCRIPTOR: [i32; 2] = [23, 24];
 
-/// Linux's ENOBUFS: it has no memory for a connection.
+/// Linux's ENOBUFS: no memory for a connection.
 const NO_BUFFERS: i32 = 105;
 
 /// Linux's EPROTOTYPE: a socket of another kind is bound there.
 const WRONG_KIND: i32 = 91;
 
-/// What to do after this reason of the system's. `None` where it was no connection that couldn't be made.
+/// The advice for this reason of the system. `None` if the connection was made and then failed.
 pub fn remedy_of(address: &str, reason: &io::Error) -> Option<&'static str> {
     match reason.raw_os_error() {
         Some(code) if NO_DESCRIPTOR.contains(&code) => {
@@ -32,7 +32,7 @@ pub fn remedy_of(address: &str, reason: &io::Error) -> Option<&'static str> {
 
 const NO_MEMORY: &str = "the system has no memory for a connection: free some";
 
-/// The same of a Unix socket.
+/// The advice for a Unix socket.
 fn remedy_of_socket(kind: ErrorKind) -> &'static str {
     match kind {
         ErrorKind::NotFound =>
@@ -46,7 +46,7 @@ serves, or give that one's group the right by snapd serve --socket-mode 0660",
     }
 }
 
-/// The same of a port.
+/// The advice for a port.
 fn remedy_of_port(kind: ErrorKind) -> &'static str {
     match kind {
         ErrorKind::ConnectionRefused =>

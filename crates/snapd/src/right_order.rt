@@ -1,4 +1,4 @@
-//! The right order of a server's files, for who gave them in another one.
+//! Advice on the right order of a server's files.
 ghost use Rattle.std.specs.Prelude.{◌<◌, All, length};
 
 use crate::complaint::say;
@@ -7,9 +7,9 @@ use snap_folder::{SegmentPlace, order_files};
 use snap_order::Serving;
 use std::alloc::{AllocError, Global};
 
-/// Says in which order the files of a refused server are its segments, by what their headers say, where that
-/// is another order than they were given in. Nothing is said where a header can't be read, or they are no
-/// segments of one server: the refusal has said what is wrong.
+/// After a refusal, prints the order of the server's files by their headers, if they were given in
+/// another one. Prints nothing if a header can't be read, or if they aren't the segments of one
+/// server: the refusal said so.
 pub fn say_right_order(rt: &HostRuntime, serving: &Serving<'_>) {
     if let Some(names) = names_in_order(rt, rt.alloc(), &serving.files) {
         let line = format_args!("each file names its segment, and this is their order:{names}");
@@ -17,7 +17,7 @@ pub fn say_right_order(rt: &HostRuntime, serving: &Serving<'_>) {
     }
 }
 
-/// The files in order of segment, a space in front of each. `None` where they are in order.
+/// The files in order of segment, with a space before each. `None` if they were given in order.
 fn names_in_order(rt: &HostRuntime, alloc: Global, files: &[&str]) -> Option<String> {
     let places = places_of(rt, alloc, files)?;
     if places.len() != files.len() {
@@ -30,7 +30,7 @@ fn names_in_order(rt: &HostRuntime, alloc: Global, files: &[&str]) -> Option<Str
     joined(alloc, files, &order).ok()
 }
 
-/// What the headers of the files say.
+/// The places in the headers of the files.
 fn places_of(rt: &HostRuntime, alloc: Global, files: &[&str]) -> Option<Vec<SegmentPlace>> {
     let mut places = Vec::with_capacity(alloc, files.len()).ok()?;
     for file in files {
@@ -40,7 +40,7 @@ fn places_of(rt: &HostRuntime, alloc: Global, files: &[&str]) -> Option<Vec<Segm
     Some(places)
 }
 
-/// The files in this order, a space in front of each.
+/// The files in this order, with a space before each.
 fn joined(alloc: Global, files: &[&str], order: &[usize]) -> Result<String, AllocError>
     requires { All (λ at. at < length files.now) order.now }
 {

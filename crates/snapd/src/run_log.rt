@@ -1,4 +1,4 @@
-//! The log of a server's start and end.
+//! Logs the start and end of a server.
 
 use crate::surroundings::{Process, ignores_interrupts};
 use log::{error, info};
@@ -9,7 +9,7 @@ use std::fmt::{self, Display};
 use std::rt::Clock;
 use std::sync::Wait;
 
-/// Logs what a server is once it has begun, and how it ended.
+/// Logs that a server has started, with its files and addresses, and how it ended.
 #[derive_where(Clone, Copy)]
 #[derive(Drop)]
 pub struct RunLog<'a, X: Wait + Clock> {
@@ -18,12 +18,12 @@ pub struct RunLog<'a, X: Wait + Clock> {
 }
 
 impl<'a, X: Wait + Clock> RunLog<'a, X> {
-    /// Logs to this log, of the server in this process.
+    /// Logs about the server in this process to this log.
     pub fn new(log: &'a Lines<'a, X>, process: Process<'a>) -> RunLog<'a, X> {
         RunLog { log, process }
     }
 
-    /// The server takes connections, at the places of these lines.
+    /// Logs that the server accepts connections. Each line of `listening` has an address.
     pub fn begun(&self, listening: &str) {
         let process = self.process;
         let (number, count) = (libc::getpid(), process.files.len());
@@ -38,7 +38,7 @@ impl<'a, X: Wait + Clock> RunLog<'a, X> {
         }
     }
 
-    /// The server has ended so. One that never began says why by itself.
+    /// Logs how the server ended. If it never started, the reason is printed elsewhere.
     pub fn ended(&self, served: Result<u64, &RunFault>) {
         match served {
             Ok(count) => info!(self.log; target: "server", "it ends: served {count}"),
@@ -50,12 +50,12 @@ impl<'a, X: Wait + Clock> RunLog<'a, X> {
     }
 }
 
-/// Whether a server that ended so had begun.
+/// Whether this fault ends a server that has started.
 fn ends_a_running_server(fault: ServerFault) -> bool {
     matches!(fault, ServerFault::AcceptFailed | ServerFault::PollFailed)
 }
 
-/// What a process serves: its folder, or the paths of its files in order.
+/// Shows the folder that a process serves, or the paths of its files in order.
 #[derive(Clone, Copy)]
 struct Files<'a>(Process<'a>);
 
@@ -72,7 +72,7 @@ impl Display for Files<'_> {
     }
 }
 
-/// The places of the lines that say where a server listens, `listening PLACE` each.
+/// Shows the addresses in these lines, `listening ADDRESS` each.
 #[derive(Clone, Copy)]
 struct Places<'a>(&'a str);
 

@@ -1,4 +1,4 @@
-//! A server on files and sockets of the system.
+//! The command `serve`: a server on the system's files and sockets.
 ghost use Rattle.std.specs.Prelude.{◌≡◌, ◌-◌, ◌^◌, ◌<◌, ◌≤◌, length, All, IfOk};
 ghost use Rattle.std.specs.Thread.{IsSync};
 ghost use Rattle.snap_devices.specs.FileDisk.{IsUncalled};
@@ -33,19 +33,19 @@ use std::time::{Duration, Instant};
 /// A server's file, whose stores are timed.
 type TimedFile<'a, X> = Timed<'a, FileDisk<'a, HostRuntime>, X>;
 
-/// Why the files of a server could not be taken.
+/// The reason why the files of a server couldn't be opened.
 #[derive(Drop)]
 enum FilesFault<'a> {
-    /// The file at this path could not be taken as a device.
+    /// The file at this path couldn't be opened.
     Path { file: &'a str, fault: FileFault },
     /// These paths name one file.
     SameFile { first: &'a str, second: &'a str },
-    /// There was no memory for their list.
+    /// Memory ran out.
     NoMemory,
 }
 
-/// The order's files as devices, in order, each with an exclusive lock. `told` gets for each of them why
-/// a call of it fails. Says why where one can't be taken.
+/// Opens the order's files as devices, in order, each with an exclusive lock. `told` gets for each
+/// file the reason why a call on it fails. Prints the reason if one can't be opened.
 pub fn take_files<'f>(
     rt: &'f HostRuntime,
     files: &'f Vec<&str>,
@@ -62,7 +62,7 @@ pub fn take_files<'f>(
     }
 }
 
-/// These files as devices.
+/// [`take_files`] without the message.
 fn open_files<'a, 'f, R: Files<File = File> + Clock>(
     rt: &'f R,
     alloc: Global,
@@ -88,7 +88,7 @@ fn open_files<'a, 'f, R: Files<File = File> + Clock>(
     Ok(devices)
 }
 
-/// The file at this path as a device, which tells why a call of it fails where there is a place for that.
+/// Opens the file at this path as a device, which puts the reason of a failed call in `told`.
 fn open_telling<'f, R: Files<File = File> + Clock>(
     rt: &'f R,
     file: &'f str,
@@ -103,8 +103,8 @@ fn open_telling<'f, R: Files<File = File> + Clock>(
     }
 }
 
-/// Why the file at this path could not be taken, behind those that were: where one of them keeps it
-/// out, that they are one.
+/// The fault of the file at this path, after these devices were opened: if it is in use by one of
+/// them, both paths name one file.
 fn fault_at<'a, R: Files<File = File> + Clock>(
     files: &[&'a str],
     devices: &[FileDisk<'_, R>],
@@ -127,7 +127,7 @@ fn fault_at<'a, R: Files<File = File> + Clock>(
     }
 }
 
-/// How much is logged.
+/// The filter of a level.
 fn filter_of(level: snap_order::Level) -> LevelFilter {
     match level {
         snap_order::Level::Error => LevelFilter::Error,
@@ -137,16 +137,16 @@ fn filter_of(level: snap_order::Level) -> LevelFilter {
     }
 }
 
-/// What is known of a server beside its files, and where that is shown by HTTP.
+/// The process of a server, and its HTTP listener if it has one.
 #[derive(Drop)]
 struct Look<'a> {
     process: Process<'a>,
     place: Option<HttpPlace>,
 }
 
-/// Serves these devices, and logs on standard error what is noticed meanwhile, by a thread of its own. Where
-/// there is a place for it, browsers and monitors are answered. Says why where it can't begin.
-/// `folder` is that of the files, where the words name one.
+/// Serves these devices. A thread of its own writes the log to standard error, and another one
+/// answers HTTP if `place` is given. `folder` is that of the files, if the arguments name one.
+/// Prints the reason if it can't start.
 pub fn serve<'x, X>(
     rt: &X,
     system: &'x HostRuntime,
@@ -172,8 +172,8 @@ where
     }
 }
 
-/// Serves these devices, and counts what they do. An error is that there was no memory for the log or for
-/// what is counted, or no thread: nothing was done.
+/// Serves these devices with metrics. It fails before it does anything, if memory runs out for the
+/// log or the metrics, or if no thread can be started.
 fn serve_counted<'x, X>(
     rt: &X,
     system: &'x HostRuntime,
@@ -205,7 +205,7 @@ where
     serve_logged(rt, order, devices, told, Look { process, place })
 }
 
-/// What is counted of the order's server, and the texts of its addresses.
+/// The metrics of the order's server, and its addresses as strings.
 fn figures_of(alloc: Global, order: &Serving<'_>) -> Result<(Figures, Vec<String>), AllocError>
     ensures workers { IfOk result (λ found. found.0.workers ≡ order.now.scanners) }
     ensures segments { IfOk result (λ found. found.0.segments ≡ length order.now.files.items) }
@@ -214,7 +214,7 @@ fn figures_of(alloc: Global, order: &Serving<'_>) -> Result<(Figures, Vec<String
     Ok((figures, texts_of(alloc, &order.addresses)?))
 }
 
-/// The same texts, as texts of their own.
+/// These texts as strings.
 fn texts_of(alloc: Global, words: &[&str]) -> Result<Vec<String>, AllocError> {
     let mut texts = Vec::with_capacity(alloc, words.len())?;
     for word in words {
@@ -265,25 +265,24 @@ where
                 return Err(ServerFault::NoThread);
             }
             let ended = host_logged(rt, order, devices, told, &log, look);
-            // The thread that writes the lines ends once no more can come.
+            // The writing thread ends once every sender is dropped.
             drop(log);
             ended
         },
     )
 }
 
-/// How many descriptors a server has beside its files, its listeners behind the first, two for each worker
-/// and its connections: the standard streams, its first listener, what it waits for them by, and what is
+/// How many descriptors a server needs beside its files, its further listeners, two for each
+/// worker, and its connections: the standard streams, the first listener, its poll, and what is
 /// open for a moment.
 const OTHERS: u64 = 16;
 
-/// How many more it has where it answers HTTP: the connections, the listener, what it waits by, and what it is
-/// stopped by.
+/// How many more it needs for HTTP: the connections, the listener, its poll, and what stops it.
 const OF_HTTP: u64 = MAX_GUESTS as u64 + 4;
 
-/// How many connections may be open at once: what the process may open, less what it needs itself, and
-/// no more than the order says. So no connection is ever accepted that the system has no descriptor
-/// for.
+/// The limit of open connections: as many as the process may open, less the descriptors that it
+/// needs itself, and at most what the order says. So there is a descriptor for every connection
+/// that is accepted.
 fn most_clients(order: &Serving<'_>) -> usize {
     let asked = order.clients.map_or(usize::MAX, |clients| clients as usize);
     let Some(limit) = most_descriptors() else {
@@ -298,7 +297,7 @@ fn most_clients(order: &Serving<'_>) -> usize {
     usize::try_from(left).unwrap_or(usize::MAX).min(asked)
 }
 
-/// Warns of addresses at which anybody may call.
+/// Warns of addresses that accept connections from all networks.
 fn warn_of_everywhere<X: Wait + Clock>(log: &Lines<'_, X>, order: &Serving<'_>) {
     'addresses: for address in &order.addresses {
         if is_everywhere(*address) {
@@ -314,8 +313,8 @@ fn warn_of_everywhere<X: Wait + Clock>(log: &Lines<'_, X>, order: &Serving<'_>) 
     }
 }
 
-/// Serves these devices, whose stores are timed, and logs what is noticed meanwhile. An error is that there was
-/// no memory: nothing was done.
+/// Serves these devices with their stores timed. Fails, before it does anything, only if memory
+/// runs out.
 fn host_logged<'x, X>(
     rt: &X,
     order: &'x Serving<'x>,
@@ -339,7 +338,7 @@ where
     }
 }
 
-/// Serves these devices, and logs what is noticed meanwhile.
+/// Serves these timed devices, with the warnings and the HTTP thread.
 #[tactic(auto, using(crate::proofs::Uncalled::headroom))]
 fn host_timed<'x, X>(
     rt: &X,
@@ -362,7 +361,7 @@ where
     host_noted(rt, order, devices, told, log, process, view.as_ref())
 }
 
-/// Serves these devices, and logs and counts what is noticed meanwhile.
+/// Serves these devices, and logs and counts the server's events.
 fn host_noted<'x, X, D, O>(
     rt: &X,
     order: &'x Serving<'x>,
@@ -415,7 +414,7 @@ where
     )
 }
 
-/// Who looks at the server from outside, where there is a place for it.
+/// The HTTP thread, if there is a listener for it.
 fn view_of<'x, X: Wait + Clock>(log: &'x Lines<'x, X>, look: Look<'x>) -> Option<HttpView<'x, X>> {
     let Look { process, place } = look;
     match place {
@@ -424,7 +423,7 @@ fn view_of<'x, X: Wait + Clock>(log: &'x Lines<'x, X>, look: Look<'x>) -> Option
     }
 }
 
-/// How long a connection may say nothing.
+/// The idle timeout.
 fn patience_of(order: &Serving<'_>) -> Option<Duration> {
     match order.idle {
         Some(seconds) => Some(Duration::from_secs(u64::from(seconds))),

@@ -1,4 +1,4 @@
-//! The log of updates that could not be stored.
+//! Logs failed stores.
 
 use crate::files::FirstFault;
 use log::error;
@@ -7,20 +7,20 @@ use std::fmt::Display;
 use std::rt::Clock;
 use std::sync::Wait;
 
-/// Logs each update that could not be stored as an error, with the name of its file and what the system
-/// said of it.
+/// Logs each update whose store failed as an error, with the name of its file and the system's
+/// reason.
 #[derive_where(Clone, Copy)]
 #[derive(Drop)]
 pub struct StoreLog<'a, X: Wait + Clock> {
     log: &'a Lines<'a, X>,
     /// The path of each segment's file.
     files: &'a Vec<&'a str>,
-    /// Why the first call of each file that failed did.
+    /// The reason why a call on each file first failed.
     told: &'a Vec<FirstFault>,
 }
 
 impl<'a, X: Wait + Clock> StoreLog<'a, X> {
-    /// Logs to this log, for these files.
+    /// Logs about these files to this log.
     pub fn new(
         log: &'a Lines<'a, X>,
         files: &'a Vec<&'a str>,
@@ -29,7 +29,7 @@ impl<'a, X: Wait + Clock> StoreLog<'a, X> {
         StoreLog { log, files, told }
     }
 
-    /// The device of this segment failed while the update of this number was stored.
+    /// Logs that the device of this segment failed while it stored this update.
     pub fn unstored(&self, segment: usize, number: u64) {
         let (Some(file), Some(told)) = (self.files.get(segment), self.told.get(segment)) else {
             return;
@@ -40,7 +40,7 @@ impl<'a, X: Wait + Clock> StoreLog<'a, X> {
         }
     }
 
-    /// Logs that the update could not be stored, for this reason.
+    /// Logs that the store of an update failed, for this reason.
     fn log_unstored<T: Display>(&self, file: &str, segment: usize, number: u64, why: &T) {
         error!(self.log; target: "store",
             "{file}: segment {segment}: update {number} failed: a restart shows whether it is stored, and the segment is fenced until then: {why}"

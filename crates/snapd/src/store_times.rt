@@ -1,4 +1,4 @@
-//! How long a store takes in a folder.
+//! Measures how long a store takes in a folder.
 ghost use Rattle.snap_devices.specs.FileDisk.{IsUncalled};
 
 use crate::files::FirstFault;
@@ -18,48 +18,48 @@ use thiserror::Error;
 /// How many values are stored.
 pub const STORES: usize = 200;
 
-/// How many bytes each of them has.
+/// The length of each value in bytes.
 pub const STORED_LEN: usize = 1_000;
 
-/// How many names there are for the file that they are stored in, and so how many times are taken at once. They don't
-/// end as a segment's file does.
+/// How many names there are for the temporary file, and so how many measurements can run at once.
+/// The names don't end in `.seg`.
 const NAMES: u8 = 100;
 
-/// How long stores took.
+/// The measured times of the stores.
 #[derive(Clone, Copy, Debug)]
 pub struct StoreTimes {
-    /// Half of them took no longer.
+    /// The median: half of them took no longer.
     pub median: Duration,
-    /// 99 of a hundred took no longer.
+    /// The 99th percentile.
     pub late: Duration,
 }
 
-/// A store that took fewer microseconds can't have waited for a disk: it waits twice for what was written.
+/// A store of fewer microseconds can't have waited for a disk: it syncs twice.
 const SHORTEST: u64 = 40;
 
 impl StoreTimes {
-    /// Half of the stores were too short to have waited for a disk.
+    /// Whether half of the stores were too short to have waited for a disk.
     pub fn are_too_short(&self) -> bool {
         self.median < Duration::from_micros(SHORTEST)
     }
 }
 
-/// Why no time was taken.
+/// The reason why nothing was measured.
 #[derive(Debug, Drop, Error)]
 pub enum MeasureFault {
     /// The file couldn't be made.
     #[error("{0}")]
     File(FileFault),
-    /// A call of it failed, with what the system said of that.
+    /// A call on the file failed, for this reason of the system.
     #[error("{0}")]
     Store(String),
     /// The system has no clock, or the file couldn't be removed.
     #[error("{0}")]
     System(io::Error),
-    /// Each name is taken.
+    /// All names are taken.
     #[error("all names from doctor-0.tmp on are taken: remove what is left of them")]
     Crowded,
-    /// A growth of memory was refused.
+    /// Memory ran out.
     #[error("out of memory")]
     NoMemory,
 }
@@ -76,8 +76,9 @@ impl From<io::Error> for MeasureFault {
     }
 }
 
-/// Stores [`STORES`] values of [`STORED_LEN`] bytes in a file of its own in the folder, which it removes however it
-/// ends, and says how long that took. One that was killed leaves its file to the next.
+/// Stores [`STORES`] values of [`STORED_LEN`] bytes in a temporary file in the folder, and returns
+/// the times. It removes the file however it ends. The file of a process that was killed is removed
+/// by a later measurement.
 pub fn measure(rt: &HostRuntime, alloc: Global, folder: &str) -> Result<StoreTimes, MeasureFault> {
     let own = own_path(rt, alloc, folder)?;
     let path = own.as_str();
@@ -90,7 +91,8 @@ pub fn measure(rt: &HostRuntime, alloc: Global, folder: &str) -> Result<StoreTim
         }
     };
     let (_locked, taken) = store_all(rt, alloc, disk);
-    // Its lock is held until its name is gone, so that nobody takes it for one that was left.
+    // The lock is held until the name is removed, so that no other process takes the file for a
+    // left one.
     fs::remove_file(rt, path)?;
     match taken {
         Err(MeasureFault::Store(_)) => Err(MeasureFault::Store(reason_of(alloc, &told)?)),
@@ -98,7 +100,7 @@ pub fn measure(rt: &HostRuntime, alloc: Global, folder: &str) -> Result<StoreTim
     }
 }
 
-/// The path of a file in the folder that is this process's alone, and was made just now, without a byte.
+/// The path of a new and empty file in the folder that only this process uses.
 fn own_path(rt: &HostRuntime, alloc: Global, folder: &str) -> Result<String, MeasureFault> {
     for number in 0..NAMES {
         let name = format!(in alloc; "doctor-{number}.tmp")?;
@@ -110,7 +112,7 @@ fn own_path(rt: &HostRuntime, alloc: Global, folder: &str) -> Result<String, Mea
     Err(MeasureFault::Crowded)
 }
 
-/// Makes the file at this path, in place of one that was left. It isn't made where another process has it.
+/// Makes the file at this path, in place of one that was left. `false` if another process has it.
 fn make_own(rt: &HostRuntime, path: &str) -> io::Result<bool> {
     remove_left(rt, path);
     match File::options().write(true).create_new(true).open(rt, path) {
@@ -120,8 +122,8 @@ fn make_own(rt: &HostRuntime, path: &str) -> io::Result<bool> {
     }
 }
 
-/// Removes the file at this path, where nobody has its lock and it has the length that it gets under that lock: so
-/// its process ended before it could remove it.
+/// Removes the file at this path if nobody has its lock and it has a segment file's length, which
+/// it gets under that lock: then its process ended before it could remove it.
 fn remove_left(rt: &HostRuntime, path: &str) {
     let Ok(left) = File::options().read(true).write(true).open(rt, path) else {
         return;
@@ -129,7 +131,7 @@ fn remove_left(rt: &HostRuntime, path: &str) {
     if left.try_lock().is_err() {
         return;
     }
-    // Under the lock nobody else removes it, if it has this name still.
+    // If it still has this name, nobody else removes it while it is locked.
     if let (Ok(found), Ok(named)) = (left.metadata(), fs::metadata(rt, path)) {
         let is_named = found.dev() == named.dev() && found.ino() == named.ino();
         if is_named && found.len() == FILE_LEN {
@@ -138,7 +140,8 @@ fn remove_left(rt: &HostRuntime, path: &str) {
     }
 }
 
-/// Makes the file of a segment, and stores the values in it. The file is handed back with its lock.
+/// Formats the file, and stores the values in it. Returns the file, which is still locked, with the
+/// times.
 fn store_all<'p>(
     rt: &'p HostRuntime,
     alloc: Global,
@@ -159,7 +162,7 @@ fn store_all<'p>(
     }
 }
 
-/// How long the stores took.
+/// Stores the values, and returns the median and the 99th percentile of the times.
 fn time_stores<D: Disk>(
     rt: &HostRuntime,
     alloc: Global,
@@ -176,7 +179,7 @@ fn time_stores<D: Disk>(
     }
 }
 
-/// How long each store took, in order.
+/// The time of each store, in order.
 fn times_of<D: Disk>(
     rt: &HostRuntime,
     alloc: Global,
@@ -191,7 +194,7 @@ fn times_of<D: Disk>(
     Ok(times)
 }
 
-/// How long one store took.
+/// The time of one store.
 fn time_store<D: Disk>(
     rt: &HostRuntime,
     alloc: Global,
@@ -204,7 +207,7 @@ fn time_store<D: Disk>(
     Ok(began.elapsed(rt)?)
 }
 
-/// What the system said of the file's device.
+/// The system's reason for the failure of the file's device.
 fn reason_of(alloc: Global, told: &FirstFault) -> Result<String, AllocError> {
     match told.text(alloc) {
         Some(reason) => Ok(reason),

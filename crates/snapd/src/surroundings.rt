@@ -1,4 +1,4 @@
-//! What the system tells of a server that runs.
+//! What the system knows about the process of a running server.
 
 use snap_args::VERSION;
 use snap_board::{History, Surroundings, Usage};
@@ -11,45 +11,46 @@ use std::sync::Wait;
 use std::time::{Duration, Instant};
 use std::{fs, io};
 
-/// Where the system tells how much memory a process has: numbers of pages, of which the second are in the
-/// machine's memory.
+/// The memory of this process, as Linux reports it: numbers of pages, of which the first is its
+/// address space and the second is resident.
 const MEMORY: &str = "/proc/self/statm";
 
-/// Where it tells which signals a process ignores, and what stands in front of them there: a bit for each, in
+/// The status of this process, and the key of the signals that it ignores: a bit for each, in
 /// hexadecimal digits.
 const STATUS: &str = "/proc/self/status";
 
 const IGNORED: &str = "SigIgn:";
 
-/// The bit of an interrupt, which is signal 2.
+/// The bit of SIGINT, which is signal 2.
 const INTERRUPT: u64 = 1 << 1;
 
-/// Where the system tells which descriptors a process has open.
+/// The open descriptors of this process.
 const DESCRIPTORS: &str = "/proc/self/fd";
 
-/// The bytes of a page.
+/// The size of a page in bytes.
 const PAGE: u64 = 4_096;
 
-/// A server in this process, and what was counted of it.
+/// A server in this process, with its metrics.
 #[derive(Clone, Copy, Drop)]
 pub struct Process<'a> {
     pub rt: &'a HostRuntime,
     pub figures: &'a Figures,
-    /// When it began, where a clock tells, and the same in milliseconds since 1970.
+    /// When it started, by the steady clock, and in milliseconds since 1970; each `None` if the
+    /// clock can't be read.
     pub began: Option<Instant>,
     pub started: Option<u64>,
-    /// How many connections may be open.
+    /// The limit of open connections.
     pub most_clients: usize,
-    /// Where it listens, as its words say.
+    /// The addresses at which it listens, as in its arguments.
     pub addresses: &'a Vec<String>,
-    /// The folder that it serves, where its words name one.
+    /// The folder that it serves, if its arguments name one.
     pub folder: Option<&'a str>,
-    /// The path of each segment's file, as its words say.
+    /// The path of each segment's file, as in its arguments.
     pub files: &'a Vec<&'a str>,
 }
 
-/// Whether this process ignores an interrupt, where the system tells. It has that from whoever started it: a
-/// shell has what a script starts with `&` ignore it.
+/// Whether this process ignores SIGINT, as far as the system says. It inherits that: a script has
+/// what it starts with `&` ignore it.
 pub fn ignores_interrupts(rt: &HostRuntime) -> bool {
     match ignored_signals(rt) {
         Some(signals) => signals & INTERRUPT != 0,
@@ -57,7 +58,7 @@ pub fn ignores_interrupts(rt: &HostRuntime) -> bool {
     }
 }
 
-/// The signals that this process ignores.
+/// The signals that this process ignores, a bit for each.
 fn ignored_signals(rt: &HostRuntime) -> Option<u64> {
     let status = fs::read_to_string(rt, STATUS).ok()?;
     let (_, behind) = status.split_once(IGNORED)?;
@@ -65,14 +66,14 @@ fn ignored_signals(rt: &HostRuntime) -> Option<u64> {
 }
 
 impl Process<'_> {
-    /// So many bytes of memory, by their place among the numbers that the system tells.
+    /// The number at this place in the memory report, in bytes.
     fn memory_at(&self, place: usize) -> Option<u64> {
         let numbers = fs::read_to_string(self.rt, MEMORY).ok()?;
         let pages: u64 = numbers.split_whitespace().nth(place)?.parse().ok()?;
         pages.checked_mul(PAGE)
     }
 
-    /// How many descriptors are open. The one that is open for the look isn't counted.
+    /// The number of open descriptors, without the one that reads the folder.
     fn descriptors(&self) -> io::Result<u64> {
         let mut count: u64 = 0;
         for entry in fs::read_dir(self.rt, DESCRIPTORS)? {
@@ -83,12 +84,12 @@ impl Process<'_> {
     }
 }
 
-/// The time in milliseconds since 1970; `None` where no clock tells.
+/// The time in milliseconds since 1970. `None` if the clock can't be read.
 pub fn millis_since_1970<R: Clock>(rt: &R) -> Option<u64> {
     u64::try_from(rt.since_1970().ok()?.as_millis()).ok()
 }
 
-/// The time of processors that this process took, in nanoseconds.
+/// The processor time of this process, in nanoseconds.
 fn processor_time() -> Option<u64> {
     let mut time = libc::types::timespec {
         tv_sec: 0,
@@ -102,7 +103,7 @@ fn processor_time() -> Option<u64> {
     seconds.checked_mul(1_000_000_000)?.checked_add(rest)
 }
 
-/// How many descriptors this process may have open.
+/// The most descriptors that this process may have open.
 pub fn most_descriptors() -> Option<u64> {
     let mut limit = libc::types::rlimit {
         rlim_cur: 0,
@@ -114,7 +115,8 @@ pub fn most_descriptors() -> Option<u64> {
     Some(limit.rlim_cur)
 }
 
-/// A server in this process as who looks sees it: with its log, and what it counted in the last three minutes.
+/// A server in this process, as the HTTP thread shows it: with its log, and the samples of the last
+/// three minutes.
 #[derive_where(Clone, Copy)]
 #[derive(Drop)]
 pub struct Seen<'a, 'h, X: Wait + Clock> {
@@ -123,7 +125,7 @@ pub struct Seen<'a, 'h, X: Wait + Clock> {
     pub history: &'h History,
 }
 
-/// Takes a sample. One that there is no memory for is left out.
+/// Takes a sample of the metrics, or none if memory runs out.
 impl<X: Wait + Clock> Beat for Seen<'_, '_, X> {
     fn beat(&self) {
         let Ok(reading) = self.process.figures.read(self.process.rt.alloc()) else {

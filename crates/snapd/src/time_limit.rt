@@ -1,4 +1,4 @@
-//! Connections that end with the time of their call.
+//! Connections whose reads and writes end at a time limit.
 ghost use Rattle.std.specs.Io.{ReadsAtMost, WritesAtMost};
 
 use crate::link::Link;
@@ -9,18 +9,18 @@ use std::rt::Clock;
 use std::sync::atomic::{AtomicBool, Ordering};
 use std::time::{Duration, Instant};
 
-/// Until when a call may wait.
+/// The time at which a call ends.
 #[derive(Drop)]
 pub struct TimeLimit<'c, 'o, C> {
     pub clock: &'c C,
-    /// `None` where it may wait for as long as it likes.
+    /// `None` without a limit.
     pub end: Option<Instant>,
-    /// Whether something has waited until then.
+    /// Set once something has waited until then.
     pub is_over: &'o AtomicBool,
 }
 
 impl<'c, 'o, C: Clock> TimeLimit<'c, 'o, C> {
-    /// The connection as one that ends then, and tells this course how it goes.
+    /// Limits the reads and writes of a connection, and records its failures in `course`.
     pub fn on<'a, S>(&'a self, stream: Link<S>, course: &'a Course) -> LimitedStream<'a, C, S> {
         let limit = TimeLimit {
             clock: self.clock,
@@ -34,7 +34,8 @@ impl<'c, 'o, C: Clock> TimeLimit<'c, 'o, C> {
         }
     }
 
-    /// What is left of the time, which is never nothing; `None` where there is no limit.
+    /// The remaining time, which is never zero. `None` without a limit. An error if the time is
+    /// over.
     pub fn left(&self) -> io::Result<Option<Duration>> {
         let Some(end) = self.end else {
             return Ok(None);
@@ -48,19 +49,19 @@ impl<'c, 'o, C: Clock> TimeLimit<'c, 'o, C> {
     }
 }
 
-/// How a call goes, as its connections tell.
+/// The state of a call's connections.
 #[derive(Drop)]
 pub struct Course {
-    /// Whether something has waited until the time of the call was over.
+    /// Whether something has waited until the call's `--timeout` was over.
     pub is_over: AtomicBool,
-    /// Whether it has tried for as long as it was to.
+    /// Whether it has tried to connect until its `--wait` was over.
     pub has_waited: AtomicBool,
     has_failed: Cell<bool>,
     reason: Cell<Option<io::Error>>,
 }
 
 impl Course {
-    /// Nothing has happened yet.
+    /// A call without a connection yet.
     pub fn new() -> Course {
         Course {
             is_over: AtomicBool::new(false),
@@ -70,16 +71,16 @@ impl Course {
         }
     }
 
-    /// A connection is made.
+    /// Records that a connection was made.
     pub fn begin(&self) {
         self.has_failed.set(false);
         self.reason.set(None);
     }
 
-    /// A connection couldn't be made, or failed, for this reason.
+    /// Records that a connection couldn't be made, or failed, for this reason.
     pub fn fail(&self, error: io::Error) {
         self.has_failed.set(true);
-        // That the time was over is no word of the system's.
+        // A time that is over by our own limit is no reason of the system.
         if error.kind() != ErrorKind::TimedOut || error.raw_os_error().is_some() {
             self.reason.set(Some(error));
         }
@@ -90,12 +91,12 @@ impl Course {
         self.has_failed.get()
     }
 
-    /// Why the system let it fail, where it said so.
+    /// The system's reason for that, if it gave one.
     pub fn reason(&self) -> Option<io::Error> {
         self.reason.get()
     }
 
-    /// A read or a write moved so many bytes; none where the connection has ended.
+    /// Records the result of a read or a write. No bytes: the connection has ended.
     fn take_note(&self, moved: &io::Result<usize>) {
         match moved {
             Ok(0) => self.has_failed.set(true),
@@ -105,7 +106,7 @@ impl Course {
     }
 }
 
-/// A connection, each read and write of which ends with the time.
+/// A connection whose reads and writes end at the time limit.
 #[derive(Drop)]
 pub struct LimitedStream<'a, C, S> {
     pub stream: Link<S>,
@@ -114,7 +115,7 @@ pub struct LimitedStream<'a, C, S> {
 }
 
 impl<'a, C: Clock, S: Read + OpenStream> LimitedStream<'a, C, S> {
-    /// A read, which is made again where a signal came meanwhile.
+    /// Reads, again after a signal, until the time is over.
     fn read_in_time(&mut self, buf: &mut [u8]) -> io::Result<usize>
         ensures { ReadsAtMost result buf.new }
     {
@@ -132,7 +133,7 @@ impl<'a, C: Clock, S: Read + OpenStream> LimitedStream<'a, C, S> {
 }
 
 impl<'a, C: Clock, S: Write + OpenStream> LimitedStream<'a, C, S> {
-    /// A write, which is made again where a signal came meanwhile.
+    /// Writes, again after a signal, until the time is over.
     fn write_in_time(&mut self, buf: &[u8]) -> io::Result<usize>
         ensures { WritesAtMost result buf.now }
     {
@@ -149,8 +150,9 @@ impl<'a, C: Clock, S: Write + OpenStream> LimitedStream<'a, C, S> {
     }
 }
 
-/// A read or a write moved nothing, and may be made again: a signal came, as behind a stop of the process, or
-/// the time that the system gave it is over, which its own look at the clock tells.
+/// Whether a call moved nothing and has to be made again: a signal came, for instance after a stop
+/// of the process, or the system's timeout ran out, so that our own clock decides whether the time
+/// is over.
 fn is_early(error: io::Error) -> bool {
     matches!(error.kind(), ErrorKind::Interrupted | ErrorKind::WouldBlock)
 }

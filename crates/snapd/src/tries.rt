@@ -1,4 +1,4 @@
-//! The tries of a call: when each of them begins, and until when it may wait.
+//! The tries of a call: when each begins, and how long it may take.
 
 use crate::call_command::link_within;
 use crate::link::Link;
@@ -8,29 +8,31 @@ use std::rt::Clock;
 use std::time::{Duration, Instant};
 use std::{io, thread};
 
-/// The rest behind a request's first try that failed, in milliseconds. Each other one is twice as long, as in
-/// the clients in Python and C.
+/// The pause after a request's first failed try, in milliseconds. Each further one is twice as
+/// long, as in the clients in Python and C.
 const FIRST_REST: u64 = 100;
 
-/// The longest rest of a call that waits, in milliseconds: so soon it finds a server that is back.
+/// The longest pause of a call that waits, in milliseconds: so soon it finds a server that is back.
 const LONGEST_REST: u64 = 1_000;
 
-/// The shortest rest near the end of its time, in milliseconds.
+/// The shortest pause near the time limit, in milliseconds.
 const SHORTEST_REST: u64 = 1;
 
-/// For how long a call goes on.
+/// How long a call tries.
 #[derive(Clone, Copy)]
 pub struct Patience {
-    /// For how many seconds each of its requests is tried, however often that is. `None` where the tries are counted.
+    /// `--wait`: for how many seconds each of its requests is tried, however often that is. `None`
+    /// if the number of tries is limited instead.
     pub wait: Option<u32>,
-    /// For how many seconds it may wait in all, from its first connection on. `None` where that has no end.
+    /// `--timeout`: how many seconds the call may take in all, from its first connection on. `None`
+    /// without a limit.
     pub timeout: Option<u32>,
 }
 
-/// A connection of a call.
+/// A connection of a call, with its time limit.
 type Limited<'a, N> = LimitedStream<'a, N, <N as Net>::Stream>;
 
-/// The tries of a call's requests.
+/// Makes the connections for a call's requests, with pauses.
 #[derive(Drop)]
 pub struct Tries<'a, N> {
     net: &'a N,
@@ -40,12 +42,12 @@ pub struct Tries<'a, N> {
     /// When the first try of the call began, and the first one of this request.
     began: Option<Instant>,
     asked: Option<Instant>,
-    /// How long it rests next.
+    /// The next pause.
     rest: Duration,
 }
 
 impl<'a, N: Net + Clock> Tries<'a, N> {
-    /// Those of a call to this address, of which none has begun.
+    /// The tries of a call to this address, of which none has begun.
     pub fn new(net: &'a N, address: &'a str, patience: Patience, course: &'a Course) -> Self {
         Tries {
             net,
@@ -58,8 +60,8 @@ impl<'a, N: Net + Clock> Tries<'a, N> {
         }
     }
 
-    /// The next connection as its reader and its writer, behind a rest where the last one failed. `None` where it
-    /// can't be made; of a call that waits, where none can be made before that is over.
+    /// The next connection as a reader and a writer, after a pause if the last one failed. `None`
+    /// if it can't be made; for a call that waits, if none can be made before the time is over.
     pub fn next(&mut self) -> Option<(Limited<'a, N>, Limited<'a, N>)> {
         let now = Instant::now(self.net).ok()?;
         let began = self.began.unwrap_or(now);
@@ -76,7 +78,7 @@ impl<'a, N: Net + Clock> Tries<'a, N> {
                 Err(error) => self.course.fail(error),
             }
             if self.patience.wait.is_none() {
-                // It says so of itself where the time is over.
+                // Only sets the flag if the time is over.
                 let _ = limit.left();
                 return None;
             }
@@ -84,7 +86,7 @@ impl<'a, N: Net + Clock> Tries<'a, N> {
         None
     }
 
-    /// Until when the call may wait that began then.
+    /// The time limit of a call that began then.
     fn time(&self, began: Instant) -> TimeLimit<'a, 'a, N> {
         TimeLimit {
             clock: self.net,
@@ -93,7 +95,7 @@ impl<'a, N: Net + Clock> Tries<'a, N> {
         }
     }
 
-    /// Until when connections of a request may be made that was asked then.
+    /// The time limit for connecting of a request that was first tried then.
     fn time_to_connect(&self, began: Instant, asked: Instant) -> TimeLimit<'a, 'a, N> {
         let whole = self.time(began);
         match (end_of(asked, self.patience.wait), whole.end) {
@@ -107,8 +109,8 @@ impl<'a, N: Net + Clock> Tries<'a, N> {
         }
     }
 
-    /// Rests where the last connection failed, but for no more than half of the time that is left. An error is that
-    /// none is left.
+    /// Pauses if the last connection failed, but for at most half of the remaining time. An error
+    /// if no time is left.
     fn pause(&mut self, limit: &TimeLimit<'_, '_, N>) -> io::Result<()> {
         let left = limit.left()?;
         if !self.course.has_failed() {
@@ -129,7 +131,7 @@ impl<'a, N: Net + Clock> Tries<'a, N> {
         Ok(())
     }
 
-    /// A connection that is made within this time, as its reader and its writer.
+    /// Connects within this time, and returns a reader and a writer.
     fn connection(
         &self,
         began: Instant,
@@ -141,7 +143,7 @@ impl<'a, N: Net + Clock> Tries<'a, N> {
         Ok((self.limited(reader, began), self.limited(writer, began)))
     }
 
-    /// The connection as one that ends with the time of a call that began then.
+    /// Limits the connection to the time of a call that began then.
     fn limited(&self, stream: Link<N::Stream>, began: Instant) -> Limited<'a, N> {
         LimitedStream {
             stream,
@@ -151,7 +153,8 @@ impl<'a, N: Net + Clock> Tries<'a, N> {
     }
 }
 
-/// So many seconds after this. `None` where there is no such time, or none is given.
+/// The time this many seconds after `began`. `None` if there is no such time, or no number of
+/// seconds.
 fn end_of(began: Instant, seconds: Option<u32>) -> Option<Instant> {
     began.checked_add(Duration::from_secs(u64::from(seconds?)))
 }

@@ -1,4 +1,4 @@
-//! Who is told of a server's start and end, and of each update.
+//! Counts and logs a server's updates.
 
 use crate::run_log::RunLog;
 use crate::store_log::StoreLog;
@@ -9,7 +9,7 @@ use snap_server::RunFault;
 use std::rt::Clock;
 use std::sync::Wait;
 
-/// Counts each update of a segment, and has those logged that could not be stored, and the start and the end.
+/// Counts each update of a segment, logs failed stores, and logs the server's start and end.
 #[derive_where(Clone, Copy)]
 #[derive(Drop)]
 pub struct UpdateWatch<'a, X: Wait + Clock> {
@@ -19,7 +19,7 @@ pub struct UpdateWatch<'a, X: Wait + Clock> {
 }
 
 impl<'a, X: Wait + Clock> UpdateWatch<'a, X> {
-    /// Counts here, and logs there.
+    /// Counts in `figures`, and logs to the others.
     pub fn new(
         log: StoreLog<'a, X>,
         run: RunLog<'a, X>,

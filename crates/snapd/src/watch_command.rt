@@ -1,4 +1,4 @@
-//! The command `watch`: what a server holds, and each change of it, until it is interrupted.
+//! The command `watch`: shows a server's segments and each change, until it is interrupted.
 ghost use Rattle.std.specs.Prelude.{◌<◌, IfSome};
 ghost use Rattle.snap_order.specs.Order.{IsWatchable};
 
@@ -24,17 +24,18 @@ use std::sync::atomic::{AtomicBool, Ordering};
 use std::thread;
 use std::time::{Duration, Instant};
 
-/// How long it waits between two looks where nothing is said, in milliseconds.
+/// The time between two polls in milliseconds, if none was given.
 const PAUSE: u32 = 1_000;
 
-/// How long a look may take, in seconds: a server that takes longer is taken for lost.
+/// The longest time of a poll, in seconds: a server that takes longer counts as lost.
 const PATIENCE: u64 = 10;
 
-/// What is said of a server that took longer.
+/// The message about a server that took longer.
 const LATE: &str = "there was no answer within 10 s";
 
-/// Shows what the server at the order's address holds, and each change, until the process is interrupted or
-/// nobody reads standard output. A first look that fails, or a refusal, ends it too.
+/// Shows the segments of the server at the order's address, and each change, until the process is
+/// interrupted or standard output has no reader any more. A first poll that fails, or a refusal,
+/// ends it too.
 pub fn watch<N: Wait + Clock + Net>(net: &N, rt: &HostRuntime, order: &Watching<'_>) -> Status
     requires { IsWatchable order.now }
 {
@@ -74,7 +75,7 @@ pub fn watch<N: Wait + Clock + Net>(net: &N, rt: &HostRuntime, order: &Watching<
     unreachable!()
 }
 
-/// Nobody reads standard output any more: it is a pipe whose other end is closed.
+/// Whether standard output has no reader any more: it is a pipe whose other end is closed.
 fn is_unread() -> bool {
     let mut asked = [pollfd {
         fd: libc::STDOUT_FILENO,
@@ -84,7 +85,7 @@ fn is_unread() -> bool {
     poll(&mut asked, 0) == 1 && asked[0].revents & (POLLERR | POLLHUP) != 0
 }
 
-/// The milliseconds since then, or 0 where no clock tells.
+/// The milliseconds since then, or 0 if the clock can't be read.
 fn millis_since<C: Clock>(clock: &C, began: Option<Instant>) -> u64 {
     match (began, Instant::now(clock)) {
         (Some(began), Ok(now)) => {
@@ -95,7 +96,7 @@ fn millis_since<C: Clock>(clock: &C, began: Option<Instant>) -> u64 {
     }
 }
 
-/// The rows of the server as they are now, by a look that ends with its time. `is_late` says then that it did.
+/// The current rows of the server, by a poll within its time. Sets `is_late` if that was over.
 fn rows_within<N: Clock + Net>(
     net: &N,
     rt: &HostRuntime,
@@ -119,8 +120,8 @@ fn rows_within<N: Clock + Net>(
     rows_now(net, rt.alloc(), address, watched, link, shown, &limit)
 }
 
-/// The rows of the server as they are now, by one look. Where the connection fails it looks once more on a new
-/// one, and then asks for the values anyway, since what answers may be another server.
+/// The current rows of the server, by one poll. If the connection fails it polls once more on a new
+/// one, and then requests the values anyway, since another server may answer.
 fn rows_now<N: Clock + Net>(
     net: &N,
     alloc: Global,
@@ -144,7 +145,7 @@ fn rows_now<N: Clock + Net>(
     }
 }
 
-/// The rows by one look on this connection, which is kept where it went well.
+/// The rows by one poll on this connection, which is kept if it succeeded.
 fn rows_by<N: Clock + Net>(
     alloc: Global,
     open: Link<N::Stream>,
@@ -170,34 +171,34 @@ fn rows_by<N: Clock + Net>(
 struct Screen<'a> {
     address: &'a str,
     form: Form,
-    /// Whether the rows stand in a terminal, where all are drawn at each look.
+    /// Whether the rows are drawn as a board in a terminal, anew at each poll.
     is_board: bool,
-    /// Whether a board has colours.
+    /// Whether the board has colours.
     is_coloured: bool,
-    /// The rows that were told last.
+    /// The rows of the last poll that was answered.
     shown: Vec<Row>,
-    /// What a board has seen of each of them.
+    /// The age and rate of each of them, for a board.
     tracks: Vec<Track>,
-    /// How many lines above the cursor are those of the board.
+    /// How many lines above the cursor belong to the board.
     above: usize,
-    /// The time of the last look, in milliseconds since the first one.
+    /// The time of the last poll, in milliseconds since the first one.
     now: u64,
     contact: Contact,
 }
 
-/// Whether the server is there.
+/// The state of the connection to the server.
 #[derive(Clone, Copy, Debug, PartialEq, Eq)]
 enum Contact {
-    /// It has never answered yet.
+    /// It has never answered.
     None,
-    /// It answered the last time.
+    /// It answered the last poll.
     Held,
-    /// It didn't, and did before.
+    /// It didn't answer the last poll, but an earlier one.
     Lost,
 }
 
 impl<'a> Screen<'a> {
-    /// Nothing was shown yet.
+    /// A screen on which nothing was shown yet.
     fn new(rt: &HostRuntime, address: &'a str, is_json: bool) -> Screen<'a> {
         Screen {
             address,
@@ -212,7 +213,8 @@ impl<'a> Screen<'a> {
         }
     }
 
-    /// Shows the rows, or what is another one than was shown. Answers how the program ends where that fails.
+    /// Shows the rows: a board draws all, and else the changed ones are printed. An error is the
+    /// exit status.
     fn show(&mut self, rt: &HostRuntime, rows: Vec<Row>) -> Result<(), Status> {
         let was_lost = self.contact == Contact::Lost;
         self.contact = Contact::Held;
@@ -235,7 +237,8 @@ impl<'a> Screen<'a> {
         print(rt, text.as_slice())
     }
 
-    /// Says that the server is lost, where it was there before. Answers how the program ends where it does.
+    /// Handles a failed poll: a server that has answered before is reported as lost. An error is
+    /// the exit status.
     fn bear(&mut self, rt: &HostRuntime, trouble: Trouble, is_late: bool) -> Result<(), Status> {
         let address = self.address;
         match trouble {
@@ -253,8 +256,8 @@ impl<'a> Screen<'a> {
         }
     }
 
-    /// Says how the server was lost: a board at each look, and else once. Answers how the program ends where that
-    /// fails.
+    /// Shows why the server is lost: a board at each poll, and else once. An error is the exit
+    /// status.
     fn lose(&mut self, rt: &HostRuntime, loss: &str) -> Result<(), Status> {
         let was_held = self.contact == Contact::Held;
         self.contact = Contact::Lost;
@@ -268,7 +271,7 @@ impl<'a> Screen<'a> {
         Ok(())
     }
 
-    /// Draws the board. Answers how the program ends where that fails.
+    /// Draws the board. An error is the exit status.
     fn draw(&mut self, rt: &HostRuntime, loss: Option<&str>) -> Result<(), Status> {
         let panel = Panel {
             address: self.address,
@@ -286,7 +289,7 @@ impl<'a> Screen<'a> {
     }
 }
 
-/// Colours are wanted: `NO_COLOR` isn't set, or is empty.
+/// Whether to use colours: `NO_COLOR` isn't set, or is empty.
 fn are_colours_wanted(rt: &HostRuntime) -> bool {
     match env::var(rt, "NO_COLOR") {
         Ok(value) => value.is_empty(),
@@ -295,7 +298,7 @@ fn are_colours_wanted(rt: &HostRuntime) -> bool {
     }
 }
 
-/// Prints this on standard output. Answers how the program ends where that fails.
+/// Prints this on standard output. An error is the exit status.
 fn print(rt: &HostRuntime, text: &[u8]) -> Result<(), Status> {
     match write_whole(&mut rt.stdout(), text) {
         Ok(()) => Ok(()),
@@ -304,7 +307,7 @@ fn print(rt: &HostRuntime, text: &[u8]) -> Result<(), Status> {
     }
 }
 
-/// Says why there was no first answer, and what to do.
+/// Prints why there was no first answer, with advice.
 fn say_first_loss(rt: &HostRuntime, address: &str, fault: ClientFault, is_late: bool) {
     if is_late {
         say(
@@ -320,7 +323,7 @@ fn say_first_loss(rt: &HostRuntime, address: &str, fault: ClientFault, is_late: 
     say(rt, &format_args!("{address}: {fault}: {remedy}"));
 }
 
-/// How a server was lost.
+/// The message about a lost server.
 fn loss_of(fault: ClientFault, is_late: bool) -> &'static str {
     if is_late {
         return LATE;

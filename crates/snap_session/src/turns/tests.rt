@@ -1,5 +1,5 @@
-//! Turns whose reader or writer waits, fails, ends or is interrupted, and how often a request is
-//! handed over.
+//! Turns whose reader or writer would block, fails, ends or is interrupted, and how often a request
+//! is handed over.
 
 ghost use Rattle.std.specs.Prelude.{◌≡◌, IfOk};
 ghost use Rattle.snap_frame.specs.Messages.{IsInLimits};
@@ -13,7 +13,7 @@ use std::alloc::Global;
 use std::cell::Cell;
 use std::io::{self, ErrorKind, Read, Write};
 
-/// What a call of a stream answers once all that it passes has passed.
+/// The answer of a stream's call once all its bytes have passed.
 #[derive(Clone, Copy, Debug, Drop)]
 enum Then {
     Ends,
@@ -31,7 +31,7 @@ impl Then {
     }
 }
 
-/// Gives these bytes, so many at once.
+/// A reader of these bytes, `step` at a time.
 #[derive(Drop)]
 struct Source<'a> {
     bytes: &'a [u8],
@@ -68,7 +68,7 @@ impl Read for Source<'_> {
     }
 }
 
-/// Takes as many bytes as it has room for.
+/// A writer that takes `room` bytes.
 #[derive(Drop)]
 struct Sink {
     room: usize,
@@ -102,7 +102,7 @@ impl Write for Sink {
     }
 }
 
-/// Hands every update over, counts it, and answers all others at once.
+/// A service that hands every update over and counts it, and answers all else at once.
 #[derive(Drop)]
 struct Clerk<'a> {
     handed: &'a Cell<u32>,
@@ -174,13 +174,13 @@ impl<'a> Peer<'a> {
     }
 }
 
-/// A scan that came whole, and one behind which another has begun.
+/// A whole scan, and one that is followed by the beginning of another.
 const WHOLE: &[u8] = &[0, 0, 0, 1, 2];
 
 const CUT: &[u8] = &[0, 0, 0, 1, 2, 0, 0];
 
-/// How a turn ends once the bytes that came whole, or were cut, are answered, by what the next read
-/// says.
+/// The end of a turn over a whole frame, and over one with a cut frame after it, by the answer of
+/// the next read.
 const READS: [(Then, Turn, Turn); 4] = [
     (
         Then::Ends,
@@ -204,7 +204,7 @@ const READS: [(Then, Turn, Turn); 4] = [
     ),
 ];
 
-/// The first turn over these bytes and a reader that then says this, and how many bytes of replies
+/// The first turn over these bytes and a reader that then answers so, and how many bytes of replies
 /// were written.
 fn turn_over(alloc: Global, bytes: &[u8], then: Then) -> (Turn, usize) {
     let handed = Cell::new(0);
@@ -215,7 +215,7 @@ fn turn_over(alloc: Global, bytes: &[u8], then: Then) -> (Turn, usize) {
     (turn, peer.sink.written)
 }
 
-/// Only `WouldBlock` is waiting, and all that came whole is answered before.
+/// Only `WouldBlock` is waiting, and every whole frame is answered before.
 #[test]
 fn a_read_that_gives_nothing(rt: HostRuntime) {
     for (then, whole, cut) in READS {
@@ -230,7 +230,7 @@ fn a_read_that_gives_nothing(rt: HostRuntime) {
     }
 }
 
-/// How a turn ends that owes more than the writer takes, by what the next write says.
+/// The end of a turn that owes more than the writer takes, by the answer of the next write.
 const WRITES: [(Then, Turn); 4] = [
     (Then::Ends, Turn::Over(End::WriteFailed)),
     (Then::Fails(ErrorKind::WouldBlock), Turn::NeedsRoom),
@@ -241,8 +241,8 @@ const WRITES: [(Then, Turn); 4] = [
     (Then::Fails(ErrorKind::Other), Turn::Over(End::WriteFailed)),
 ];
 
-/// Two turns over a writer with this room that then says this, how many bytes were written and how
-/// often was read. There is always more to read.
+/// Two turns over a writer with this room that then answers so, how many bytes were written, and
+/// how many reads there were. There is always more to read.
 fn turns_short_of_room(alloc: Global, room: usize, then: Then) -> (Turn, Turn, usize, u32) {
     let handed = Cell::new(0);
     let mut clerk = Clerk { handed: &handed };
@@ -270,8 +270,8 @@ const UPDATES: &[u8] = &[
     0, 0, 0, 2, 0x69,
 ];
 
-/// Two turns, of which the second one finds all as the first one left it: what they say, and how
-/// many requests were handed over before the first one, behind it, and behind the second one.
+/// Two turns, of which the second finds all as the first left it, and how many requests had been
+/// handed over before the first one, after it, and after the second.
 fn two_turns(peer: &mut Peer<'_>, clerk: &mut Clerk<'_>) -> (Turn, Turn, u32, u32, u32) {
     let before = clerk.handed.get();
     let first = peer.turn(clerk);
@@ -281,7 +281,7 @@ fn two_turns(peer: &mut Peer<'_>, clerk: &mut Clerk<'_>) -> (Turn, Turn, u32, u3
 }
 
 /// Each update is handed over once, however often its session gets a turn before its outcome, and
-/// nothing else is.
+/// no other request is.
 #[test]
 fn handed_over_once(rt: HostRuntime) {
     let handed = Cell::new(0);

@@ -1,4 +1,4 @@
--- What the device of a segment is while its writer is in each phase, and after a crash.
+-- The device of a segment while its writer is in each phase, and after a crash.
 use Rattle.std.specs.Prelude.{◌≡◌, ◌≢◌, ◌⊎◌, ℕ, ◌+◌, Bool, false, List, [], Some, slice_get}
 use Rattle.snap_disk.specs.Device.{Device, MayLeave, IsUnsynced}
 use Rattle.snap_disk.specs.Fill.{IsFilled}
@@ -18,8 +18,7 @@ use Rattle.snap_world.specs.declared.writer.WriterPhase.TheVariants as writer
 abbrev pub device_of : Drive → Device
 device_of d = image_device d.image
 
--- the device of segment i of n is at rest with number k and value u, and the persist is that of
--- its next store
+-- the device of segment i of n is at rest with number k and value u, and the persist is its next store's
 pub record IsReady (i n k : ℕ) (u : List ℕ) (device : Device)
     (persist : PersistState) : Type 0 where
   pub spare_open : Bool
@@ -54,7 +53,7 @@ DriveStands n h i phase pending d =
     IsDriveAt i n (number_after from_nothing h i) (value_after from_nothing h i) phase pending
     (device_of d) d.persist
 
--- so it is for each segment
+-- `DriveStands` for each segment
 abbrev pub DrivesStand : ℕ → List Update → List WriterState → List WriterPhase → List Drive → Type 0
 DrivesStand n h writers phases drives =
     (i : ℕ) (d : Drive) (s : WriterState) (phase : WriterPhase)

@@ -1,4 +1,4 @@
--- What a scan in progress has seen of a history, and what a register holds of it.
+-- A scan in progress and a register, as parts of a history.
 use Rattle.std.specs.Prelude.{◌≡◌, ℕ, ◌+◌, ◌^◌, ◌<◌, ◌≤◌, List, [], length, map, take, get_or, slice_get, Option, Some, None}
 use Rattle.snap_history.specs.History.{Update, from_nothing, number_after, value_after, IsMemory}
 use Rattle.snap_history.specs.Pairs.{Pairs}
@@ -12,18 +12,18 @@ use Rattle.snap_world.specs.Machine.{State, IsLook}
 use Rattle.snap_world.specs.declared.register.Register.{Register}
 use Rattle.snap_world.specs.declared.collector.Collector.{Collector}
 
--- what a memory has at segment i, by itself and with the segment
+-- the memory's value of segment i, alone and with the segment
 abbrev pub value_in : List (List ℕ) → ℕ → List ℕ
 value_in memory i = get_or memory i []
 
 abbrev pub entry_in : List (List ℕ) → ℕ → ℕ × List ℕ
 entry_in memory i = (i, value_in memory i)
 
--- what it has at the places of the set
+-- the memory's values at the places of the set
 abbrev pub picked : ℕ → List (List ℕ) → List (List ℕ)
 picked set memory = map (value_in memory) (named set)
 
--- the memory has each segment of the set as it stood at moment p
+-- the memory has each segment of the set as it was at moment p
 abbrev pub IsSeen : ℕ → List Update → List (List ℕ) → ℕ → Type 0
 IsSeen set h memory p =
     (place i : ℕ) → IsAt set place i → slice_get memory i ≡ Some (value_at h p i)
@@ -35,7 +35,7 @@ Gathered set h s memory (Look j) =
 Gathered set h s memory Clean = IsAnswer set h s (IsSeen set h memory)
 Gathered set h s memory (Borrow j) = IsAnswer set h s (IsSeen set h memory)
 
--- the collector, which has a value for each of n segments, stands for the scan s of a set of them
+-- the collector, which has a value for each of n segments, represents the scan s of a set of them
 pub record Gathers (n set : ℕ) (h : List Update) (s : ScanState) (c : Collector) : Type 0 where
   pub set_is : c.scan.set ≡ set
   pub among : set < 2 ^ n
@@ -63,8 +63,8 @@ pub record IsView (n : ℕ) (h : List Update) (i : ℕ) (r : Register) (p : ℕ)
   pub before : number_at h p i + 1 ≡ r.number
   pub is_memory : IsMemory n from_nothing (take p h) r.view.items
 
--- the view is the memory at the very moment that the machine keeps of the update, and it keeps one
--- of each update shown since moment g, when the node last began to serve
+-- The view is the memory at the very moment that the machine keeps of the update, and it keeps one
+-- of each update shown since moment g, when the node last began to serve.
 pub record ViewStands (n : ℕ) (h : List Update) (g i : ℕ) (r : Register)
     (view : Option ℕ) : Type 0 where
   pub kept : number_at h g i < r.number → (p : ℕ) × (view ≡ Some p)
@@ -75,15 +75,14 @@ pub record RegistersStand (n : ℕ) (x : State) (g : ℕ) (rs : List Register) :
   pub each : (i : ℕ) (r : Register) → slice_get rs i ≡ Some r → RegisterStands n x.history i r
   pub views : Pairs (λ i r s. ViewStands n x.history g i r s.view) rs x.writers
 
--- the registers and the scan stand for some state
+-- the registers and the scan represent some state
 abbrev pub MayLook : List Register → Collector → Type 0
 MayLook rs c =
     ∥ ((n set : ℕ) × (x : State) × (g : ℕ) × (s : ScanState)
     × (g ≤ s.start) × RegistersStand n x g rs × Gathers n set x.history s c) ∥₁
 
--- the look gave this number: in whatever state and for whatever scan the registers and the
--- collector stood, it is a look of the abstract machine, to a scan that the collector stands for
--- now
+-- The look returned this number: whichever state and scan the registers and the collector
+-- represented, it is a look of the abstract machine, to a scan that the collector represents now.
 abbrev pub IsLookOf : List Register → Collector → ℕ → Collector → Type 0
 IsLookOf rs old number new =
     (n set : ℕ) (x : State) (g : ℕ) (s : ScanState)

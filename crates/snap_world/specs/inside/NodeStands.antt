@@ -1,4 +1,4 @@
--- Which abstract states a node stands for.
+-- The abstract states that a node represents.
 use Rattle.std.specs.Prelude.{◌≡◌, ℕ, ◌+◌, ◌<◌, ◌≤◌, List, length, Some, slice_get}
 use Rattle.snap_disk.specs.Device.{IsSettled}
 use Rattle.snap_slot.specs.Findings.{IsFound}
@@ -21,7 +21,7 @@ use Rattle.snap_world.specs.declared.writer.WriterPhase.TheVariants as writer
 use Rattle.snap_world.specs.declared.scanner.Scanner.{Scanner}
 use Rattle.snap_world.specs.declared.scanner.ScannerPhase.TheVariants as scanner
 
--- a writer and a scanner without work
+-- an idle writer and an idle scanner
 pub record WriterRests (n : ℕ) (a : Writer) (s : WriterState) : Type 0 where
   pub size : length a.collector.memory.items ≡ n
   pub idle : a.phase ≡ writer.Idle
@@ -31,13 +31,13 @@ pub record ScannerRests (n : ℕ) (a : Scanner) (s : ScannerState) : Type 0 wher
   pub idle : a.phase ≡ scanner.Idle
   pub closed : s ≡ Closed
 
--- while it is up, its actors and each device stand for the state
+-- while it is up, its actors and each device represent the state
 pub record IsUp (actors : Actors) (drives : List Drive) (x : State) : Type 0 where
   pub actors_stand : ActorsStand actors x
   pub drives_stand : DrivesStand actors.segments x.history x.writers
       (phases_of_actors actors).writers drives
 
--- nobody is at work, and the places for values and scans have their sizes
+-- all actors are idle, and the buffers for values and scans have their sizes
 pub record ActorsRest (w : Actors) (x : State) : Type 0 where
   pub least : 0 < w.segments
   pub most : w.segments ≤ MAX_COUNT
@@ -53,8 +53,8 @@ pub record IsDown (actors : Actors) (drives : List Drive) (x : State) : Type 0 w
   pub actors_rest : ActorsRest actors x
   pub drives_down : DrivesDown actors.segments x.history x.writers drives
 
--- while it restarts: the first `synced` devices have no open place, and what was found in the first
--- `read` of them is what they hold
+-- while it restarts: the first `synced` devices have no open place, and each of the first `read`
+-- results is what its device holds
 pub record IsRecovering (actors : Actors) (drives : List Drive) (x : State)
     (synced read : ℕ) : Type 0 where
   pub down : IsDown actors drives x
@@ -78,6 +78,6 @@ pub record NodeStands (w : Node) (x : State) : Type 0 where
   pub drives_n : length w.drives.items ≡ w.actors.segments
   pub at : IsNodeAt w.actors w.drives.items x w.phase
 
--- the node stands for some state
+-- the node represents some state
 abbrev pub NodeStand : Node → Type 0
 NodeStand w = ∥ ((x : State) × NodeStands w x) ∥₁

@@ -22,7 +22,7 @@ use Rattle.snap_world.specs.declared.writer.WriterPhase.TheVariants as writer
 abbrev pub devices_of_node : Node → List Device
 devices_of_node w = map device_of w.drives.items
 
--- the device calls that are left of the store under way on it, or of the next one
+-- the device calls that are left of the current store on it, or of the next one
 abbrev pub store_left : Drive → List NextCall
 store_left d = calls_left d.persist.stage
 
@@ -37,9 +37,9 @@ phases_of_node w = record {
 abbrev pub MayStore : Node → ℕ → Type 0
 MayStore node w = (node.phase ≡ Up) × WriterIs (phases_of_actors node.actors) w writer.Storing
 
--- from each state that the node stood for, the event with its reply is a step to one that it stands
--- for now, and leaves these devices; the reply tells whether the event may come, the phases move by
--- their table, and after `NotNow` nothing has changed
+-- From each state that the node represented, the event with its reply is a step to one that it
+-- represents now, and leaves these devices; the reply says whether the event may come, the phases
+-- move by their table, and after `NotNow` nothing has changed.
 pub record IsNodeStep (old : Node) (event : Event) (reply : Reply) (new : Node) : Type 0 where
   pub segments : new.actors.segments ≡ old.actors.segments
   pub step : (x : State) → NodeStands old x

@@ -1,4 +1,4 @@
--- What a restart found on the devices, and what it makes of it.
+-- The results of a restart's reads, and the registers and persists made of them.
 use Rattle.std.specs.Prelude.{◌≡◌, ℕ, ◌+◌, ◌≤◌, List, length, Some, slice_get}
 use Rattle.snap_slot.specs.declared.layout.TheConstants.{FILE_LEN}
 use Rattle.snap_history.specs.declared.limits.TheConstants.{MAX_VALUE_LEN}
@@ -15,7 +15,7 @@ use Rattle.snap_world.specs.declared.register.Register.{Register}
 abbrev pub found_value : Drive → List ℕ
 found_value d = value_in (device_of d).bytes (slot_of d.found.number) d.found.length
 
--- what was found has the limits of a number and a value
+-- the number and the value that were found are within their limits
 pub record IsReadable (d : Drive) : Type 0 where
   pub size : length (device_of d).bytes ≡ FILE_LEN
   pub number : IsNumber d.found.number
@@ -24,14 +24,14 @@ pub record IsReadable (d : Drive) : Type 0 where
 abbrev pub AllReadable : List Drive → Type 0
 AllReadable drives = (i : ℕ) (d : Drive) → slice_get drives i ≡ Some d → IsReadable d
 
--- the device is as it was, and the persist is that of the store after what was found
+-- the device is unchanged, and the persist is that of the store after the number that was found
 pub record IsResumed (d e : Drive) : Type 0 where
   pub image : e.image ≡ d.image
   pub slot : e.persist.slot ≡ slot_of (d.found.number + 1)
   pub stage : e.persist.stage ≡ first_stage d.found.spare_open
   pub calls : calls_left e.persist.stage ≡ store_calls d.found.spare_open
 
--- the register has what was found
+-- the register has the number and the value that were found
 pub record IsRecovered (d : Drive) (r s : Register) : Type 0 where
   pub number : s.number ≡ d.found.number
   pub value : s.value ≡ found_value d

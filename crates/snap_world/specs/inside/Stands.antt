@@ -1,4 +1,4 @@
--- Which abstract states the actors of a world stand for. They store no history.
+-- The abstract states that the actors of a world represent. They store no history.
 use Rattle.std.specs.Prelude.{◌≡◌, ℕ, ◌+◌, ◌<◌, ◌≤◌, Bool, true, false, List, length}
 use Rattle.snap_history.specs.History.{Update, from_nothing, number_after}
 use Rattle.snap_history.specs.Pairs.{Pairs}
@@ -18,9 +18,9 @@ use Rattle.snap_world.specs.declared.scanner.Scanner.{Scanner}
 use Rattle.snap_world.specs.declared.scanner.ScannerPhase.{ScannerPhase}
 use Rattle.snap_world.specs.declared.scanner.ScannerPhase.TheVariants as scanner
 
--- the writer has begun an update of segment i with its value, and its embedded scan began after the
--- segment's update before. History h is that of the actors, and g the length that it had when the
--- node last began to serve
+-- The writer has begun an update of segment i with its value, and its embedded scan began after the
+-- segment's update before. History h is the actors', and g the length that it had when the node
+-- last began to serve.
 pub record HasBegun (n : ℕ) (h : List Update) (g i : ℕ) (w : Writer)
     (s : WriterState) : Type 0 where
   pub born : g ≤ s.scan.start
@@ -30,7 +30,7 @@ pub record HasBegun (n : ℕ) (h : List Update) (g i : ℕ) (w : Writer)
   pub own : number_at h s.scan.start i ≡ number_after from_nothing h i
   pub gathers : Gathers n (all_of n) h s.scan w.collector
 
--- the scan of this set has its answer: the numbers told decide one, and the collector has it
+-- the scan of this set has its answer: the numbers that it has read decide one, and the collector has it
 pub record HasAnswer (set : ℕ) (h : List Update) (s : ScanState) (c : Collector) : Type 0 where
   pub decided : IsDecided (size set) s.told
   pub answer : IsAnswer set h s (IsSeen set h c.memory.items)
@@ -67,7 +67,7 @@ pub record ScannerStands (n : ℕ) (h : List Update) (g i : ℕ) (c : Scanner)
   pub size : length c.collector.memory.items ≡ n
   pub phase : IsScannerAt n h g c s c.phase
 
--- the actors stand for this state
+-- the actors represent this state
 pub record ActorsStand (w : Actors) (x : State) : Type 0 where
   pub least : 0 < w.segments
   pub most : w.segments ≤ MAX_COUNT
@@ -79,6 +79,6 @@ pub record ActorsStand (w : Actors) (x : State) : Type 0 where
   pub writers : Pairs (WriterStands w.segments x.history since) w.writers.items x.writers
   pub scanners : Pairs (ScannerStands w.segments x.history since) w.scanners.items x.scanners
 
--- the actors stand for some state
+-- the actors represent some state
 abbrev pub Stand : Actors → Type 0
 Stand w = ∥ ((x : State) × ActorsStand w x) ∥₁

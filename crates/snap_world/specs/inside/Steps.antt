@@ -22,21 +22,21 @@ phases_of_actors w = record {
   scanners = map (λ c. c.phase) w.scanners.items;
 }
 
--- the event by which a scanner is asked for this
+-- the event by which a scanner is asked for these segments
 abbrev pub asking : ℕ → Asked → Event
 asking i All = Scan i
 asking i (Only set) = Pick i set
 
--- the reply gives of this memory what was asked for
+-- the reply has, of this memory, the segments that were asked for
 abbrev pub IsReplyOf : Asked → List (List ℕ) → Reply → Type 0
 IsReplyOf All memory (Memory m) = map (λ v. v.items) m.items ≡ memory
 IsReplyOf (Only set) memory (Part m) =
     map pair_of m.items ≡ map (entry_in memory) (named set.bits)
 IsReplyOf asked memory reply = ⊥
 
--- from each state that the actors stood for, the event with its reply is a step to one that they
--- stand for now; the reply tells where the event may come, the phases move by their table, and
--- after `NotNow` nothing has changed
+-- From each state that the actors represented, the event with its reply is a step to one that they
+-- represent now; the reply says whether the event may come, the phases move by their table, and
+-- after `NotNow` nothing has changed.
 pub record IsActorsStep (old : Actors) (event : Event) (reply : Reply) (new : Actors) : Type 0 where
   pub segments : new.segments ≡ old.segments
   pub step : (x : State) → ActorsStand old x → (y : State) × Step old.segments x event reply y

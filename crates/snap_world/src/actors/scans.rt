@@ -1,4 +1,4 @@
-//! What each event of a scanner does.
+//! The events of a scanner.
 ghost use Rattle.std.specs.Prelude.{◌≡◌, ◌<◌, ◌^◌, IfOk, OnErr};
 ghost use Rattle.snap_world.specs.Answers.{set_of};
 ghost use Rattle.snap_world.specs.inside.Stands.{Stand};
@@ -14,7 +14,7 @@ use snap_scan::{Scan, SegmentSet};
 use std::alloc::{AllocError, Global};
 
 impl Actors {
-    /// A scan of all segments begins.
+    /// Begins a scan of all segments.
     pub fn scan(&mut self, at: usize) -> Reply
         requires stands { Stand self.old }
         ensures step { IsActorsStep self.old (Event.Scan at) result self.new }
@@ -22,7 +22,7 @@ impl Actors {
         self.ask(at, Asked::All)
     }
 
-    /// A scan of these segments begins.
+    /// Begins a scan of these segments.
     pub fn pick(&mut self, at: usize, set: SegmentSet) -> Reply
         requires stands { Stand self.old }
         ensures step { IsActorsStep self.old (Event.Pick at set) result self.new }
@@ -33,7 +33,7 @@ impl Actors {
         self.ask(at, Asked::Only(set))
     }
 
-    /// A scan of what is asked for begins, at least one segment, and none that isn't there.
+    /// Begins a scan of the segments that `asked` names, at least one, all of which exist.
     fn ask(&mut self, at: usize, asked: Asked) -> Reply
         requires stands { Stand self.old }
         requires some { 0 < set_of self.old.segments asked }
@@ -50,7 +50,7 @@ impl Actors {
         Reply::ScanBegun
     }
 
-    /// A scan looks once.
+    /// Takes one look of a scan.
     pub fn look_scanner(&mut self, at: usize) -> Reply
         requires stands { Stand self.old }
         ensures step { IsActorsStep self.old (Event.Look (Actor.Scanner at)) result self.new }
@@ -66,7 +66,7 @@ impl Actors {
         Reply::Number(number)
     }
 
-    /// A scan gives its answer. Where memory runs out it keeps it.
+    /// Gives the answer of a scan. If memory runs out the scanner keeps the answer.
     pub fn answer(&mut self, alloc: Global, at: usize) -> Result<Reply, AllocError>
         requires stands { Stand self.old }
         ensures step { IfOk result (λ reply.

@@ -1,4 +1,4 @@
-//! What each event of a writer does.
+//! The events of a writer.
 ghost use Rattle.std.specs.Prelude.{◌≡◌, ◌<◌, ℕ, true, List, slice_get};
 ghost use Rattle.snap_world.specs.Machine.{State, WriterState, Begun, with_writer};
 ghost use Rattle.snap_world.specs.Phases.{WriterIs, writer_to};
@@ -15,7 +15,7 @@ use snap_history::{LAST_NUMBER, MAX_VALUE_LEN};
 use snap_scan::Scan;
 
 impl Actors {
-    /// A writer begins an update.
+    /// Begins an update.
     pub fn begin(&mut self, segment: usize, value: &Vec<u8>) -> Reply
         requires stands { Stand self.old }
         ensures step { IsActorsStep self.old (Event.Begin segment value.now) result self.new }
@@ -33,7 +33,7 @@ impl Actors {
         Reply::Begun
     }
 
-    /// A writer's embedded scan looks once. Once it has its answer, the store is to begin.
+    /// Takes one look of an update's embedded scan. Once that has its answer, the store is next.
     pub fn look_writer(&mut self, segment: usize) -> Reply
         requires stands { Stand self.old }
         ensures step { IsActorsStep self.old (Event.Look (Actor.Writer segment)) result self.new }
@@ -49,8 +49,7 @@ impl Actors {
         Reply::Number(number)
     }
 
-    /// A writer publishes its update: the next number, its value, and the answer of the embedded
-    /// scan.
+    /// Publishes an update: the next number, its value, and the answer of the embedded scan.
     pub fn show(&mut self, segment: usize) -> Reply
         requires stands { Stand self.old }
         ensures step { IsActorsStep self.old (Event.Show segment) result self.new }
@@ -67,7 +66,7 @@ impl Actors {
         Reply::Shown
     }
 
-    /// A writer's update is acknowledged.
+    /// Acknowledges an update.
     pub fn acknowledge(&mut self, segment: usize) -> Reply
         requires stands { Stand self.old }
         ensures step { IsActorsStep self.old (Event.Acknowledge segment) result self.new }
@@ -79,7 +78,7 @@ impl Actors {
         Reply::Stored(self.registers[segment].number)
     }
 
-    /// The last device call of a writer's store has succeeded.
+    /// Notes that the last device call of a writer's store has succeeded.
     pub fn end_store(&mut self, segment: usize)
         requires stands { Stand self.old }
         requires within { segment < self.old.segments }
@@ -94,7 +93,7 @@ impl Actors {
         self.writers[segment].phase = WriterPhase::Stored;
     }
 
-    /// A device call of a writer's store has failed.
+    /// Notes that a device call of a writer's store has failed.
     pub fn fence(&mut self, segment: usize)
         requires stands { Stand self.old }
         requires within { segment < self.old.segments }

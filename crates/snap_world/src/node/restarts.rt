@@ -15,8 +15,7 @@ use snap_disk::Fill;
 use std::alloc::{AllocError, Global};
 
 impl Node {
-    /// Each device crashes with its fill, of which there has to be one for each. Nobody is at work
-    /// any more.
+    /// Crashes each device with its fill, of which there has to be one for each. All actors are idle then.
     pub fn crash(&mut self, fills: &Vec<Fill>) -> Reply
         requires stands { NodeStand self.old }
         ensures step { IsNodeStep self.old (Event.Crash fills.now) result self.new }
@@ -30,7 +29,7 @@ impl Node {
         Reply::Crashed
     }
 
-    /// A restart begins.
+    /// Begins a restart.
     pub fn restart(&mut self) -> Reply
         requires stands { NodeStand self.old }
         ensures step { IsNodeStep self.old Event.Restart result self.new }
@@ -47,7 +46,8 @@ impl Node {
         }
     }
 
-    /// The next call of a restart succeeds: of each segment a sync, and then the read of its file.
+    /// Makes the next call of a restart, which succeeds: for each segment a sync, and then the read
+    /// of its file.
     pub fn restart_call(&mut self) -> Reply
         requires stands { NodeStand self.old }
         ensures step { IsNodeStep self.old Event.RestartCall result self.new }
@@ -73,7 +73,7 @@ impl Node {
         }
     }
 
-    /// The next call of a restart fails, and the node is down again.
+    /// Makes the next call of a restart, which fails: the node is down again.
     pub fn restart_fail(&mut self, fill: &Fill) -> Reply
         requires stands { NodeStand self.old }
         ensures step { IsNodeStep self.old (Event.RestartFail fill.now) result self.new }
@@ -93,7 +93,7 @@ impl Node {
         }
     }
 
-    /// The restart ends: what it found is served. Where memory runs out nothing has changed.
+    /// Ends the restart: what it found is served. If memory runs out nothing has changed.
     pub fn serve(&mut self, alloc: Global) -> Result<Reply, AllocError>
         requires stands { NodeStand self.old }
         ensures step { IfOk result (λ reply. IsNodeStep self.old Event.Serve reply self.new) }
@@ -128,7 +128,7 @@ fn after_read(segments: usize, segment: usize) -> NodePhase
     }
 }
 
-/// Each register gets what the last restart found for its segment.
+/// Puts into each register what the last restart found for its segment.
 fn recover_all(registers: &mut Vec<Register>, drives: &Vec<Drive>)
     requires size { length registers.old.items ≡ length drives.now.items }
     requires readable { ∥ AllReadable drives.now.items ∥₁ }

@@ -13,8 +13,8 @@ use snap_persist::{NextCall, Persist};
 use snap_slot::slot_of;
 
 impl Node {
-    /// A device call of a store succeeds. After the last one the update is stored, and the next
-    /// store finds its spare gate open.
+    /// Makes a device call of a store, which succeeds. After the last one the update is stored, and
+    /// the next store finds its spare gate open.
     pub fn call(&mut self, segment: usize) -> Reply
         requires stands { NodeStand self.old }
         ensures step { IsNodeStep self.old (Event.Call segment) result self.new }
@@ -35,7 +35,7 @@ impl Node {
         }
     }
 
-    /// A device call of a store fails: its segment is fenced.
+    /// Makes a device call of a store, which fails: the segment is fenced.
     pub fn fail(&mut self, segment: usize, fill: &Fill) -> Reply
         requires stands { NodeStand self.old }
         ensures step { IsNodeStep self.old (Event.Fail segment fill.now) result self.new }

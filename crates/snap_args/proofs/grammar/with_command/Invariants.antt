@@ -4,7 +4,8 @@ use Rattle.clap.specs.declared.builder.Command.TheViews.{out-Command}
 use Rattle.snap_args.specs.Tables.{app_with}
 use Rattle.snap_args.proofs.grammar.with_command.Given as goal
 
--- What is left of the words makes of the command what all of them make of a new one. The program is as it was.
+-- The command so far, with the remaining arguments, is a new one with all arguments. The program is
+-- unchanged.
 abbrev pub invariant-loop-word : goal.invariant-loop-word
 invariant-loop-word l = record {
   words : app_with (app_of l.command) (drop l.word-index l.words) ≡ app_with (new_app l.fn.name) l.fn.words;

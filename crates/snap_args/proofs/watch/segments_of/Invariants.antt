@@ -3,7 +3,7 @@ use Rattle.snap_order.specs.Limits.{MAX_COUNT}
 use Rattle.snap_args.specs.Numbers.{IsNumberOf}
 use Rattle.snap_args.proofs.watch.segments_of.Given as goal
 
--- the words so far are the segments so far
+-- the segments so far are the numbers of the arguments so far
 abbrev pub invariant-loop-word : goal.invariant-loop-word
 invariant-loop-word l = (length l.segments.items ≡ l.word-index) × All (λ s. s < MAX_COUNT) l.segments.items
     × ((k : ℕ) → k < l.word-index

@@ -9,13 +9,13 @@ use Rattle.snap_args.proofs.Asked.{by_words, named, word_is, words_are}
 use Rattle.snap_args.proofs.Faulted.{serve_fault, serve_folder_fault}
 use Rattle.snap_args.proofs.words.server_order.Goals as goal
 
--- a server that was found is that of the command's words
+-- the server that the parser found is that of the command's arguments
 service_is : {words : List Text} {name : Text} {found : Found} → HasCommand words name found
     → (s : Serving) → IsServiceOf (first_value found) (all_values found) s
     → IsServiceOf (word_of words) (words_of words) s
 service_is its s is = by_words its (λ of all. IsServiceOf of all s) is
 
--- a word that is there
+-- an argument that was given isn't missing
 some_word : {x : Text} {o : Option Text} → Some x ≡ o → o ≡ None → ⊥
 some_word some none = absurd (grind arith)
 

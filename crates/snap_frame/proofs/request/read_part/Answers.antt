@@ -12,7 +12,7 @@ kind x = slice_index x 0
 abbrev behind : List ℕ → List ℕ
 behind x = take (length x - 1) (drop 1 x)
 
--- a payload of this kind with an empty set asks nothing
+-- a payload of this kind with an empty set is no request
 asks_nothing : (x rest : List ℕ) (r : Request) → kind x ≡ 4 → behind x ≡ to_be_bytes w16 0 ++ rest
     → Asks x r → ⊥
 asks_nothing x rest (Update segment number value) is none asks =

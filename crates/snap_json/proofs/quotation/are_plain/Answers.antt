@@ -3,7 +3,7 @@ use Rattle.std.proofs.lemmas.List.{at_drop_all, at_drop_more}
 use Rattle.snap_json.specs.Quotation.{are_plain, is_plain}
 use Rattle.snap_json.proofs.quotation.are_plain.Goals as goal
 
--- the bytes from a place on are plain where the one there is, and those behind it
+-- the bytes from a place on are plain if the one there is, and those after it
 one_more : (bytes : List ℕ) (i : ℕ) (behind is : Bool) → i < length bytes
     → is_plain behind (get_or bytes i 0) ≡ is → are_plain behind (drop i bytes)
     ≡ is && are_plain (nat_eq (get_or bytes i 0) 194) (drop (i + 1) bytes)

@@ -9,7 +9,7 @@ returns-in-Err-listen g c = record {
       c.in-Err-listen.ensures.failed;
 }
 
--- it said that it listens, and served
+-- it printed that it listens, and served
 listens : (g : _) (c : After-print_served g)
     → IsListening (site_at g.B.Bind g.B.Listener.Locate g.B.Listener.Listen
     c.args.edge.bind.now (addresses_of c.args.order.now)) c.in-Ok-listen.listening.0

@@ -19,7 +19,7 @@ use Rattle.snap_session.proofs.TurnRuns.{or_new}
 use Rattle.snap_session.proofs.turns.proceed.Goals as goal
 use Rattle.snap_session.proofs.turns.proceed.Goals.{After-send_owed, After-answer, After-read}
 
--- it stands when a read gives nothing
+-- it still holds after a read that gave nothing
 stood_reads : {S : Type 0} {gives : S → Request → Reply → S → Type 0} {hands_over one : Type 0}
     {more : ℕ} {s t : S} {old new : Talk} {r0 r1 r2 w0 w1 : Option (List ℕ)}
     → Stood gives hands_over one more s t old new r0 r1 w0 w1 → Consumes r1 r2 []
@@ -32,7 +32,7 @@ stood_reads {gives = gives} stood read = record {
   held = stood.held;
 }
 
--- what a turn that ends so keeps of what stands
+-- the clauses of a turn that ends so
 ends : {S : Type 0} {gives : S → Request → Reply → S → Type 0} {hands_over one : Type 0}
     {more : ℕ} {s t : S} {old new : Talk} {r0 r1 w0 w1 : Option (List ℕ)}
     → Stood gives hands_over one more s t old new r0 r1 w0 w1 → (turn : Turn)
@@ -58,7 +58,7 @@ ends {new = new} {r1 = r1} stood turn rounds stands = record {
   rounds = rounds;
 }
 
--- what stands once the bytes that are owed are written
+-- `Stood` after the bytes that are owed are written
 sent_on : (g : _) (c : After-send_owed g) → Stood g.S.Service.gives g.S.Service.hands_over
     (g.S.Service.hands_over_under c.args.key) (length c.args.piece.now) c.args.service.now
     c.loop.service c.args.session.now
@@ -68,7 +68,7 @@ sent_on : (g : _) (c : After-send_owed g) → Stood g.S.Service.gives g.S.Servic
 sent_on g c = stood_sent g.S.Service.gives _ _ _ _ _ _ _ _ _ _ _ _ _ c.loop.invariant.stood
     c.send_owed.ensures.sends
 
--- and once frames are answered: no request is handed over behind that, or one that may be
+-- `Stood` after frames are answered: no request is handed over then, or one that may be
 answered_on : (g : _) (c : After-answer g) → (c.answer.new.self.asked ≡ None)
     ⊎ (c.send_owed.new.session.asked ≡ None
     → g.S.Service.hands_over × g.S.Service.hands_over_under c.args.key)
@@ -97,7 +97,7 @@ answered_on g c asked = record {
       (holds_sent _ _ _ _ _ c.send_owed.ensures.sends (c.loop.invariant.stood.held small));
 }
 
--- the rounds, where the last one ends behind the write
+-- the rounds, if the last one ends after the write
 few_sent : (g : _) (c : After-send_owed g) → FewRounds g.S.Service.gives (length c.args.piece.now)
     (scene c.args.service.now c.args.session.now (g.R.Read.remaining c.args.reader.now)
     (g.W.Write.contents c.args.writer.now))
@@ -107,7 +107,7 @@ few_sent g c = and_last g.S.Service.gives _ c.loop.counter _ _ _ (omega arith)
     c.loop.invariant.rounds
     (only_sends g.S.Service.gives _ _ _ _ _ _ _ c.send_owed.ensures.sends)
 
--- and where it ends behind a read that gave nothing
+-- the rounds, if the last one ends after a read that gave nothing
 few_read : (g : _) (c : After-answer g) (left : Option (List ℕ))
     → Consumes (g.R.Read.remaining c.loop.reader) left []
     → FewRounds g.S.Service.gives (length c.args.piece.now)
@@ -120,7 +120,7 @@ few_read g c left read = and_last g.S.Service.gives _ c.loop.counter _ _ _ (omeg
     (reads_nothing g.S.Service.gives _ _ _ _ _ _ _ _ _ _ c.send_owed.ensures.sends
     c.answer.ensures.few read)
 
--- a round that got on, in which frames were answered and nothing was read
+-- a round with progress, in which frames were answered and nothing was read
 goes_on : (g : _) (c : After-answer g) → (c.answer.new.self.asked ≡ None)
     ⊎ (c.send_owed.new.session.asked ≡ None
     → g.S.Service.hands_over × g.S.Service.hands_over_under c.args.key)
@@ -144,7 +144,7 @@ goes_on g c asked some = record {
       c.answer.ensures.few (c.send_owed.ensures.all.0 c.in-All.is) some);
 }
 
--- nothing more is owed where a read is tried
+-- nothing more is owed when a read is tried
 all_said : (g : _) (c : After-read g) → AllSaid c.answer.new.self
 all_said g c = (
   c.in-Bytes.ensures.wants.0,

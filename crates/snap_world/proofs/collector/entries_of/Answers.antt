@@ -10,7 +10,7 @@ use Rattle.snap_world.specs.declared.event.PartEntry.{PartEntry}
 use Rattle.snap_world.proofs.collector.entries_of.Goals.{then-has+in_ok-value+in_ok-push, else-has}
 use Rattle.snap_world.proofs.collector.entries_of.Goals as goal
 
--- one entry more
+-- one more entry
 abbrev behind : List (ℕ × List ℕ) → ℕ → List ℕ → List (ℕ × List ℕ)
 behind entries i value = entries ++ (i, value) ∷ []
 

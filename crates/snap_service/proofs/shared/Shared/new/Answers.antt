@@ -5,7 +5,7 @@ use Rattle.snap_history.proofs.Removals.{Taken, taken}
 use Rattle.snap_service.proofs.shared.Shared.new.Goals as goal
 use Rattle.snap_service.proofs.shared.Shared.new.Goals.{In-Some}
 
--- the writer that is taken next is that of the next segment
+-- the next writer that is taken is of the next segment
 next_of : (g : _) (c : In-Some g) → Taken (length c.writers.locks.items) c.args.writers.items
     c.in-Some.writer (into_iter_items c.next.new.self)
 next_of g c = taken _ _ _ _ _ c.writers.invariant.rest c.in-Some.ensures.steps.0

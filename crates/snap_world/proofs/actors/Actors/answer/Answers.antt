@@ -15,7 +15,7 @@ on_err : {T E P : Type 0} (r : Result T E) → P → OnErr r P
 on_err (Ok v) p = tt
 on_err (Err e) p = p
 
--- the scanner that was read is at its answer
+-- the scanner that was read has its answer
 pub reply-requires : goal.reply-requires
 reply-requires c = record {
   within = λ set only place i at. ∥∥₁_elim c.requires.stands (hlevel props) (λ q. (

@@ -5,7 +5,7 @@ use Rattle.snap_world.specs.Surface.{IsRun, phases_of}
 use Rattle.snap_world.proofs.Runs.{IsRun-append, IsRun-grows, IsRun-same, take-event}
 use Rattle.snap_world.proofs.world.World.run.Goals as goal
 
--- an answer found no memory: the world stands before its event
+-- memory ran out for an answer: the world is as it was before its event
 pub returns-in-Err-clause-stopped : goal.returns-in-Err-clause-stopped
 returns-in-Err-clause-stopped c = (
   omega arith,
