@@ -64,7 +64,7 @@ PrintsInPlace how text ended out out' errs errs' =
     IsPrinted how text ended out out' errs errs' ⊎ IsCutShort text ended out out' errs errs'
 
 -- a text of the reply was printed or cut short, or memory ran out before the first byte
-abbrev pub Prints : (how : Status) → Layout → Reply → Exit → (out out' errs errs' : Option (List ℕ)) → Type 0
+unfoldable pub Prints : (how : Status) → Layout → Reply → Exit → (out out' errs errs' : Option (List ℕ)) → Type 0
 Prints how layout reply ended out out' errs errs' =
     ((text : List ℕ) × Shows layout reply text × PrintsInPlace how text ended out out' errs errs')
     ⊎ (WantsMemory ended errs errs' × Keeps out out')

@@ -303,6 +303,7 @@ fn say_stored<W: Write, E: Write>(
 }
 
 /// Prints the reply to a read.
+#[tactic(auto, unfolding(crate::specs::Ends::Prints))]
 fn print<W: Write, E: Write>(
     alloc: Global,
     question: &Question,
