@@ -9,7 +9,7 @@ import socket
 
 from clients import Peer
 from preload import library
-from serving import SCAN, STATUS, received, refused, snapshot, standings
+from serving import SCAN, STATUS, Server, fresh, received, refused, snapshot, standings, stored, update
 from terminal import Terminal
 from test_call_replies import named
 from test_http import part
@@ -132,12 +132,13 @@ AGES = [(0, r"\ds"), (50, r"5\ds"), (60, "1m"), (3_550, "59m"), (3_600, "1h"), (
 
 
 def test_an_age_is_in_the_unit_that_fits_it(snapd, _):
-    """A look that the clock leaps in is late, and the next one isn't."""
-    ahead, changed = snapd.file("ahead"), standings((1, True))
+    """A poll in which the clock leaps is late. Then the next one connects again."""
+    ahead = snapd.file("ahead")
     ahead.touch()
     env = {"NO_COLOR": "1", "LD_PRELOAD": library("clock"), "CLOCK_AHEAD": str(ahead)}
-    peer = Peer(*[at_last(standings((0, False)), snapshot((0, b"")), changed, snapshot((1, b"a")), still=changed), *[at_last(changed, snapshot((1, b"a")), still=changed)] * 8])
-    with peer, Terminal() as terminal, Watch(snapd, peer.address, output=terminal.side, env=env):
+    with Server(snapd, *fresh(snapd, 1)) as server, Terminal() as terminal, Watch(snapd, server.address, output=terminal.side, env=env):
+        assert terminal.board()[2].split()[2] == "-"
+        server.ask(update(0, 1, b"a"), stored(1))
         for seconds, age in AGES:
             os.truncate(ahead, seconds)
             terminal.comes_to(lambda it: re.fullmatch(age, it[2].split()[2]))
