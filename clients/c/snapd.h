@@ -22,6 +22,8 @@
  *
  * One thread at a time uses a client, and snapd_close is such a use. A process that is forked off makes a connection of its own,
  * and a program that is executed inherits none. Signals shorten no call and no rest, and it never raises SIGPIPE.
+ *
+ * Its licence is the file LICENSE of the snapd repository. Where there is none, all rights are reserved.
  */
 #ifndef SNAPD_H
 #define SNAPD_H
@@ -45,6 +47,9 @@
 #ifdef __cplusplus
 extern "C" {
 #endif
+
+/* The version of this header. A server of any version answers it. */
+#define SNAPD_VERSION "0.2.0"
 
 enum {
     SNAPD_MAX_SEGMENTS = 16,

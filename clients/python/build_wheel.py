@@ -35,6 +35,9 @@ def _described():
     ]
     wheel = ["Wheel-Version: 1.0", "Generator: build_wheel", "Root-Is-Purelib: true", f"Tag: {TAG}", ""]
     texts = {"METADATA": "\n".join(metadata), "WHEEL": "\n".join(wheel)}
+    licence = HERE.parent.parent / "LICENSE"
+    if licence.exists():
+        texts["LICENSE"] = licence.read_text(encoding="utf-8")
     return folder, {f"{folder}/{name}": text.encode() for name, text in texts.items()}
 
 
