@@ -49,8 +49,26 @@ bench:
 	python3 bench/server.py
 	python3 bench/seen.py
 
+# The client in C as libraries, and the one in Python as a wheel and an sdist. A change of a call or of the layout of
+# snapd_client gets the next SONAME.
+CLIENTS ?= out
+CFLAGS ?= -O2
+SONAME = libsnapd.so.0
+
+.PHONY: clients install-clients
+clients:
+	@sh verification/needs.sh python3
+	mkdir -p '$(CLIENTS)'
+	$(CC) $(CFLAGS) -std=c99 -fPIC -c -o '$(CLIENTS)/snapd.o' clients/c/snapd.c
+	$(CC) $(LDFLAGS) -shared -Wl,-soname,$(SONAME) -Wl,--version-script=clients/c/snapd.map \
+	    -o '$(CLIENTS)/$(SONAME)' '$(CLIENTS)/snapd.o'
+	ln -sf $(SONAME) '$(CLIENTS)/libsnapd.so'
+	$(AR) rcs '$(CLIENTS)/libsnapd.a' '$(CLIENTS)/snapd.o'
+	python3 clients/python/build_wheel.py '$(CLIENTS)'
+
 # Installs bin/snapd as `make prove` or `make demo` left it, its page of the manual, what completes its words in three shells, and the
-# headers for C. All go below DESTDIR with PREFIX, as packages want it.
+# headers for C, with the libraries if `make clients` has built them. All go below DESTDIR with PREFIX, as packages want
+# it.
 PREFIX ?= /usr/local
 DESTDIR ?=
 PROGRAM ?= bin/snapd
@@ -69,9 +87,20 @@ install:
 	install -m 644 packaging/completions/snapd.bash '$(TO)/share/bash-completion/completions/snapd'
 	install -m 644 packaging/completions/_snapd '$(TO)/share/zsh/site-functions'
 	install -m 644 packaging/completions/snapd.fish '$(TO)/share/fish/vendor_completions.d'
+	@test ! -e '$(CLIENTS)/$(SONAME)' || $(MAKE) --no-print-directory install-clients
+
+LIBRARIES = lib/$(SONAME) lib/libsnapd.so lib/libsnapd.a lib/pkgconfig/snapd.pc
+
+install-clients:
+	install -d '$(TO)/lib/pkgconfig'
+	install -m 644 '$(CLIENTS)/$(SONAME)' '$(CLIENTS)/libsnapd.a' '$(TO)/lib'
+	ln -sf $(SONAME) '$(TO)/lib/libsnapd.so'
+	version=$$(sed -n 's/.*SNAPD_VERSION "\(.*\)"/\1/p' clients/c/snapd.h) && \
+	sed 's|@PREFIX@|$(PREFIX)|;s|@VERSION@|'"$$version"'|' clients/c/snapd.pc.in > '$(CLIENTS)/snapd.pc'
+	install -m 644 '$(CLIENTS)/snapd.pc' '$(TO)/lib/pkgconfig'
 
 uninstall:
-	rm -f $(FILES:%='$(TO)/%')
+	rm -f $(FILES:%='$(TO)/%') $(LIBRARIES:%='$(TO)/%')
 
 # Fails hosts under a server whose files have three copies, 50 times in each of four ways, for half an hour. It wants bin/snapd, root,
 # FUSE and some packages of Debian's, says so in one line where something is missing, and is no part of `make test`.

@@ -275,7 +275,7 @@ def test_words_that_no_message_can_say(_, __):
                   lambda: Client("a:1", timeout=0), lambda: Client("a:1", tries=0), lambda: Client("a:99999"),
                   lambda: Client("a:0"), lambda: Client(("a", 65_536)), lambda: Client(("a", "b"))):
         assert isinstance(raised(call_), ValueError)
-    assert ask("127.0.0.1:0", "scan")[0] == 2 and ask("localhost:1", "scan")[0] == 2
+    assert ask("127.0.0.1:0", "scan") == ask(":1", "scan") == ask("localhost:65536", "scan") == (2, "", "bad call\n")
     assert ask("127.0.0.1:1", "update", 256, 1, "") == (2, "", "bad call\n")
     for mask in ("0", "0000", "10000", "10001"):
         assert ask("127.0.0.1:1", "part", mask) == (2, "", "bad call\n")

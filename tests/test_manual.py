@@ -215,7 +215,7 @@ def test_each_shell_knows_each_command_and_option(snapd, _):
 
 def test_installed_and_removed(snapd, _):
     make, folder = wanted("make"), snapd.file("staged").resolve()
-    place = ["PREFIX=/usr", f"DESTDIR={folder}", f"PROGRAM={snapd.path}"]
+    place = ["PREFIX=/usr", f"DESTDIR={folder}", f"PROGRAM={snapd.path}", "CLIENTS=no/such"]
     assert ran(make, "install", *place) == (0, "")
     files = {
         "bin/snapd": pathlib.Path(snapd.path).read_bytes(),
