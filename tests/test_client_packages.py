@@ -17,10 +17,10 @@ FOLDER = TOP / "clients" / "python"
 SOURCES = sorted(f"snapd_client/{it.name}" for it in (FOLDER / "snapd_client").glob("*.[pt]y*") if it.is_file())
 
 
-def built(folder):
-    """The wheel and the sdist that the script writes into a folder."""
+def built(folder, source=FOLDER):
+    """The wheel and the sdist that the script of this source writes into a folder."""
     folder.mkdir()
-    run = subprocess.run([sys.executable, FOLDER / "build_wheel.py", folder], capture_output=True, text=True)
+    run = subprocess.run([sys.executable, source / "build_wheel.py", folder], capture_output=True, text=True)
     assert (run.returncode, run.stderr) == (0, ""), run
     names = run.stdout.split()
     assert sorted(names) == sorted(it.name for it in folder.iterdir()) and len(names) == 2
@@ -33,43 +33,49 @@ def clean():
     return {**plain, "PIP_NO_INDEX": "1"}
 
 
+def ran(folder, *words):
+    """What a program of the environment prints."""
+    words = [folder / "environment" / "bin" / words[0], *words[1:]]
+    run = subprocess.run(words, env=clean(), cwd=folder, capture_output=True, text=True)
+    assert run.returncode == 0, run
+    return run.stdout
+
+
 def installs(folder, package):
-    """Installs a package into a fresh environment, and returns what it says of its version."""
-    room = folder / "environment"
-    made = subprocess.run([sys.executable, "-m", "venv", "--clear", room], capture_output=True, text=True)
-    if made.returncode:
-        raise Skipped(f"no virtual environment can be made here: {(made.stdout + made.stderr).strip()[-200:]}")
+    """Installs a package into the environment, and returns what it says of its version there."""
+    ran(folder, "pip", "install", package)
     says = "import snapd_client; print(snapd_client.__file__, snapd_client.__version__)"
-    for words in (["pip", "install", package], ["python", "-c", says]):
-        words[0] = room / "bin" / words[0]
-        run = subprocess.run(words, env=clean(), cwd=folder, capture_output=True, text=True)
-        assert run.returncode == 0, run
-    path, version = run.stdout.split()
-    assert pathlib.Path(path).is_relative_to(room) and (pathlib.Path(path).parent / "py.typed").exists()
+    path, version = ran(folder, "python", "-c", says).split()
+    assert pathlib.Path(path).is_relative_to(folder) and (pathlib.Path(path).parent / "py.typed").exists()
+    ran(folder, "pip", "uninstall", "--yes", "snapd_client")
     return version
 
 
 def test_pip_installs_the_python_client_without_a_network_and_leaves_its_folder_as_it_is(snapd, _):
+    made = subprocess.run([sys.executable, "-m", "venv", snapd.folder / "environment"], capture_output=True, text=True)
+    if made.returncode:
+        raise Skipped(f"no virtual environment can be made here: {(made.stdout + made.stderr).strip()[-200:]}")
     before = sorted(FOLDER.rglob("*"))
     version = installs(snapd.folder, FOLDER)
     assert sorted(FOLDER.rglob("*")) == before
     assert f'version = "{version}"' in (FOLDER / "pyproject.toml").read_text()
-
-
-def test_pip_installs_the_sdist_without_a_network(snapd, _):
-    _, sdist = built(snapd.folder / "packages")
-    assert sdist.name == f"snapd_client-{installs(snapd.folder, sdist)}.tar.gz"
+    for package in built(snapd.folder / "packages"):
+        assert package.name.startswith(f"snapd_client-{version}") and installs(snapd.folder, package) == version
 
 
 def test_packages_are_the_same_bytes_each_time(snapd, _):
-    first = [it.read_bytes() for it in built(snapd.folder / "first")]
-    # Beyond the steps of a zip's clock, under other rights for what is made.
+    """Also those that are built from the sdist, later, and under other rights for what is made."""
+    first = built(snapd.folder / "first")
+    with tarfile.open(first[1]) as archive:
+        archive.extractall(snapd.folder)
+    # Beyond the steps of a zip's clock.
     time.sleep(2.1)
     mask = os.umask(0o077)
     try:
-        assert [it.read_bytes() for it in built(snapd.folder / "second")] == first
+        second = built(snapd.folder / "second", snapd.folder / first[1].name.removesuffix(".tar.gz"))
     finally:
         os.umask(mask)
+    assert [it.read_bytes() for it in second] == [it.read_bytes() for it in first]
 
 
 def test_the_wheel_and_the_sdist_hold_the_package(snapd, _):
