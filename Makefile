@@ -67,8 +67,7 @@ clients:
 	python3 clients/python/build_wheel.py '$(CLIENTS)'
 
 # Installs bin/snapd as `make prove` or `make demo` left it, its page of the manual, what completes its words in three shells, and the
-# headers for C, with the libraries if `make clients` has built them. All go below DESTDIR with PREFIX, as packages want
-# it.
+# headers for C, with the libraries if they were built. All go below DESTDIR with PREFIX, as packages want it.
 PREFIX ?= /usr/local
 DESTDIR ?=
 PROGRAM ?= bin/snapd
