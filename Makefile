@@ -1,7 +1,7 @@
 # For a stranger: `make demo` builds the program in minutes and runs its first job, `make test` runs every test, `make prove` proves
 # everything. They want the kit (`rt` on the PATH), python3 and gcc.
 
-.PHONY: demo build prove test edits libraries programs tests bench replicated install uninstall clean
+.PHONY: demo build prove test edits libraries programs tests bench replicated install uninstall deb dist clean
 
 # The program without its proofs, as bin/snapd.
 demo:
@@ -33,10 +33,10 @@ libraries:
 	@sh verification/needs.sh rt python3
 	@python3 verification/libraries.py
 
-# The programs that the end-to-end tests run beside snapd, without their proofs, and these tests alone, on bin/snapd.
+# The program that the end-to-end tests run beside snapd, without its proofs, and these tests alone, on bin/snapd.
 programs:
 	@sh verification/needs.sh rt python3
-	@python3 verification/quick.py --level 0 try_faults try_bench
+	@python3 verification/quick.py --level 0 try_parts
 
 tests: programs
 	python3 tests/run.py
@@ -44,7 +44,7 @@ tests: programs
 # What is timed has no checks in it, so it is proved.
 bench:
 	@sh verification/needs.sh rt python3 gcc
-	python3 verification/prove.py snapd try_faults try_bench
+	python3 verification/prove.py snapd try_parts
 	python3 bench/run.py
 	python3 bench/server.py
 	python3 bench/seen.py
@@ -66,26 +66,31 @@ clients:
 	$(AR) rcs '$(CLIENTS)/libsnapd.a' '$(CLIENTS)/snapd.o'
 	python3 clients/python/build_wheel.py '$(CLIENTS)'
 
-# Installs bin/snapd as `make prove` or `make demo` left it, its page of the manual, what completes its words in three shells, and the
-# headers for C, with the libraries if they were built. All go below DESTDIR with PREFIX, as packages want it.
+# Installs bin/snapd as `make prove` or `make build` left it, its page of the manual, completions, headers for C with the
+# libraries if they were built, the unit with its user and folder, and the documents. All go below DESTDIR with PREFIX, as
+# packages want it. Nothing is started.
 PREFIX ?= /usr/local
 DESTDIR ?=
 PROGRAM ?= bin/snapd
 TO = $(DESTDIR)$(PREFIX)
-FOLDERS = bin include share/man/man1 share/bash-completion/completions share/zsh/site-functions share/fish/vendor_completions.d
-HEADERS = snapd.h snapd_segment.h
-FILES = bin/snapd $(HEADERS:%=include/%) share/man/man1/snapd.1 share/bash-completion/completions/snapd share/zsh/site-functions/_snapd \
-	share/fish/vendor_completions.d/snapd.fish
+UNIT = lib/systemd/system/snapd-board@.service
+DOCUMENTS = LICENSE README.md CHANGELOG.md SECURITY.md docs/*.md docs/board.png packaging/NOTICES \
+	$(foreach it,systemd/socket.conf prometheus/* grafana/* kubernetes/*,packaging/$(it))
+# Each file as it lies here and as it lies below PREFIX.
+FILES = $(foreach it,snapd.h snapd_segment.h,clients/c/$(it):include/$(it)) \
+	packaging/snapd.1:share/man/man1/snapd.1 \
+	packaging/completions/snapd.bash:share/bash-completion/completions/snapd \
+	packaging/completions/_snapd:share/zsh/site-functions/_snapd \
+	packaging/completions/snapd.fish:share/fish/vendor_completions.d/snapd.fish \
+	$(foreach it,sysusers.d tmpfiles.d,packaging/$(it)/snapd-board.conf:lib/$(it)/snapd-board.conf) \
+	$(foreach it,$(wildcard $(DOCUMENTS)),$(it):share/doc/snapd-board/$(it))
 
 install:
 	@test -x '$(PROGRAM)' || { echo 'there is no $(PROGRAM): run make build first' >&2; exit 1; }
-	install -d $(FOLDERS:%='$(TO)/%')
-	install -m 755 '$(PROGRAM)' '$(TO)/bin/snapd'
-	install -m 644 $(HEADERS:%=clients/c/%) '$(TO)/include'
-	install -m 644 packaging/snapd.1 '$(TO)/share/man/man1'
-	install -m 644 packaging/completions/snapd.bash '$(TO)/share/bash-completion/completions/snapd'
-	install -m 644 packaging/completions/_snapd '$(TO)/share/zsh/site-functions'
-	install -m 644 packaging/completions/snapd.fish '$(TO)/share/fish/vendor_completions.d'
+	install -D -m 755 '$(PROGRAM)' '$(TO)/bin/snapd'
+	@set -e; for it in $(FILES); do install -D -m 644 "$${it%%:*}" '$(TO)'/"$${it#*:}"; done
+	install -D -m 644 'packaging/systemd/snapd-board@.service' '$(TO)/$(UNIT)'
+	sed -i 's|/usr/local/bin/|$(PREFIX)/bin/|' '$(TO)/$(UNIT)'
 	@test ! -e '$(CLIENTS)/$(SONAME)' || $(MAKE) --no-print-directory install-clients
 
 LIBRARIES = lib/$(SONAME) lib/libsnapd.so lib/libsnapd.a lib/pkgconfig/snapd.pc
@@ -99,7 +104,17 @@ install-clients:
 	install -m 644 '$(CLIENTS)/snapd.pc' '$(TO)/lib/pkgconfig'
 
 uninstall:
-	rm -f $(FILES:%='$(TO)/%') $(LIBRARIES:%='$(TO)/%')
+	@for it in $(FILES) $(LIBRARIES:%=:%) :$(UNIT) :bin/snapd; do rm -f '$(TO)'/"$${it#*:}"; done
+	rm -rf '$(TO)/share/doc/snapd-board'
+
+# A package for Debian, and a tarball with a digest of each file and what it was made of, both in out/, of bin/snapd.
+deb:
+	@sh verification/needs.sh rt python3 dpkg-deb
+	@python3 packaging/deb.py
+
+dist:
+	@sh verification/needs.sh rt python3
+	@python3 packaging/dist.py
 
 # Fails hosts under a server whose files have three copies, 50 times in each of four ways, for half an hour. It wants bin/snapd, root,
 # FUSE and some packages of Debian's, says so in one line where something is missing, and is no part of `make test`.

@@ -3,7 +3,9 @@
 import json
 
 import segment_file as layout
+from segment_file import body_at, gate_at
 from serving import segments
+from test_damage import WHOLE, changed
 
 
 def line_of_slot(slot):
@@ -40,12 +42,36 @@ def agree(snapd, data):
     return lines.status
 
 
+def shown(*slots, answer, index=0, count=1):
+    """The document of a file whose header is open, by its slots' members from `state` on."""
+    slots = ",".join(f'{{"slot":{number},"state":{slot}}}' for number, slot in enumerate(slots))
+    return f'{{"header":"open","index":{index},"count":{count},"slots":[{slots}],"answer":{answer}}}\n'
+
+
+def bad(why):
+    return f'"bad","flaw":"{why}"'
+
+
+OPEN_3, OPEN_4, CLOSED = '"open","number":3,"length":5', '"open","number":4,"length":4', '"closed"'
+# Bytes that are put into a file whose slot 0 holds number 3, and slot 1 number 4; the status, and the document.
+ROWS = [
+    ([], 0, shown(OPEN_3, OPEN_4, CLOSED, answer=4)),
+    ([(8, b"\2\5")], 0, shown(OPEN_3, OPEN_4, CLOSED, answer=4, index=2, count=5)),
+    ([(gate_at(0) + 1, b"\1")], 3, shown(bad("gate"), OPEN_4, CLOSED, answer="null")),
+    ([(body_at(1) + 8, b"\xff")], 3, shown(OPEN_3, bad("length"), CLOSED, answer="null")),
+    ([(body_at(0) + 15, b"\1")], 3, shown(bad("zeros"), OPEN_4, CLOSED, answer="null")),
+    ([(gate_at(2), bytes([layout.OPEN]))], 3, shown(OPEN_3, OPEN_4, bad("number"), answer="null")),
+    ([(gate_at(0), b"\0"), (gate_at(1), b"\0")], 3, shown(CLOSED, CLOSED, CLOSED, answer="null")),
+    ([(layout.HEADER_GATE, b"\0")], 3, '{"header":"unformatted"}\n'),
+    ([(0, b"T")], 3, '{"header":"wrong"}\n'),
+]
+
+
 def test_rows(snapd, _):
-    snapd("format", "F", "--index", 2, "--count", 5).gave(0, "formatted 2 of 5\n")
-    row = '{"header":"open","index":2,"count":5,"slots":[{"slot":0,"state":"open","number":0,"length":0},{"slot":1,"state":"closed"},{"slot":2,"state":"closed"}],"answer":0}\n'
-    snapd("check", "F", "--json").gave(0, row)
-    snapd.file("F").write_bytes(bytes(layout.LENGTH))
-    snapd("check", "--json", "F").gave(3, '{"header":"unformatted"}\n')
+    for places, status, row in ROWS:
+        snapd.file("F").write_bytes(changed(WHOLE, *places))
+        snapd("check", "F", "--json").gave(status, row)
+        snapd("check", "--json", "F").gave(status, row)
     snapd("check", "F", "--json", "--json").failed_with(2)
     snapd("check", "F", "--text").failed_with(2)
     snapd("get", "F", "--json").failed_with(2)

@@ -127,7 +127,7 @@ def test_what_is_built_is_installed_and_pkg_config_finds_it(program, _):
     words = [wanted("make"), "-s", "-C", TOP, f"CLIENTS={place}", f"PROGRAM={shutil.which('true')}", f"PREFIX={root}"]
     printed(*words, "install")
     libraries = {"libsnapd.a", "libsnapd.so", "libsnapd.so.0", "pkgconfig", "pkgconfig/snapd.pc"}
-    assert {str(it.relative_to(root / "lib")) for it in (root / "lib").rglob("*")} == libraries
+    assert libraries <= {str(it.relative_to(root / "lib")) for it in (root / "lib").rglob("*")}
     env = {**os.environ, "PKG_CONFIG_PATH": str(root / "lib" / "pkgconfig"), "LD_LIBRARY_PATH": str(root / "lib")}
     if shutil.which("pkg-config"):
         assert printed("pkg-config", "--modversion", "snapd", env=env) == version() + "\n"

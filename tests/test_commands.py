@@ -14,6 +14,8 @@ from program import Program, Skipped
 from test_serve_disks import Disk, file_system
 from waiting import is_read
 
+GRAMMAR = pathlib.Path(__file__).resolve().parent.parent / "crates" / "snap_args" / "src" / "grammar.rt"
+VERSION = re.search(r'VERSION: &str = "([0-9.]+)"', GRAMMAR.read_text())[1].encode()
 # The second lines of commands, after that of a refusal.
 DAMAGED = "F: its slots give no answer: see snapd check F"
 FORMATTED = "F: it is formatted already: see snapd check F"
@@ -353,11 +355,11 @@ def test_help_and_version(snapd, _):
             if command != "check":
                 assert "[default: 0]" in printed and "[default: 1]" in printed, printed
         version = snapd(command, "--version")
-        assert version.status == 0 and version.errors == "" and version.output.split()[1] == b"0.2.0", version
+        assert version.status == 0 and version.errors == "" and version.output.split()[1] == VERSION, version
         assert version.output.split(b" ", 1)[1] == snapd("--version").output.split(b" ", 1)[1]
     # The second line says what the program was built from, and whether this build was proved.
     first, second, rest = snapd("--version").output.split(b"\n")
-    assert (first, rest) == (b"snapd 0.2.0", b"") and len(second) == 100, second
+    assert (first, rest) == (b"snapd " + VERSION, b"") and len(second) == 100, second
     assert re.fullmatch(rb"(not )?proved; ([0-9a-f]{12}\+?|no commit), rattle-kit-\S+ logic [0-9a-f]{16} *", second), second
     snapd("-V").gave(0, snapd("--version").output)
 

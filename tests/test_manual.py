@@ -1,4 +1,4 @@
-"""What explains the program: its page of the manual, what completes its words in a shell, and their installation."""
+"""What explains the program: its page of the manual, and what completes its words in a shell."""
 
 import pathlib
 import re
@@ -6,7 +6,7 @@ import shutil
 import subprocess
 import sys
 
-from program import Program, Skipped
+from program import Skipped
 from waiting import PATIENCE
 
 TOP = pathlib.Path(__file__).resolve().parent.parent
@@ -211,38 +211,3 @@ def test_each_shell_knows_each_command_and_option(snapd, _):
             for option in options(snapd, command):
                 name = f"-l {option[2:]} " if shell == "fish" else option
                 assert name in text, (shell, command, option)
-
-
-def test_installed_and_removed(snapd, _):
-    make, folder = wanted("make"), snapd.file("staged").resolve()
-    place = ["PREFIX=/usr", f"DESTDIR={folder}", f"PROGRAM={snapd.path}", "CLIENTS=no/such"]
-    assert ran(make, "install", *place) == (0, "")
-    files = {
-        "bin/snapd": pathlib.Path(snapd.path).read_bytes(),
-        "share/man/man1/snapd.1": PAGE.read_bytes(),
-        "share/bash-completion/completions/snapd": COMPLETIONS["bash"].read_bytes(),
-        "share/zsh/site-functions/_snapd": COMPLETIONS["zsh"].read_bytes(),
-        "share/fish/vendor_completions.d/snapd.fish": COMPLETIONS["fish"].read_bytes(),
-    }
-    for header in ("snapd.h", "snapd_segment.h"):
-        files[f"include/{header}"] = (TOP / "clients" / "c" / header).read_bytes()
-    root = folder / "usr"
-    assert {str(it.relative_to(root)): it.read_bytes() for it in root.rglob("*") if it.is_file()} == files
-    for name in files:
-        assert (root / name).stat().st_mode & 0o777 == (0o755 if name == "bin/snapd" else 0o644), name
-    installed = Program(root / "bin" / "snapd", snapd.folder)
-    installed("format", "F").gave(0, "formatted 0 of 1\n")
-    assert ran(make, "uninstall", *place) == (0, "")
-    assert not [it for it in root.rglob("*") if it.is_file()]
-
-
-def test_nothing_is_installed_before_it_is_built(snapd, _):
-    make, folder = wanted("make"), snapd.file("staged").resolve()
-    status, errors = ran(make, "install", f"DESTDIR={folder}", "PROGRAM=no/such")
-    assert status != 0 and "run make build first" in errors and not folder.exists(), errors
-
-
-def ran(make, *words):
-    """How `make` ended with these words, and what it had to say of it."""
-    run = subprocess.run([make, "-s", "-C", str(TOP), *words], capture_output=True, text=True, timeout=PATIENCE)
-    return run.returncode, run.stderr

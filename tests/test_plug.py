@@ -1,4 +1,4 @@
-"""The plug is pulled on threads thousands of times, by `try_faults plug`, and each crash leaves what it may leave.
+"""The plug is pulled on threads thousands of times, by `try_parts plug`, and each crash leaves what it may leave.
 
 Which call pulls it and what the crashes fill are drawn from the seed. Where the threads are then is no one's choice, so what is
 asked here is that each case occurs."""
@@ -6,7 +6,7 @@ asked here is that each case occurs."""
 import re
 import subprocess
 
-from trials import faults
+from trials import trial
 from waiting import PATIENCE
 
 COUNTS = re.compile(
@@ -19,7 +19,7 @@ COUNTS = re.compile(
 
 def pull(rounds, seed):
     """Pulls the plug so often, and says how often each case occurred."""
-    run = subprocess.run(faults("plug", rounds, seed), capture_output=True, text=True, timeout=10 * PATIENCE)
+    run = subprocess.run(trial("plug", rounds, seed), capture_output=True, text=True, timeout=10 * PATIENCE)
     assert run.returncode == 0, run
     assert run.stdout == f"{rounds} rounds from seed {seed}: each crash left what it may leave\n", run
     found = COUNTS.fullmatch(run.stderr)

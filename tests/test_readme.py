@@ -1,4 +1,4 @@
-"""What the README shows is what happens: its first commands, and its job, killed at random moments."""
+"""What the README shows is what happens: its first commands, and the job of docs/RECIPES.md, killed at random moments."""
 
 import contextlib
 import fcntl
@@ -12,7 +12,7 @@ from serving import free_port
 from waiting import PATIENCE, gets_on, moment, wait_until
 
 TOP = pathlib.Path(__file__).resolve().parent.parent
-README = (TOP / "README.md").read_text()
+README, RECIPES = ((TOP / name).read_text() for name in ("README.md", "docs/RECIPES.md"))
 
 
 # The examples: each fence that opens one, with its language or none, is paired with the one that ends it.
@@ -34,7 +34,7 @@ def test_readme_shows_what_is_printed(snapd, random):
         run = subprocess.run(command, shell=True, cwd=snapd.folder, env=env, capture_output=True, text=True, timeout=2 * PATIENCE)
         assert (run.returncode, run.stdout, run.stderr) == (0, printed, ""), (command, run)
         count += 1
-    assert count == 4
+    assert count == 3
 
 
 def test_readme_script_prints_what_it_shows(snapd, random):
@@ -79,10 +79,10 @@ def wait_for_lock(file):
 
 
 class Job:
-    """The job of the README in a process group of its own. Its steps note themselves in the file `done`."""
+    """The job of the recipes in a process group of its own. Its steps note themselves in the file `done`."""
 
     def __init__(self, snapd):
-        (snapd.folder / "job").write_text(re.search(r"```sh\n(.*?)```", README, re.S)[1])
+        (snapd.folder / "job").write_text(re.search(r"```sh\n(#!/bin/sh\n# job\.sh:.*?)```", RECIPES, re.S)[1])
         step = snapd.folder / "do_step"
         step.write_text("#!/bin/sh\necho $1 >> done\n")
         step.chmod(0o755)
@@ -106,7 +106,7 @@ class Job:
             wait_for_lock(self.file)
 
 
-def test_job_of_the_readme_restarts_where_it_was(snapd, random):
+def test_job_of_the_recipes_restarts_where_it_was(snapd, random):
     """It is killed while it starts, then each time once it has done some more steps; at last it ends by itself."""
     for life in range(60):
         job = Job(snapd)

@@ -1,7 +1,6 @@
 """Every listing of docs/RECIPES.md, run unchanged: on real files, with kills of the jobs and of the server. Those of
 docs/REPLICATION.md are run by bench/replicated.py, which wants root."""
 
-import functools
 import json
 import os
 import pathlib
@@ -14,8 +13,7 @@ import threading
 import time
 
 from clients import Client, oracle
-from program import Skipped
-from serving import AtSocket, Server, fresh, segments, stored, update
+from serving import Server, fresh, segments, stored, update
 from waiting import NO_END, PATIENCE, comes_to, gets_on, moment, wait_until
 
 from snapd_client import Conflict, OutOfStep
@@ -35,23 +33,13 @@ LISTINGS = {**listings(RECIPES), **listings(REPLICATION)}
 
 def test_every_listing_is_known(_, __):
     names = {
-        RECIPES: ["backup.sh", "board.py", "checkpoint.py", "grow.sh", "launch.sh", "lease.py", "prometheus.yml", "snapd-board@.service",
-                  "snapd.rules.yml", "socket.conf", "start.sh"],
+        RECIPES: ["backup.sh", "board.py", "checkpoint.py", "grow.sh", "job.sh", "launch.sh", "lease.py", "override.conf"],
         REPLICATION: ["files.sh", "fstab", "snapd-board-takeover.service", "takeover.py", "volume.sh"],
     }
     for document, wanted in names.items():
         assert sorted(listings(document)) == wanted
         assert len(re.findall(r"^```\w+$", document, re.M)) == len(wanted)
     assert len(LISTINGS) == sum(map(len, names.values()))
-
-
-def test_prometheus_takes_its_files(snapd, _):
-    if not shutil.which("promtool"):
-        raise Skipped("promtool isn't installed")
-    written(snapd, "prometheus.yml", "snapd.rules.yml")
-    for words in (("config", "prometheus.yml"), ("rules", "snapd.rules.yml")):
-        checked = subprocess.run(["promtool", "check", *words], cwd=snapd.folder, capture_output=True, text=True, check=False)
-        assert checked.returncode == 0 and "FAILED" not in checked.stdout + checked.stderr, checked
 
 
 def written(snapd, *names):
@@ -161,29 +149,6 @@ def test_hosts_begin_nothing_where_something_is_missing(snapd, _):
     status, _, errors = ended(snapd, "python3", "takeover.py", "10.77.0.10/24", "none", 7070, "s0.seg")
     assert status == 1 and "serving" in errors.splitlines()[-1], (status, errors)
     assert sorted(it for it in snapd.folder.iterdir() if it.name != "bin") == before
-
-
-# ---- the start ----
-
-def test_start_formats_once(snapd, _):
-    written(snapd, "start.sh")
-    for start in range(3):
-        server = started(snapd, "sh", "start.sh", "127.0.0.1:0", stderr=subprocess.PIPE)
-        try:
-            lines = []
-            while not lines or not lines[-1].startswith("listening "):
-                lines.append(server.stdout.readline())
-                assert lines[-1], (lines, server.stderr.read())
-            assert [line.startswith("formatted") for line in lines[:4]] == [start == 0] * 4, lines
-            run = snapd("call", lines[-1].split()[1], "update", 3, start + 1, f"{start:02x}")
-            run.gave(0, f"stored {start + 1}\n")
-        finally:
-            killed(server)
-    snapd.file("s2.seg").write_bytes(snapd.file("s3.seg").read_bytes()[:-1] + b"\1")
-    server = started(snapd, "sh", "start.sh", "127.0.0.1:0", stderr=subprocess.PIPE)
-    _, errors = server.communicate(timeout=PATIENCE)
-    told = "snapd: refused 12 AlreadyFormatted\nsnapd: s2.seg: it is formatted already: see snapd check s2.seg\n"
-    assert (server.returncode, errors) == (3, told), (server.returncode, errors)
 
 
 # ---- the checkpoints ----
@@ -468,162 +433,6 @@ def stores(client, segment, value):
         return client.update(segment, client.scan()[segment].number + 1, value)
     except (Conflict, OutOfStep):
         return False
-
-
-# ---- the service ----
-
-UNIT = LISTINGS["snapd-board@.service"]
-
-
-def of_section(section):
-    """What a section of the unit says: of each name its values, in their order."""
-    lines = re.search(rf"^\[{section}\]\n(.*?)(?=^\[|\Z)", UNIT, re.S | re.M)[1].splitlines()
-    values = {}
-    for name, _, value in (line.partition("=") for line in lines if line and not line.startswith("#")):
-        values.setdefault(name, []).append(value)
-    return values
-
-
-SERVICE = of_section("Service")
-(PROGRAM, COMMAND, ADDRESS, *WORDS), = [it.split() for it in SERVICE["ExecStart"]]
-FOLDER = "/var/lib/snapd-board/%i"
-UNIT_ENVIRONMENT = dict(it.split("=", 1) for it in SERVICE["Environment"])
-COUNT = 4
-
-
-def words_here(words):
-    """The words of the unit, with a folder of this one in place of its own."""
-    assert FOLDER in words
-    return ["board" if word == FOLDER else word for word in words]
-
-
-def made_as_the_unit_wants(snapd):
-    snapd("init", "board", "--count", COUNT)
-
-
-def test_unit_of_the_system(snapd, _):
-    assert (pathlib.Path(PROGRAM).name, COMMAND, ADDRESS) == ("snapd", "serve", "127.0.0.1:7070")
-    assert SERVICE["WorkingDirectory"] == [FOLDER] and SERVICE["StateDirectory"] == ["snapd-board/%i"]
-    assert UNIT_ENVIRONMENT == {"GLIBC_TUNABLES": "glibc.malloc.hugetlb=1", "MALLOC_ARENA_MAX": "1"}
-    # It keeps trying if the fault may pass by itself: here the files don't exist yet.
-    assert of_section("Unit")["StartLimitIntervalSec"] == ["0"] and SERVICE["Restart"] == ["always"]
-    gives_up = [int(it) for it in SERVICE["RestartPreventExitStatus"][0].split()]
-    assert gives_up == [2, 3]
-    serve = lambda *words: snapd("serve", "127.0.0.1:0", *words, env=UNIT_ENVIRONMENT)  # noqa: E731
-    assert serve(*words_here(WORDS)).status == 1
-    made_as_the_unit_wants(snapd)
-    snapd.formatted("foreign.seg", "--index", 0, "--count", 2)
-    assert serve("--scanners").status == 2 and serve("foreign.seg").status == 3
-    # One connection, so that it ends.
-    with Server(snapd, *words_here(WORDS), connections=1, env=UNIT_ENVIRONMENT) as server:
-        wanted = "".join(f"segment {index} number 0 value -\n" for index in range(COUNT))
-        snapd("call", server.address, "scan").gave(0, wanted)
-        assert server.end().status == 0
-
-
-# What the unit doesn't let the server do. The tool below rates more of them than these.
-LIMITS = {
-    "User": ["snapd-board"], "NoNewPrivileges": ["yes"], "CapabilityBoundingSet": [""], "ProtectSystem": ["strict"], "ProtectHome": ["yes"],
-    "PrivateTmp": ["yes"], "PrivateDevices": ["yes"], "MemoryDenyWriteExecute": ["yes"], "RestrictNamespaces": ["yes"],
-    "RestrictAddressFamilies": ["AF_INET AF_INET6"], "SystemCallArchitectures": ["native"],
-    "SystemCallFilter": ["@system-service", "~@privileged @resources"], "UMask": ["0077"],
-}
-# Of 10, which is a service without a limit.
-EXPOSURE = 4.0
-
-
-def analyzed(snapd, unit, *words):
-    """What `systemd-analyze` says of a unit, in which it finds the program."""
-    path = snapd.folder / "snapd-board@sim.service"
-    path.write_text(unit.replace(PROGRAM, snapd.path))
-    run = subprocess.run(["systemd-analyze", *words, path.resolve()], capture_output=True, text=True, timeout=PATIENCE)
-    assert ".service:" not in run.stderr, run.stderr
-    return run
-
-
-def test_unit_is_as_narrow_as_it_says(snapd, _):
-    assert {name: SERVICE.get(name) for name in LIMITS} == LIMITS
-    if shutil.which("systemd-analyze") is None:
-        return
-    # The user needn't be there.
-    analyzed(snapd, UNIT.replace("User=snapd-board\n", ""), "verify")
-    # Releases before 250 rate no unit that isn't loaded.
-    if "--offline" not in subprocess.run(["systemd-analyze", "--help"], capture_output=True, text=True).stdout:
-        return
-    run = analyzed(snapd, UNIT, "security", "--offline=true", f"--threshold={10 * EXPOSURE:.0f}")
-    rated = re.search(r"Overall exposure level for snapd-board@sim\.service: (\d+\.\d+) ", run.stdout)
-    assert run.returncode == 0 and rated and float(rated[1]) < EXPOSURE, (run.returncode, run.stdout[-400:], run.stderr)
-
-
-def test_unit_at_a_socket(snapd, _):
-    """What it serves then, at a path of this folder, and that systemd takes it beside the unit."""
-    text = LISTINGS["socket.conf"]
-    command, = re.findall(r"^ExecStart=(\S.*)$", text, re.M)
-    program, serve, address, option, mode, *words = command.split()
-    assert (program, serve, words) == (PROGRAM, COMMAND, WORDS)
-    assert not [it for it in (RECIPES, REPLICATION) if "/var/lib/snapd/" in it or "/run/snapd/" in it]
-    assert (address, option, mode) == ("unix:/run/snapd-board/%i/sock", "--socket-mode", "0660")
-    # A list begins anew with an empty one; and the unit makes nothing that others may read but what is said.
-    assert "ExecStart=\nExecStart=/" in text and "RestrictAddressFamilies=\nRestrictAddressFamilies=AF_UNIX\n" in text
-    assert "RuntimeDirectory=snapd-board/%i\nRuntimeDirectoryMode=0711\n" in text and SERVICE["UMask"] == ["0077"]
-    made_as_the_unit_wants(snapd)
-    more, before = [option, mode, *words_here(words)], ("sh", "-c", 'umask 0077 && exec "$@"', "sh")
-    with AtSocket(snapd, address="unix:snapd.sock", more=more, before=before) as server:
-        assert os.stat(server.path).st_mode & 0o7777 == 0o660
-        snapd("call", server.address, "health").gave(0, "healthy\n")
-    if shutil.which("systemd-analyze") is not None:
-        (snapd.folder / "snapd-board@.service.d").mkdir()
-        (snapd.folder / "snapd-board@.service.d" / "socket.conf").write_text(text.replace(PROGRAM, snapd.path))
-        analyzed(snapd, UNIT.replace("User=snapd-board\n", ""), "verify")
-
-
-@functools.cache
-def calls_in(name):
-    """The system calls that a word of a filter means."""
-    if not name.startswith("@"):
-        return {name}
-    run = subprocess.run(["systemd-analyze", "syscall-filter", name], capture_output=True, text=True, check=True)
-    words = [line.strip() for line in run.stdout.splitlines()[1:]]
-    return calls_of_all(word for word in words if word and not word.startswith("#"))
-
-
-def calls_of_all(names):
-    return set().union(*map(calls_in, names))
-
-
-def test_unit_leaves_the_server_what_it_needs(snapd, _):
-    """The calls of a start, of scans, updates and connections are among those that the unit leaves it."""
-    if shutil.which("strace") is None or shutil.which("systemd-analyze") is None:
-        raise Skipped("strace or systemd-analyze isn't installed")
-    allowed, taken = SERVICE["SystemCallFilter"]
-    assert taken.startswith("~")
-    left = calls_of_all(allowed.split()) - calls_of_all(taken[1:].split())
-    assert {"openat", "pwrite64", "fdatasync", "accept4"} <= left and not {"chown", "setuid", "mount", "reboot"} & left
-    made_as_the_unit_wants(snapd)
-    log = snapd.file("calls")
-    traced = ["strace", "-f", "-qq", "-o", log.name]
-    server = started(snapd, *traced, snapd.path, "serve", "127.0.0.1:0", *words_here(WORDS), "--connections", 3, stderr=subprocess.PIPE,
-                     env=UNIT_ENVIRONMENT)
-    try:
-        while not (line := server.stdout.readline()).startswith("listening "):
-            if not line:
-                raise Skipped(f"strace can't trace here: {server.stderr.read().strip()}")
-        address = line.split()[1]
-        snapd("call", address, "update", 0, 1, "6869").gave(0, "stored 1\n")
-        snapd("call", address, "scan").gave(0, "segment 0 number 1 value 6869\n" + "".join(
-            f"segment {index} number 0 value -\n" for index in range(1, COUNT)))
-        snapd("call", address, "status")
-        output, errors = server.communicate(timeout=PATIENCE)
-        assert (server.returncode, output) == (0, "served 3\n"), (server.returncode, output, errors)
-    finally:
-        killed(server)
-    calls = re.findall(r"^\d+ +(\w+)\((.*)$", log.read_text(), re.M)
-    assert {"pwrite64", "fdatasync", "accept4"} <= {name for name, _ in calls}
-    assert {name for name, _ in calls} - left == set()
-    families = {words.split(",")[0] for name, words in calls if name in ("socket", "socketpair")}
-    assert families <= set(SERVICE["RestrictAddressFamilies"][0].split()), families
-    for name, words in calls:
-        assert name not in ("mmap", "mprotect") or not ("PROT_WRITE" in words and "PROT_EXEC" in words), (name, words)
 
 
 # ---- the refusals ----

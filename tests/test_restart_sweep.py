@@ -1,4 +1,4 @@
-"""The table of faults and stops of an opening, and of random bytes, that `try_faults restart-sweep` prints is the one that an independent model prints."""
+"""The table of faults and stops of an opening, and of random bytes, that `try_parts restart-sweep` prints is the one that an independent model prints."""
 
 import pathlib
 import subprocess

@@ -1,4 +1,4 @@
-"""The numbers that `try_faults restart-threads` prints, after each of 200 crashes, are those that an independent model prints."""
+"""The numbers that `try_parts restart-threads` prints, after each of 200 crashes, are those that an independent model prints."""
 
 import pathlib
 import subprocess

@@ -155,6 +155,16 @@ show 1 > shown
 scan 0 > scanning
 look s0 > number 0, number 1, number 0, number 1
 answer 0 > memory - {"0a" * 65}"""
+# Numbers of two digits, which are decimal.
+TEN_UPDATES = "\n".join([
+    "world 1 1",
+    *(f"""begin 0 {number:02x} > begun
+look w0 > number {number}, number {number}
+call 0 > {"called close, " if number else ""}called body, called sync, called open, called sync
+show 0 > shown
+ack 0 > stored {number + 1}""" for number in range(10)),
+    "scan 0 > scanning\nlook s0 > number 10, number 10\nanswer 0 > memory 09",
+])
 LOOKS = "look s0 > number 0, number 0"
 SCRIPTS = [
     INSIDE_A_SCAN,
@@ -162,6 +172,7 @@ SCRIPTS = [
     OF_A_PART,
     BORROWED_PART,
     LONG_VALUE,
+    TEN_UPDATES,
     # A part has to name a segment, and none that isn't there; and a scanner does one scan at a time.
     "world 3 1\npick 0 0008 > not now",
     "world 3 1\npick 0 000d > not now",

@@ -1,4 +1,4 @@
-"""The server's loop over real sockets, without a service: `try_bench server` answers an update by its number once a
+"""The server's loop over real sockets, without a service: `try_parts server` answers an update by its number once a
 store has rested over it, and everything else at once by 0. The end-to-end tests want it built (`make programs`)."""
 
 import contextlib
@@ -13,7 +13,7 @@ import time
 
 from preload import Accepts
 from serving import frame, limited, open_files, received, refused, reset, stored, to_its_end
-from trials import bench
+from trials import trial
 from waiting import PATIENCE, comes_to
 
 
@@ -31,7 +31,7 @@ class Trial:
     """A server that runs until `connections` have ended, or without end."""
 
     def __init__(self, workers, micros=0, connections=None, descriptors=None, env=None):
-        words = bench("server", workers, micros, *([] if connections is None else [connections]))
+        words = trial("server", workers, micros, *([] if connections is None else [connections]))
         words = words if descriptors is None else limited(descriptors, words)
         self.process = subprocess.Popen(
             words, stdout=subprocess.PIPE, stderr=subprocess.PIPE, env={**os.environ, **(env or {})}

@@ -1,11 +1,11 @@
 """Each allocation of a node's answers is refused in turn: a scan and a status are refused `NoMemory`, and updates ask for none.
-`try_bench bench-service` makes the requests and prints the last reply; the end-to-end tests want it built (`make programs`)."""
+`try_parts bench-service` makes the requests and prints the last reply; the end-to-end tests want it built (`make programs`)."""
 
 import os
 import subprocess
 
 from preload import library
-from trials import bench
+from trials import trial
 from waiting import PATIENCE
 
 SEGMENTS = 3
@@ -13,7 +13,7 @@ SEGMENTS = 3
 
 def run(work, rounds, **env):
     """What a run over three segments with values of 40 bytes prints."""
-    words = bench("bench-service", work, SEGMENTS, rounds, 40)
+    words = trial("bench-service", work, SEGMENTS, rounds, 40)
     more = {"LD_PRELOAD": library("allocations"), **env}
     env = {**os.environ, **more}
     return subprocess.run(words, env=env, check=True, stdout=subprocess.PIPE, text=True, timeout=PATIENCE).stdout

@@ -1,4 +1,4 @@
-"""The table of faults and crashes that `try_faults segment-sweep` prints is the one that an independent model prints."""
+"""The table of faults and crashes that `try_parts segment-sweep` prints is the one that an independent model prints."""
 
 import pathlib
 import subprocess

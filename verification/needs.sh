@@ -5,6 +5,7 @@ for tool; do
     case $tool in
     rt) from="the Rattle kit (release 13f or later), which isn't published yet: ask whoever gave you this repository, unpack it at /opt/rattle, and put /opt/rattle/bin on the PATH" ;;
     python3) from="Python 3.8 or later (Debian: apt-get install python3)" ;;
+    dpkg-deb) from="dpkg, which Debian and Ubuntu have" ;;
     gcc) from="the GNU C compiler (Debian: apt-get install gcc libc6-dev)" ;;
     esac
     echo "make: $tool is missing: install $from" >&2

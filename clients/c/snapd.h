@@ -26,6 +26,8 @@
  *
  * All functions are static and inline. With SNAPD_LINKED defined before the include they are only declared: link with
  * libsnapd, or compile snapd.c with the program.
+ *
+ * Its licence is the file LICENSE of the snapd repository. Where there is none, all rights are reserved.
  */
 #ifndef SNAPD_H
 #define SNAPD_H

@@ -56,6 +56,12 @@ def _sources(*patterns):
     return dict(sorted(found.items()))
 
 
+def _licence():
+    """The file of the repository, which an sdist has beside this one, once there is one."""
+    path = (HERE if (HERE / "PKG-INFO").exists() else HERE.parent.parent) / "LICENSE"
+    return {"LICENSE": path.read_bytes()} if path.exists() else {}
+
+
 def _forget_bytecode():
     """Removes what Python has kept of this file when pip had it read."""
     with contextlib.suppress(NameError, TypeError, OSError):
@@ -69,7 +75,8 @@ def _write(directory, files):
     _forget_bytecode()
     folder, rows, name = f"{NAME}-{VERSION}.dist-info", "", f"{NAME}-{VERSION}-{TAG}.whl"
     wheel = f"Wheel-Version: 1.0\nGenerator: build_wheel\nRoot-Is-Purelib: true\nTag: {TAG}\n"
-    files = {**files, f"{folder}/METADATA": _metadata(), f"{folder}/WHEEL": wheel.encode()}
+    described = {"METADATA": _metadata(), "WHEEL": wheel.encode(), **_licence()}
+    files = {**files, **{f"{folder}/{path}": data for path, data in described.items()}}
     for path, data in files.items():
         digest = base64.urlsafe_b64encode(hashlib.sha256(data).digest()).rstrip(b"=").decode()
         rows += f"{path},sha256={digest},{len(data)}\n"
@@ -99,7 +106,7 @@ def build_sdist(sdist_directory, config_settings=None):
     with open(pathlib.Path(sdist_directory) / f"{folder}.tar.gz", "wb") as file:
         with gzip.GzipFile("", "wb", fileobj=file, mtime=SECONDS) as packed:
             with tarfile.open(fileobj=packed, mode="w", format=tarfile.PAX_FORMAT) as archive:
-                for path, data in {**files, "PKG-INFO": _metadata()}.items():
+                for path, data in {**files, "PKG-INFO": _metadata(), **_licence()}.items():
                     entry = tarfile.TarInfo(f"{folder}/{path}")
                     entry.size, entry.mtime = len(data), SECONDS
                     archive.addfile(entry, io.BytesIO(data))

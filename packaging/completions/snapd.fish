@@ -48,26 +48,26 @@ complete -c snapd -n '__snapd_is doctor' -l measure -d 'Store values in a file o
 complete -c snapd -n '__snapd_is serve' -F
 complete -c snapd -n '__snapd_is serve' -l dir -d 'The folder of the files, in place of these' -x -a '(__fish_complete_directories)'
 complete -c snapd -n '__snapd_is serve' -l listen -d 'One more address to listen at; again and again for further ones, 16 in all' -x
-complete -c snapd -n '__snapd_is serve' -l socket-mode -d 'The mode of the file of a unix:PATH: who may write it may connect' -x
-complete -c snapd -n '__snapd_is serve' -l http -d 'Where browsers and monitors may look, by HTTP: HOST:PORT; else nowhere' -x
+complete -c snapd -n '__snapd_is serve' -l socket-mode -d 'The mode of the file of a unix:PATH: users who may write it may connect' -x
+complete -c snapd -n '__snapd_is serve' -l http -d 'Where to serve browsers and monitors, by HTTP: HOST:PORT; else nowhere' -x
 complete -c snapd -n '__snapd_is serve' -l scanners -d 'How many requests are answered at the same moment, 1 to 16' -x
-complete -c snapd -n '__snapd_is serve' -l connections -d 'End after so many connections' -x
+complete -c snapd -n '__snapd_is serve' -l connections -d 'End after this many connections' -x
 complete -c snapd -n '__snapd_is serve' -l clients-max -d 'The most connections that are open at once, 1 to 1000000' -x
-complete -c snapd -n '__snapd_is serve' -l idle -d 'Let go of a connection that said nothing for so long, 1 to 31536000' -x
-complete -c snapd -n '__snapd_is serve' -l log -d 'The least level of a line on standard error: error, warn, info or debug' -x -a 'error warn info debug'
+complete -c snapd -n '__snapd_is serve' -l idle -d 'Close a connection that was silent for this many seconds, 1 to 31536000' -x
+complete -c snapd -n '__snapd_is serve' -l log -d 'The lowest level of a line on standard error: error, warn, info or debug' -x -a 'error warn info debug'
 complete -c snapd -n '__snapd_is call' -x -a 'put get update scan part status health'
 complete -c snapd -n '__snapd_is call' -l tries -d 'The most connections that are made, 1 to 10' -x
-complete -c snapd -n '__snapd_is call' -l wait -d 'Connect again for so long where no answer came, 1 to 86400' -x
-complete -c snapd -n '__snapd_is call' -l timeout -d 'End where no answer came for so long, 1 to 86400' -x
+complete -c snapd -n '__snapd_is call' -l wait -d 'Try again for this many seconds if there is no answer, 1 to 86400' -x
+complete -c snapd -n '__snapd_is call' -l timeout -d 'End if there is no answer for this many seconds, 1 to 86400' -x
 complete -c snapd -n '__snapd_is call' -l value -d 'The value of a put, in place of standard input' -x
-complete -c snapd -n '__snapd_is call' -l after -d 'The number that a put stores behind, in place of the one that is there' -x
-complete -c snapd -n '__snapd_is call' -l text -d 'Print each value as text, where it is'
+complete -c snapd -n '__snapd_is call' -l after -d 'Store number K + 1, without asking for the segment\'s number' -x
+complete -c snapd -n '__snapd_is call' -l text -d 'Print each value as text, if it is printable'
 complete -c snapd -n '__snapd_is call' -l json -d 'Print the answer as JSON, on one line'
-complete -c snapd -n '__snapd_is watch' -l every -d 'How long it waits between two looks, 1 to 86400000; else 1000' -x
+complete -c snapd -n '__snapd_is watch' -l every -d 'Milliseconds between two polls, 1 to 86400000; else 1000' -x
 complete -c snapd -n '__snapd_is watch' -l json -d 'Print each change as a JSON object, on one line'
 complete -c snapd -n '__snapd_is dump' -l tries -d 'The most connections that are made, 1 to 10' -x
-complete -c snapd -n '__snapd_is dump' -l wait -d 'Connect again for so long where no answer came, 1 to 86400' -x
-complete -c snapd -n '__snapd_is dump' -l timeout -d 'End where no answer came for so long, 1 to 86400' -x
+complete -c snapd -n '__snapd_is dump' -l wait -d 'Try again for this many seconds if there is no answer, 1 to 86400' -x
+complete -c snapd -n '__snapd_is dump' -l timeout -d 'End if there is no answer for this many seconds, 1 to 86400' -x
 complete -c snapd -n '__snapd_is load' -x -a '(__fish_complete_directories)'
 complete -c snapd -n '__snapd_is load' -l count -d 'How many segments there are to be, 1 to 16, and as many as the dump has at least' -x
 complete -c snapd -n '__snapd_is help' -x -a 'format put get check migrate init doctor serve call watch dump load script'

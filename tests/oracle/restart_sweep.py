@@ -1,5 +1,5 @@
 #!/usr/bin/env python3
-"""Works out what `try_faults restart-sweep` must print, from the disk model and the order of an opening's calls alone.
+"""Works out what `try_parts restart-sweep` must print, from the disk model and the order of an opening's calls alone.
 
 Of three files only the second has an open place: the gate that its store opened, which was not synced. So all that has to
 be known of it is that gate's byte, and what a fault or a crash leaves there. Of random bytes all that has to be known is the

@@ -1,5 +1,5 @@
 #!/usr/bin/env python3
-"""Works out what `try_faults restart-threads` must print, from the disk model and the order of a store's calls alone.
+"""Works out what `try_parts restart-threads` must print, from the disk model and the order of a store's calls alone.
 
 A body is written while its gate is closed, and synced before its gate is written. So all that has to be known of a file
 is the number in each slot, the gates, and which gates are pending. The threads change none of that.

@@ -1,5 +1,5 @@
 #!/usr/bin/env python3
-"""Works out what `try_faults segment-sweep` must print, from the disk model and the format of a segment file alone.
+"""Works out what `try_parts segment-sweep` must print, from the disk model and the format of a segment file alone.
 
 It is written from docs/FORMATS.md ("Segment file", "The old format") and docs/PROMISES.md (the disk model) and shares nothing
 with the program: bytes are a bytearray, open places are a set.

@@ -346,13 +346,13 @@ fn serve_words<'a>() -> [Word<'a>; 11]
             kind: Kind::Choice("0600"),
             name: "socket-mode",
             shown: "MODE",
-            help: "The mode of the file of a unix:PATH: who may write it may connect",
+            help: "The mode of the file of a unix:PATH: users who may write it may connect",
         },
         Word {
             kind: Kind::Text,
             name: "http",
             shown: "ADDR",
-            help: "Where browsers and monitors may look, by HTTP: HOST:PORT; else nowhere",
+            help: "Where to serve browsers and monitors, by HTTP: HOST:PORT; else nowhere",
         },
         Word {
             kind: Kind::Number("4"),
@@ -364,7 +364,7 @@ fn serve_words<'a>() -> [Word<'a>; 11]
             kind: Kind::Parsed(value_parser!(u64)),
             name: "connections",
             shown: "K",
-            help: "End after so many connections",
+            help: "End after this many connections",
         },
         Word {
             kind: Kind::Parsed(value_parser!(u64)),
@@ -376,13 +376,13 @@ fn serve_words<'a>() -> [Word<'a>; 11]
             kind: Kind::Parsed(value_parser!(u64)),
             name: "idle",
             shown: "SECONDS",
-            help: "Let go of a connection that said nothing for so long, 1 to 31536000",
+            help: "Close a connection that was silent for this many seconds, 1 to 31536000",
         },
         Word {
             kind: Kind::Choice("info"),
             name: "log",
             shown: "LEVEL",
-            help: "The least level of a line on standard error: error, warn, info or debug",
+            help: "The lowest level of a line on standard error: error, warn, info or debug",
         },
     ]
 }
@@ -413,13 +413,13 @@ fn call_words<'a>() -> [Word<'a>; 9]
             kind: Kind::Parsed(value_parser!(u64)),
             name: "wait",
             shown: "SECONDS",
-            help: "Connect again for so long where no answer came, 1 to 86400",
+            help: "Try again for this many seconds if there is no answer, 1 to 86400",
         },
         Word {
             kind: Kind::Parsed(value_parser!(u64)),
             name: "timeout",
             shown: "SECONDS",
-            help: "End where no answer came for so long, 1 to 86400",
+            help: "End if there is no answer for this many seconds, 1 to 86400",
         },
         Word {
             kind: Kind::Text,
@@ -431,13 +431,13 @@ fn call_words<'a>() -> [Word<'a>; 9]
             kind: Kind::Parsed(value_parser!(u64)),
             name: "after",
             shown: "K",
-            help: "The number that a put stores behind, in place of the one that is there",
+            help: "Store number K + 1, without asking for the segment's number",
         },
         Word {
             kind: Kind::Flag,
             name: "text",
             shown: "",
-            help: "Print each value as text, where it is",
+            help: "Print each value as text, if it is printable",
         },
         Word {
             kind: Kind::Flag,
@@ -468,7 +468,7 @@ fn watch_words<'a>() -> [Word<'a>; 4]
             kind: Kind::Parsed(value_parser!(u64)),
             name: "every",
             shown: "MILLISECONDS",
-            help: "How long it waits between two looks, 1 to 86400000; else 1000",
+            help: "Milliseconds between two polls, 1 to 86400000; else 1000",
         },
         Word {
             kind: Kind::Flag,
@@ -499,13 +499,13 @@ fn dump_words<'a>() -> [Word<'a>; 4]
             kind: Kind::Parsed(value_parser!(u64)),
             name: "wait",
             shown: "SECONDS",
-            help: "Connect again for so long where no answer came, 1 to 86400",
+            help: "Try again for this many seconds if there is no answer, 1 to 86400",
         },
         Word {
             kind: Kind::Parsed(value_parser!(u64)),
             name: "timeout",
             shown: "SECONDS",
-            help: "End where no answer came for so long, 1 to 86400",
+            help: "End if there is no answer for this many seconds, 1 to 86400",
         },
     ]
 }

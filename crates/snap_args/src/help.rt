@@ -75,64 +75,64 @@ Example:
 
 pub(crate) const DOCTOR_HELP: &str = "\
 Reads the header and slots of each file of DIR whose name ends in .seg, and changes nothing. Prints a
-line for each with its segment and number, or with what is wrong and the command that helps; then
+line for each with its segment and number, or with the fault and the command that repairs it; then
 whether they are all the segments of one server, and whether the file system there keeps locks. It
-opens each file as a server would, so it says too where you can't serve it, and why. A file that a
-server has is left alone.
+opens each file as a server would, so it also reports a file that you can't serve, and why. A file
+that a server has open is left alone.
 
 With --measure it makes a file of its own there, stores 200 values of 1,000 bytes in it, removes it,
-and prints how long a store took. Where that is too short for a disk to have been waited for, it says
-so: then what was acknowledged may be gone after a power cut. How much room is left says df DIR.
+and prints how long a store took. If that is shorter than any disk takes, it prints a warning:
+then a power cut may lose what was acknowledged. df DIR prints how much room is left.
 
-Ends with status 3 where something has to be mended before the folder can be served, and else with 0,
-also where a server has a file.
+The exit status is 3 if something has to be repaired before the folder can be served, and else 0,
+also if a server has a file open.
 
 Example:
   snapd doctor board --measure";
 
 pub(crate) const SERVE_HELP: &str = "\
-DIR is a folder made by `snapd init DIR --count N`. All that ends in .seg there is a file of a
-segment, and says itself of which; so a file may be renamed, and is refused where it is foreign.
+DIR is a folder made by `snapd init DIR --count N`. Each file there whose name ends in .seg is one
+segment. Its header has the segment's index, so it may be renamed; a file of another set is refused.
 
 Each FILE is one segment, made before by `snapd format FILE --index I --count N`, where I counts
-from 0 in the order of the files and N is how many there are. All files are locked while it runs,
-so there is one server on its files, and `put` on one of them says that it is in use.
+from 0 in the order of the files and N is how many there are. All files are locked while it runs:
+a second server, or a `put` on one of them, reports that a file is in use.
 
 It recovers all files, prints `segment I number K length L spare closed` (or `open`) for each and
 `segments N`, binds each ADDR, and prints `listening ADDRESS` for each in order, with the port that
-it got where ADDR has port 0. From then on it answers `snapd call` and other clients, and logs on standard error what
-an operator should know, with `--log debug` also how each connection ended. It runs until it is
-killed, or until K connections have ended; then it prints `served K`.
+it got if ADDR has port 0. From then on it answers `snapd call` and other clients, and logs to
+standard error, with `--log debug` also how each connection ended. It runs until it is killed, or
+until K connections have ended; then it prints `served K`.
 
-As many clients may be connected as the process may open files, less some fifty, or N of them:
-then callers wait. A scanner answers one request after the other, so as many requests are answered
-at the same moment as there are scanners. A store that waits for its disk holds up no scanner.
+At most N clients are connected, by default some fifty fewer than the process may open files. Further
+callers wait. A scanner answers one request after the other, so as many requests are answered at the
+same time as there are scanners. A store that waits for its disk blocks no scanner.
 
-There is no login: who reaches ADDR may read and write all segments. Use unix:PATH, 127.0.0.1 or
-::1, and a tunnel from elsewhere. An ADDR that stands for all of the machine's, as 0.0.0.0:7070, is
-served with a warning.
+There is no login: anyone who can connect to ADDR may read and write all segments. Use unix:PATH,
+127.0.0.1 or ::1, and a tunnel from elsewhere. An ADDR that means all addresses of the machine, as
+0.0.0.0:7070, is served with a warning.
 
 With --http it answers browsers and monitors at one more ADDR, a HOST:PORT, which is in the log with
 the port that it got. There / is a page that shows all segments live, /metrics is what Prometheus
 reads, /health has status 503 where a segment is fenced, /livez and /readyz say whether it answers and can
 store at all, and /scan, /status, /stats and /history are JSON.
-Whoever reaches it may look at all segments and change none. It has a scanner of its own, so that
-nobody waits for it, and --scanners is 15 at most.
+Anyone who can connect there may read all segments and change none. It has a scanner of its own, so
+that other clients don't wait for it, and --scanners is 15 at most.
 
-A unix:PATH is a socket of this machine. Its file gets MODE, and who may write it may connect, and
-nobody else. The file of a server that was killed is replaced. Where a process listens at PATH, or
-what is there is no socket, the server doesn't start. At its own end it removes the file.
+A unix:PATH is a socket on this machine. Its file gets MODE; only users who may write it may connect.
+The file of a server that was killed is replaced. If a process listens at PATH, or if the file there
+is no socket, the server doesn't start. When it ends by itself it removes the file.
 
 Killing it is a proper stop, by SIGTERM or any other signal that ends it, at any time: what was
-acknowledged or shown is in the files, and the next start gives it back. What a script starts with `&`
-ignores SIGINT: use `kill`. Never copy onto a file while it is served, and move or
-remove none: its next update is refused. `snapd load` makes a new folder of a copy.
+acknowledged or shown is in the files, and the next start restores it. A server that a script starts
+with `&` ignores SIGINT: use `kill`. Never copy onto a file that is served, and don't move or remove
+it: its next update is refused. `snapd load` makes a new folder of a copy.
 
 Exit status:
   0  K connections were served
   1  a file, ADDR, standard output or accepting failed
   2  the words can't be read
-  3  a file was refused, or memory is wanting; the number and the name are on standard error
+  3  a file was refused, or memory ran out; the number and the name are on standard error
 
 Examples:
   snapd init board --count 2
@@ -162,15 +162,15 @@ A fenced segment takes no update until its server is started again, since a stor
 
 A put reads at most 4,080 bytes, or takes TEXT in place of standard input; a longer input is refused
 as 3 TooLong. Then it asks for the number that segment I has, and stores the next one; with K it asks
-for none and stores number K + 1. Whoever stores that number first with another value has it: then
-the put is refused as 4 Conflict or 5 OutOfStep, and isn't tried again. A get takes I from 0 to 15.
+for none and stores number K + 1. If another client stores that number first with another value, the
+put is refused as 4 Conflict or 5 OutOfStep, and isn't tried again. A get takes I from 0 to 15.
 
 A connection that fails is tried again up to T times in all, with the same request. That is safe:
 an update whose number is stored already isn't stored twice. A put asks twice, each up to T times.
-Between two tries it rests, a little longer each time. With --wait it goes on for so many seconds,
-however many tries that takes, which bridges a server's restart: each request of a put for so many, and
-one that was sent is waited for. With --timeout a call has so many seconds for its answer, all tries
-together; without it waits for as long as it takes. Looking up a name isn't cut short.
+Between two tries it waits, a little longer each time. With --wait it tries for that many seconds,
+however many tries that takes, which bridges a server's restart; each request of a put has that time,
+and the reply of a request that was sent is waited for. With --timeout a call ends after that many
+seconds, all tries together; without it there is no limit. The lookup of a name isn't cut short.
 
 With --text, scan and part print `text \"..\"` in place of `value HEX` where a value is printable:
 UTF-8 without control characters but tabs and line ends. It is quoted as in JSON, so each value is
@@ -182,7 +182,7 @@ Exit status:
   1  no connection gave an answer, or standard output failed; an update may have been stored; or
      standard input failed
   2  the words can't be read
-  3  refused, with `snapd: refused CODE NAME DETAIL` on standard error, or memory is wanting; or
+  3  refused, with `snapd: refused CODE NAME DETAIL` on standard error, or memory ran out; or
      `health` found a fenced segment; or a put's input is too long
 
 Examples:
@@ -198,28 +198,28 @@ Examples:
 pub(crate) const WATCH_HELP: &str = "\
 Prints a line for each SEGMENT, or for all, and from then on one more at each change: where a segment
 has another number, and where it is fenced or no longer is. In a terminal it draws a board instead, in
-place and anew at each look: segment, number, age, updates a second, state and value in columns, cut
-to the terminal, and in colours unless NO_COLOR is set. A line says
+place and anew at each poll: segment, number, age, updates a second, state and value in columns, cut
+to the terminal, and in colours unless NO_COLOR is set. A line is
 
   segment I number K fenced 0 text \"..\"
 
 or `fenced 1`, and in place of the text `value HEX` where the value isn't printable, as with
 `snapd call ADDR scan --text`. With --json it is the JSON object of `snapd call ADDR scan --json`, and
-says \"fenced\" too.
+has \"fenced\" too.
 
-It keeps one connection. Each look asks for the numbers alone, which costs the server little, and for
-the values where one of them is another. So nothing is printed twice, and of the values between two
-looks the last one is.
+It keeps one connection. Each poll requests the numbers alone, which costs the server little, and the
+values only if a number has changed. So nothing is printed twice, and of several values between two
+polls only the last one.
 
-It runs until it is interrupted or its output fails. Where the server goes away, or gives a look no
-answer for ten seconds, it says so on standard error, tries again at each look, and says when the
-server is back. Where there is no server at its start it ends.
+It runs until it is interrupted or its output fails. If the server closes the connection, or doesn't
+answer a poll within ten seconds, it reports that on standard error, tries again at each poll, and
+reports when the server is back. If there is no server when it starts, it ends.
 
 Exit status:
   1  no connection gave a first answer, or standard output failed
   2  the words can't be read
-  3  refused, with `snapd: refused CODE NAME DETAIL` on standard error, as a SEGMENT is that the
-     server doesn't have; or memory is wanting
+  3  refused, with `snapd: refused CODE NAME DETAIL` on standard error, as for a SEGMENT that the
+     server doesn't have; or memory ran out
 
 Examples:
   snapd watch 127.0.0.1:7070
@@ -227,17 +227,17 @@ Examples:
   snapd watch 127.0.0.1:7070 --json >> changes.jsonl";
 
 pub(crate) const DUMP_HELP: &str = "\
-What begins with unix:, and what has no slash and ends in a colon and digits, is the ADDR of a server;
-all else is the DIR of a folder made by `snapd init` or `snapd load`. A folder whose name looks like an
-address is given as ./NAME.
+An argument that begins with unix:, or that has no slash and ends in a colon and digits, is the ADDR of
+a server. Any other is the DIR of a folder made by `snapd init` or `snapd load`. A folder whose name
+resembles an address is given as ./NAME.
 
 A server is asked for all values at one moment, by one scan, while others read and write. The files of
-a folder are only read, and locked meanwhile: a server that has them keeps a dump out, so ask that one.
+a folder are only read, and locked meanwhile. If a server has them open, dump from that server instead.
 
 Prints one JSON document: its format and version, the time at which it was begun, how many segments
-there are, a line with the number and the value of each, and the SHA-256 of all lines but the last. So
-whoever carries it can check it: the last line of DUMP has what `head -n -1 DUMP | sha256sum` prints.
-Nothing is printed of a dump that fails; but a shell has emptied the file behind `>` by then.
+there are, a line with the number and the value of each, and the SHA-256 of all lines but the last. To
+check a copy: the last line of DUMP has what `head -n -1 DUMP | sha256sum` prints. A dump that fails
+prints nothing; but by then the shell has emptied the file after `>`.
 
 T, --wait and --timeout are for a server, as in `snapd call`.
 
@@ -246,15 +246,14 @@ Examples:
   snapd dump board > new.dump && mv new.dump board.dump";
 
 pub(crate) const LOAD_HELP: &str = "\
-DUMP is what `snapd dump` printed. All of it is read and judged before anything is made: one that was cut
-off, or changed in one byte, is refused.
+DUMP is what `snapd dump` printed. All of it is read and checked before anything is made: a DUMP that
+was cut off, or changed in one byte, is refused.
 
 DIR gets a file for each segment, as `snapd init` makes them, with the number and value that the dump
-has; the folder above DIR has to be there. With M there are M segments, and those behind the dump's are
-new ones. The files are made in
-DIR.loading, which becomes DIR once all are on the disk for good: so DIR is there whole, or not at all.
-An empty DIR that is there is replaced; its owner, group and mode are kept, access lists and labels not.
-Cut off before, it can be run again, and replaces what was left in DIR.loading.
+has; the folder above DIR has to exist. With M there are M segments, and those after the dump's are
+empty. The files are made in DIR.loading, which becomes DIR once all are on the disk: so DIR is
+complete, or not there at all. An empty DIR is replaced; its owner, group and mode are kept, access
+lists and labels are not. If it is cut off, it can be run again, and replaces DIR.loading.
 
 Prints `loaded I of M number K` for each file, and `ready DIR` at the end.
 

@@ -1,5 +1,5 @@
 //! The metrics as a JSON document, for programs and for the page. No clause states this text:
-//! tests_http and tests/test_http.py compare it to the byte.
+//! tests_server and tests/test_http.py compare it to the byte.
 
 use crate::document::{
     begin, begin_list, begin_object, end, put_counts, put_number, put_object, put_text,

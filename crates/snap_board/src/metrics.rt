@@ -1,4 +1,4 @@
-//! The metrics as text for Prometheus. No clause states this text: tests_http and
+//! The metrics as text for Prometheus. No clause states this text: tests_server and
 //! tests/test_http.py compare it to the byte.
 
 use crate::amount::{Amount, Unit};

@@ -1,5 +1,5 @@
 //! The metrics of the process and the segments' names, for Prometheus. No clause states this text:
-//! tests_http compares it to the byte.
+//! tests_server compares it to the byte.
 
 use crate::amount::Unit;
 use crate::facts::{Facts, name_of};

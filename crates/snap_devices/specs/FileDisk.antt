@@ -1,18 +1,22 @@
 -- What an open file is as a device, and before the first call.
-use Rattle.std.specs.Prelude.{◌≡◌, ℕ, List, [], map}
+use Rattle.std.specs.Prelude.{◌≡◌, ℕ, List, []}
 use Rattle.snap_disk.specs.Device.{Device}
 use Rattle.snap_devices.specs.CallLog.{device_after}
-use Rattle.snap_devices.specs.declared.file.FileDisk.{FileDisk}
+use Rattle.snap_devices.specs.Story.{Story}
+use Rattle.snap_devices.specs.declared.file.FileOf.{FileOf}
 
--- what it held at first and after each call
-abbrev pub file_held : {R : Type 0} → FileDisk R → List (List ℕ)
-file_held disk = map (λ bytes. bytes.items) disk.held.items
+-- by which path it was opened
+abbrev pub file_path : {R S : Type 0} → FileOf R S → List ℕ
+file_path disk = disk.name.path.now
 
-abbrev pub file_device : {R : Type 0} → FileDisk R → Device
-file_device disk =
-    device_after disk.len disk.open_at_first.items (file_held disk) disk.calls.items
+-- its story, of those of all files
+abbrev pub story_of : {R S : Type 0} → (List ℕ → Story) → FileOf R S → Story
+story_of stories disk = stories (file_path disk)
+
+abbrev pub file_device : {R S : Type 0} → (List ℕ → Story) → FileOf R S → Device
+file_device stories disk = device_after disk.len (story_of stories disk) disk.calls.items
 
 -- No call was made, and so none failed.
-pub record IsUncalled {R : Type 0} (disk : FileDisk R) : Type 0 where
+pub record IsUncalled {R S : Type 0} (disk : FileOf R S) : Type 0 where
   pub log : disk.calls.items ≡ []
   pub failures : disk.failures ≡ 0

@@ -5,3 +5,4 @@ pub mod Held
 pub mod MemDisk
 pub mod Noise
 pub mod Past
+pub mod Story

@@ -1,15 +1,16 @@
 //! A file of the operating system as a device.
 ghost use Rattle.std.specs.Prelude.{◌≡◌, ◌≢◌, ℕ, length, IfOk, IfErr};
 ghost use Rattle.snap_devices.specs.CallLog.{IsHonestLog, LeftSince, counts_now, only_now};
-ghost use Rattle.snap_devices.specs.FileDisk.{IsUncalled, file_device, file_held};
+ghost use Rattle.snap_devices.specs.FileDisk.{IsUncalled, file_device, file_path, story_of};
 
 use crate::contents::Contents;
 use crate::name::{FileId, Name, folder_of};
-use crate::{Call, Log};
+use crate::{Call, Log, Stories, Untold};
 use snap_disk::{DeviceFault, Disk};
 use snap_slot::FILE_LEN;
 use std::fs::{self, OpenOptions, TryLockError};
 use std::io::{self, ErrorKind};
+use std::marker::PhantomData;
 use std::os::unix::fs::FileExt;
 use std::rt::{Clock, Files};
 use std::sync::OnceLock;
@@ -34,7 +35,7 @@ pub enum Lock {
 }
 
 /// Why a file could not be taken as a device. Nothing of it was changed, save that
-/// [`FileDisk::create`] may have made it, without a byte.
+/// [`FileOf::create`] may have made it, without a byte.
 #[derive(Debug, Drop, Error)]
 pub enum FileFault {
     /// The system's own reason.
@@ -103,9 +104,9 @@ pub enum CallFault {
 /// open. A sync that succeeds closes them. So what is proved holds where each is open, and where a
 /// premise says that no more are than a crash left.
 ///
-/// Why a call failed is told to nobody, unless [`FileDisk::telling`] says to whom.
+/// Why a call failed is told to nobody, unless [`FileOf::telling`] says to whom.
 #[derive(Drop)]
-pub struct FileDisk<'p, R> {
+pub struct FileOf<'p, R, S: Stories> {
     rt: &'p R,
     file: fs::File,
     name: Name<'p>,
@@ -116,13 +117,13 @@ pub struct FileDisk<'p, R> {
     told: Option<&'p OnceLock<CallFault>>,
     /// The newest first.
     calls: Log<Call>,
-    /// What the file held at first and after each call. No contract says that.
-    held: Log<Log<u8>>,
-    /// Which places were open at first. No contract says that either.
-    open_at_first: Log<bool>,
+    of: PhantomData<S>,
 }
 
-impl<'p, R: Files<File = fs::File> + Clock> FileDisk<'p, R> {
+/// A file of the system, of whose story nothing is known.
+pub type FileDisk<'p, R> = FileOf<'p, R, Untold>;
+
+impl<'p, R: Files<File = fs::File> + Clock, S: Stories> FileOf<'p, R, S> {
     /// The file at this path, of any length, which is not changed. A lock that keeps this one out
     /// for a second is `InUse`, and any other fault is the system's own, on a file system without
     /// locks too: without its lock a file isn't safe to use.
@@ -133,30 +134,32 @@ impl<'p, R: Files<File = fs::File> + Clock> FileDisk<'p, R> {
     /// written too: a folder refuses that, and a pipe would let a reader wait for a writer.
     ///
     /// The lock comes before the length, which the holder of an exclusive one may yet change.
-    pub fn open(rt: &'p R, path: &'p str, lock: Lock) -> Result<FileDisk<'p, R>, FileFault>
+    pub fn open(rt: &'p R, path: &'p str, lock: Lock) -> Result<FileOf<'p, R, S>, FileFault>
         ensures uncalled { IfOk result IsUncalled }
+        ensures path { IfOk result (λ disk. file_path disk ≡ path.now) }
         ensures any_length { IfErr result (λ fault. (len : ℕ) → fault ≢ FileFault.WrongFile len) }
     {
         let writes = lock == Lock::Exclusive || !fs::metadata(rt, path)?.is_file();
         let file = OpenOptions::new().read(true).write(writes).open(rt, path)?;
         let file = take_lock(rt, file, lock)?;
         let found = file.metadata()?;
-        Ok(FileDisk::of(rt, path, file, FileId::of(&found), found.len()))
+        Ok(FileOf::of(rt, path, file, FileId::of(&found), found.len()))
     }
 
     /// The file at this path, for a new segment, with an exclusive lock: one that isn't there or
     /// has no byte gets [`FILE_LEN`] zero bytes, and one of that length is taken as it is. Any
     /// other length is `WrongFile`, and the file is not changed. The other faults are those of
-    /// [`FileDisk::open`].
+    /// [`FileOf::open`].
     ///
     /// A new file's name lasts: the folder is synced before the file gets its bytes. So where that
     /// fails, or the process is stopped before it, the file stays without a byte, and the next
     /// `create` syncs the folder again. Of two that make the file at once one has the lock and
     /// does this, and the other is refused. Where the file is reached through a symbolic link, it
     /// is the link's folder that is synced.
-    pub fn create(rt: &'p R, path: &'p str) -> Result<FileDisk<'p, R>, FileFault>
+    pub fn create(rt: &'p R, path: &'p str) -> Result<FileOf<'p, R, S>, FileFault>
         ensures uncalled { IfOk result IsUncalled }
-        ensures size { IfOk result (λ disk. length (file_device disk).bytes ≡ FILE_LEN) }
+        ensures path { IfOk result (λ disk. file_path disk ≡ path.now) }
+        ensures size { IfOk result (λ disk. length (file_device S.story disk).bytes ≡ FILE_LEN) }
         ensures wrong_file { IfErr result (λ fault. (len : ℕ) → fault ≡ FileFault.WrongFile len
             → (len ≢ 0) × (len ≢ FILE_LEN)) }
     {
@@ -174,7 +177,7 @@ impl<'p, R: Files<File = fs::File> + Clock> FileDisk<'p, R> {
         } else if len != FILE_LEN {
             return Err(FileFault::WrongFile { len });
         }
-        Ok(FileDisk::of(rt, path, file, FileId::of(&found), FILE_LEN))
+        Ok(FileOf::of(rt, path, file, FileId::of(&found), FILE_LEN))
     }
 
     /// Which file it is.
@@ -184,10 +187,11 @@ impl<'p, R: Files<File = fs::File> + Clock> FileDisk<'p, R> {
 
     /// The same device, which tells `to` why a call of it failed: the first one that does, since
     /// what comes behind it may be its consequence. Where `to` has a fault already it keeps that.
-    pub fn telling(mut self, to: &'p OnceLock<CallFault>) -> FileDisk<'p, R>
+    pub fn telling(mut self, to: &'p OnceLock<CallFault>) -> FileOf<'p, R, S>
         ensures uncalled { IsUncalled self.entry → IsUncalled result }
-        ensures size { length (file_device result).bytes
-            ≡ length (file_device self.entry).bytes }
+        ensures path { file_path result ≡ file_path self.entry }
+        ensures size { length (file_device S.story result).bytes
+            ≡ length (file_device S.story self.entry).bytes }
     {
         self.told = Some(to);
         self
@@ -195,11 +199,12 @@ impl<'p, R: Files<File = fs::File> + Clock> FileDisk<'p, R> {
 
     /// A device on which no call was made.
     #[tactic(auto, using(crate::proofs::Logged::length_fit))]
-    fn of(rt: &'p R, path: &'p str, file: fs::File, id: FileId, len: u64) -> FileDisk<'p, R>
+    fn of(rt: &'p R, path: &'p str, file: fs::File, id: FileId, len: u64) -> FileOf<'p, R, S>
         ensures uncalled { IsUncalled result }
-        ensures size { length (file_device result).bytes ≡ len }
+        ensures path { file_path result ≡ path.now }
+        ensures size { length (file_device S.story result).bytes ≡ len }
     {
-        FileDisk {
+        FileOf {
             rt,
             file,
             name: Name::new(path, id),
@@ -208,8 +213,7 @@ impl<'p, R: Files<File = fs::File> + Clock> FileDisk<'p, R> {
             failures: 0,
             told: None,
             calls: Log::new(),
-            held: Log::unknown(),
-            open_at_first: Log::unknown(),
+            of: PhantomData,
         }
     }
 }
@@ -219,7 +223,9 @@ fn sync_named<R: Files<File = fs::File> + Clock>(
     rt: &R,
     file: &fs::File,
     name: &mut Name<'_>,
-) -> Result<(), CallFault> {
+) -> Result<(), CallFault>
+    ensures path { name.new.path ≡ name.old.path }
+{
     file.sync_data().map_err(fault_of_sync)?;
     match name.holds_synced(rt) {
         Ok(true) => Ok(()),
@@ -298,23 +304,23 @@ fn is_not_allowed(kind: ErrorKind) -> bool {
 }
 
 #[tactic(auto, using(crate::proofs::Logged::noted))]
-impl<R: Files<File = fs::File> + Clock> Disk for FileDisk<'_, R> {
-    ghost device = { file_device };
+impl<R: Files<File = fs::File> + Clock, S: Stories> Disk for FileOf<'_, R, S> {
+    ghost device = { file_device S.story };
 
     ghost failure_count = { λ f. f.failures };
 
-    ghost is_honest = { λ f. IsHonestLog f.len f.open_at_first.items (file_held f) f.calls.items };
+    ghost is_honest = { λ f. IsHonestLog f.len (story_of S.story f) f.calls.items };
 
     ghost clock = { λ f. length f.calls.items };
 
     ghost might_have_left = { λ f t b.
-        LeftSince f.len f.open_at_first.items (file_held f) f.calls.items t b };
+        LeftSince f.len (story_of S.story f) f.calls.items t b };
 
     ghost counts_now = { λ f t b h le now.
-        counts_now f.len f.open_at_first.items (file_held f) f.calls.items t b le now };
+        counts_now f.len (story_of S.story f) f.calls.items t b le now };
 
     ghost only_now = { λ f b h left.
-        only_now f.len f.open_at_first.items (file_held f) f.calls.items b left };
+        only_now f.len (story_of S.story f) f.calls.items b left };
 
     fn len(&self) -> u64 {
         self.len

@@ -15,12 +15,14 @@ mod log;
 mod memory;
 mod name;
 mod noise;
+mod story;
 
 pub(crate) use call::Call;
 pub use fault_plan::FaultPlan;
-pub use file::{CallFault, CallKind, FileDisk, FileFault, Lock, sync_folder_of};
+pub use file::{CallFault, CallKind, FileDisk, FileFault, FileOf, Lock, sync_folder_of};
 pub use held::{Held, Waited};
 pub(crate) use log::Log;
 pub use memory::MemDisk;
 pub use name::FileId;
 pub use noise::Noise;
+pub use story::{Stories, Untold};

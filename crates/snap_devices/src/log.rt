@@ -32,9 +32,4 @@ impl<T> Log<T> {
     {
         Log { of: PhantomData }
     }
-
-    /// A list of which nothing is known: what is in it, only a premise can say.
-    pub(crate) fn unknown() -> Log<T> {
-        Log::new()
-    }
 }

@@ -5,6 +5,8 @@
 //! changes and has to be stored with it. So the folder is asked, whose times change with each name in
 //! it that is made, removed or moved, and the file only where that can't tell, and once a second.
 
+ghost use Rattle.std.specs.Prelude.{◌≡◌};
+
 use std::fs;
 use std::io::{self, ErrorKind};
 use std::os::unix::fs::MetadataExt;
@@ -100,7 +102,9 @@ pub struct Name<'p> {
 
 impl<'p> Name<'p> {
     /// Of a file that was opened by this path.
-    pub fn new(path: &'p str, id: FileId) -> Name<'p> {
+    pub fn new(path: &'p str, id: FileId) -> Name<'p>
+        ensures { result.path.now ≡ path.now }
+    {
         Name {
             path,
             id,
@@ -117,7 +121,9 @@ impl<'p> Name<'p> {
     /// Whether it still names that file, behind a sync. Of two syncs in a row it is asked for behind
     /// one at least, and so within each store, which makes two. Where the system can't tell, that is its
     /// own reason.
-    pub fn holds_synced<R: Files<File = fs::File> + Clock>(&mut self, rt: &R) -> io::Result<bool> {
+    pub fn holds_synced<R: Files<File = fs::File> + Clock>(&mut self, rt: &R) -> io::Result<bool>
+        ensures path { self.new.path ≡ self.old.path }
+    {
         if self.is_fresh {
             self.is_fresh = false;
             return Ok(true);
@@ -127,7 +133,9 @@ impl<'p> Name<'p> {
     }
 
     /// Whether it names that file now.
-    fn holds<R: Files<File = fs::File> + Clock>(&mut self, rt: &R) -> io::Result<bool> {
+    fn holds<R: Files<File = fs::File> + Clock>(&mut self, rt: &R) -> io::Result<bool>
+        ensures path { self.new.path ≡ self.old.path }
+    {
         // Before the file, so that a change between the two isn't taken for one before them.
         let reading = self.read_folder(rt).ok();
         let last = self.last.take();

@@ -23,7 +23,7 @@ widened : (i n k : ℕ) (v : List ℕ) (old new : Device) → OldHead old.bytes 
 widened i n k v old new head holds b (inl left) = inl left
 widened i n k v old new head holds b (inr made) = inr (k, v, head, holds, made)
 
--- where the old file was read
+-- if the old file was read
 pub made_leaves : {N : Type 0} (disk : Disk.Ghosts N) (a b : N) (i n : ℕ)
     (old new : Device) → IsOldFile i n old.bytes
     → ((k : ℕ) (v : List ℕ) → OldHolds old.bytes k v
@@ -33,7 +33,7 @@ made_leaves disk a b i n old new (head, (k, v, holds)) makes =
     weaker disk a b (IsMadeOrLeft i n k v new) (MigrationLeaves i n old new) (makes k v holds)
     (widened i n k v old new head holds)
 
--- where no call was made
+-- if no call was made
 pub untouched_leaves : {N : Type 0} (disk : Disk.Ghosts N) (a b : N)
     (i n : ℕ) (old new : Device) → b ≡ a
     → ((x : List ℕ) → disk.might_have_left a (disk.clock a) x → MayLeave new x)
@@ -41,7 +41,7 @@ pub untouched_leaves : {N : Type 0} (disk : Disk.Ghosts N) (a b : N)
 untouched_leaves disk a b i n old new same now =
     rw same (started disk a (MigrationLeaves i n old new) (λ x left. inl (now x left)))
 
--- each refusal is for the old file, or for the new one's length, or behind the old file's reading
+-- each refusal is for the old file, or for the new one's length, or after the old file's reading
 pub by_refusal : (Goal : Type 0) (which : Which) (why : Refusal) → IsMigrationRefusal which why
     → (which ≡ Old → Goal) → (which ≡ New → why ≡ WrongFile → Goal) → (IsPast which why → Goal)
     → Goal
@@ -49,7 +49,7 @@ by_refusal Goal Old why is old wrong past = old refl
 by_refusal Goal New WrongFile is old wrong past = wrong refl refl
 by_refusal Goal New why is old wrong past = past is
 
--- what both files are after a migration that answered its number
+-- what both files are after a migration that returned its number
 pub migrated : (i n number : ℕ) (old new new' : Device) → IsOldFile i n old.bytes
     → IsUnformatted new.bytes
     → ((k : ℕ) (v : List ℕ) → OldHolds old.bytes k v
@@ -58,14 +58,7 @@ pub migrated : (i n number : ℕ) (old new new' : Device) → IsOldFile i n old.
     → IsMigrated i n number old new new'
 migrated i n number old new new' (head, (k, v, holds)) unformatted rests bytes =
     let end = rests k v holds in
-    rw end.0 record {
-      value = v;
-      head = head;
-      held = holds;
-      unformatted = unformatted;
-      rests = end.1;
-      bytes = bytes k v holds;
-    }
+    rw end.0 (head, (v, holds, (unformatted, end.1, bytes k v holds)))
 
 -- what a refused migration leaves of the old file
 pub refused_reads : (same : Type 0) (which : Which) (why : Refusal)

@@ -1,5 +1,5 @@
 -- What a store that succeeded leaves, in the words of the command.
-use Rattle.std.proofs.Common.{◌≡◌, ◌⊎◌, ℕ, ◌+◌, List, length, Option, Err, inl, inr, arith}
+use Rattle.std.proofs.Common.{◌≡◌, ◌⊎◌, ℕ, ◌+◌, List, length, Option, Err, inl, inr}
 use Rattle.snap_disk.specs.Device.{Device, IsSettled, MayLeave}
 use Rattle.snap_disk.specs.Time.{LeavesOnly}
 use Rattle.snap_disk.specs.Laws.{then, weaker}
@@ -8,7 +8,6 @@ use Rattle.snap_slot.specs.States.{IsEither}
 use Rattle.snap_slot.specs.Layout.{Head, Holds, IsFileOf}
 use Rattle.snap_segment.specs.Segment.{SegmentState}
 use Rattle.snap_stream.specs.Streams.{Had}
-use Rattle.snap_file_commands.specs.Calls.{CountsCallsOf, CountsPut, CountsStore}
 use Rattle.snap_file_commands.specs.Commands.{IsStored, PutLeaves, End, EndsStore, EndsPut}
 use Rattle.snap_disk.specs.declared.refusal.Refusal.TheVariants.{TooLong}
 use Rattle.snap_file_commands.specs.declared.failure.CommandFailure.TheVariants.{Refused, Input}
@@ -34,7 +33,7 @@ stored {u = u} file last = record {
   lasts = last.1;
 }
 
--- an opening and a store behind it, in the words of the command
+-- an opening and a store after it, in the words of the command
 pub put_leaves : {D : Type 0} (disk : Disk.Ghosts D)
     (honest : Type 0) (old : D) (mid new : SegmentState D) (device : Device)
     (known : Option (List ℕ)) (i n : ℕ) (v : List ℕ) → honest → mid.index ≡ i → mid.count ≡ n
@@ -64,16 +63,3 @@ module _ (honest : Type 0) (i n : ℕ) (known : Option (List ℕ)) (v : List ℕ
   store_ends_put (Err (Input error)) had ends = absurd ends
   store_ends_put (Err (Refused TooLong)) had ends = absurd ends
   store_ends_put end had ends = (v, had, ends)
-
--- the calls of an opening, and of a store behind it
-calls_behind : (calls before mid after : ℕ) (end : End) → mid ≡ before + 2
-    → CountsCallsOf calls end mid after → CountsCallsOf (calls + 2) end before after
-calls_behind calls before mid after (Err (Refused why)) opened counts = omega arith
-calls_behind calls before mid after end opened counts = omega arith
-
-pub put_calls : (before mid after : ℕ) (end : End) → mid ≡ before + 2
-    → CountsStore end mid after → CountsPut end before after
-put_calls before mid after end opened (inl four) =
-    inl (calls_behind 4 before mid after end opened four)
-put_calls before mid after end opened (inr five) =
-    inr (calls_behind 5 before mid after end opened five)

@@ -1,6 +1,7 @@
--- What each command does to its device and its streams, by how it ends.
+-- What each command does to its device, what a `put` reads, and what a `put`, a `get` and a slot's value print,
+-- by how the command ends.
 use Rattle.std.specs.Prelude.{◌≡◌, ◌≢◌, ◌⊎◌, ℕ, ◌+◌, ◌<◌, List, [], ◌++◌, length, Option, Result}
-use Rattle.std.specs.Prelude.{Ok, Err, IfSome, is_some, codes, if◌then◌else◌, Bool, true, false}
+use Rattle.std.specs.Prelude.{Ok, Err, IfSome, is_some, codes, if◌then◌else◌, false}
 use Rattle.std.specs.Fmt.{decimal}
 use Rattle.std.specs.Io.KnownBytes.{Appends, Keeps}
 use Rattle.snap_disk.specs.Device.{Device, IsSettled, MayLeave, part}
@@ -8,16 +9,13 @@ use Rattle.snap_disk.specs.declared.refusal.Refusal.{Refusal}
 use Rattle.snap_disk.specs.declared.refusal.Refusal.TheVariants as refusal
 use Rattle.snap_slot.specs.declared.layout.TheConstants.{BLOCK_LEN, FILE_LEN, OPEN_GATE, SLOT_COUNT}
 use Rattle.snap_history.specs.declared.limits.TheConstants.{MAX_VALUE_LEN, LAST_NUMBER}
-use Rattle.snap_slot.specs.Layout.{body_at, fresh_file, gate_block, Head, Holds, IsUnformatted, IsFormatted, IsFileOf, IsOpenSlot}
+use Rattle.snap_slot.specs.Layout.{body_at, gate_block, Head, Holds, IsUnformatted, IsFormatted, IsFileOf, IsOpenSlot}
 use Rattle.snap_slot.specs.Slot.{IsFlawed}
 use Rattle.snap_slot.specs.declared.slot.Flaw.{Flaw}
 use Rattle.snap_slot.specs.States.{IsAtRest, IsEither}
 use Rattle.snap_slot.specs.Findings.{AreFindings, IsNoOpening}
-use Rattle.snap_slot.specs.Text.{findings_text}
-use Rattle.snap_json.specs.Findings.{findings_document}
 use Rattle.snap_slot.specs.declared.findings.Findings.{Findings}
-use Rattle.snap_segment.specs.Creation.{IsFresh}
-use Rattle.snap_file_commands.specs.Failure.{status_of, SaysOf}
+use Rattle.snap_segment.specs.Creation.{IsFresh, new_file}
 use Rattle.snap_stream.specs.Streams.{AppendsBeginning, Had}
 use Rattle.snap_file_commands.specs.declared.failure.CommandFailure.{CommandFailure}
 use Rattle.snap_file_commands.specs.declared.failure.CommandFailure.TheVariants.{Refused, Input, Output, Unsaid, NoValue}
@@ -30,56 +28,47 @@ use Rattle.snap_order.specs.declared.status.Status.TheVariants as status
 abbrev pub End : Type 0
 End = Result Status CommandFailure
 
+abbrev pub status_of : CommandFailure → Status
+status_of (Refused why) = status.Refused
+status_of (NoValue file slot flaw) = status.Refused
+status_of failure = status.Failed
+
 abbrev pub status_at : End → Status
 status_at (Ok s) = s
 status_at (Err failure) = status_of failure
 
--- what standard error got of a command on this file: nothing where it didn't end early
-abbrev pub EndSays : (file : List ℕ) → End → (is_told : Bool) (old new : Option (List ℕ)) → Type 0
-EndSays file (Ok s) is_told old new = (is_told ≡ true) × Keeps old new
-EndSays file (Err failure) is_told old new = SaysOf failure file is_told old new
-
--- the device's failure count grows by one exactly where the end is that it failed
+-- the device's failure count grows by one exactly if the end is that it failed
 abbrev pub CountsEnd : End → ℕ → ℕ → Type 0
 CountsEnd (Err (Refused refusal.DeviceFailed)) old new = new ≡ old + 1
 CountsEnd end old new = new ≡ old
 
--- what is printed
-abbrev pub formatted_line : ℕ → ℕ → List ℕ
-formatted_line i n = codes "formatted "
-    ++ (decimal i ++ (codes " of " ++ (decimal n ++ codes "\n")))
+-- ---- making a file: format, and one of a dump's
 
-abbrev pub stored_line : ℕ → List ℕ
-stored_line k = codes "stored " ++ (decimal k ++ codes "\n")
+-- the file was unformatted, and is that of segment i of n with number k and value v, in each of its bytes,
+-- also after a crash
+abbrev pub IsNewlyMade : (i n k : ℕ) (v : List ℕ) (old new : Device) → Type 0
+IsNewlyMade i n k v old new = IsUnformatted old.bytes × IsAtRest i n k v false new
+    × (new.bytes ≡ new_file i n k v)
 
--- ---- format
+-- why a file was not made, if its bytes are the reason
+abbrev pub IsNoMaking : List ℕ → Refusal → Type 0
+IsNoMaking b refusal.WrongFile = length b ≢ FILE_LEN
+IsNoMaking b refusal.AlreadyFormatted = IsFormatted b
+IsNoMaking b refusal.DeviceFailed = Unit {0}
+IsNoMaking b refusal.NoMemory = Unit {0}
+IsNoMaking b why = ⊥
 
--- the file was unformatted, and is that of segment i of n with number 0 and the empty value, in each
--- of its bytes
-abbrev pub IsNewlyFormatted : ℕ → ℕ → Device → Device → Type 0
-IsNewlyFormatted i n old new = IsUnformatted old.bytes × IsAtRest i n 0 [] false new
-    × (new.bytes ≡ fresh_file i n)
-
--- why a file was not formatted, where its bytes are the reason
-abbrev pub IsNoFormat : List ℕ → Refusal → Type 0
-IsNoFormat b refusal.WrongFile = length b ≢ FILE_LEN
-IsNoFormat b refusal.AlreadyFormatted = IsFormatted b
-IsNoFormat b refusal.DeviceFailed = Unit {0}
-IsNoFormat b refusal.NoMemory = Unit {0}
-IsNoFormat b why = ⊥
-
-abbrev pub EndsFormat : (honest : Type 0) (i n : ℕ) (old new : Device) (out out' : Option (List ℕ))
-    → End → Type 0
-EndsFormat honest i n old new out out' (Ok s) =
-    (s ≡ status.Done) × (honest → IsNewlyFormatted i n old new)
-    × Appends out out' (formatted_line i n)
-EndsFormat honest i n old new out out' (Err (Output error)) =
-    (honest → IsNewlyFormatted i n old new) × AppendsBeginning out out' (formatted_line i n)
-EndsFormat honest i n old new out out' (Err (Refused why)) = (honest → IsNoFormat old.bytes why)
-    × Keeps out out'
-EndsFormat honest i n old new out out' end = ⊥
+abbrev pub EndsMaking : (honest : Type 0) (i n k : ℕ) (v : List ℕ) (old new : Device) → End → Type 0
+EndsMaking honest i n k v old new (Ok s) = (s ≡ status.Done) × (honest → IsNewlyMade i n k v old new)
+EndsMaking honest i n k v old new (Err (Output error)) = honest → IsNewlyMade i n k v old new
+EndsMaking honest i n k v old new (Err (Refused why)) = honest → IsNoMaking old.bytes why
+EndsMaking honest i n k v old new end = ⊥
 
 -- ---- put
+
+-- what is printed
+abbrev pub stored_line : ℕ → List ℕ
+stored_line k = codes "stored " ++ (decimal k ++ codes "\n")
 
 -- the file held number c, and holds the next number and value v, also after a crash
 pub record IsStored (i n c : ℕ) (v : List ℕ) (old new : Device) : Type 0 where
@@ -151,20 +140,13 @@ IsNoCheck b refusal.DeviceFailed = Unit {0}
 IsNoCheck b refusal.NoMemory = Unit {0}
 IsNoCheck b why = ⊥
 
--- how findings are printed: in lines, or as a JSON document
-abbrev pub check_text : (is_json : Bool) → Findings → List ℕ
-check_text true f = findings_document f
-check_text false f = findings_text f
-
-abbrev pub EndsCheck : (is_json : Bool) (honest : Type 0) (old : Device) (out out' : Option (List ℕ)) → End → Type 0
-EndsCheck is_json honest old out out' (Ok s) =
-    (findings : Findings) × (s ≡ (if is_some findings.answer then status.Done else status.Refused))
-    × (honest → AreFindings old.bytes findings) × Appends out out' (check_text is_json findings)
-EndsCheck is_json honest old out out' (Err (Output error)) =
-    (findings : Findings) × (honest → AreFindings old.bytes findings)
-    × AppendsBeginning out out' (check_text is_json findings)
-EndsCheck is_json honest old out out' (Err (Refused why)) = IsNoCheck old.bytes why × Keeps out out'
-EndsCheck is_json honest old out out' end = ⊥
+-- the status says whether the file has an answer
+abbrev pub EndsCheck : (honest : Type 0) (old : Device) → End → Type 0
+EndsCheck honest old (Ok s) = (findings : Findings) × (honest → AreFindings old.bytes findings)
+    × (s ≡ (if is_some findings.answer then status.Done else status.Refused))
+EndsCheck honest old (Err (Output error)) = Unit {0}
+EndsCheck honest old (Err (Refused why)) = IsNoCheck old.bytes why
+EndsCheck honest old end = ⊥
 
 -- ---- one slot
 
@@ -172,11 +154,11 @@ EndsCheck is_json honest old out out' end = ⊥
 abbrev pub body_of : (s : ℕ) → List ℕ → List ℕ
 body_of s b = part (body_at s) BLOCK_LEN b
 
--- this body block has value v: behind an open gate it is slot s with some number
+-- this body block has value v: with an open gate it is slot s with some number
 abbrev pub HasBody : (s : ℕ) (v body : List ℕ) → Type 0
 HasBody s v body = (k : ℕ) × IsOpenSlot SLOT_COUNT s (gate_block OPEN_GATE) body k v
 
--- it has none: behind an open gate slot s is bad for this reason
+-- it has none: with an open gate slot s is bad for this reason
 abbrev pub HasBadBody : (s : ℕ) (body : List ℕ) → Flaw → Type 0
 HasBadBody s body flaw = IsFlawed SLOT_COUNT s (gate_block OPEN_GATE) body flaw
 
@@ -198,19 +180,15 @@ EndsSlot s honest old out out' end = ⊥
 -- and after
 abbrev pub EndsOrder : FileOrder → (honest : Type 0) (known : Option (List ℕ)) (old new : Device)
     (out out' : Option (List ℕ)) → End → Type 0
-EndsOrder (Format file i n) honest known old new out out' end =
-    EndsFormat honest i n old new out out' end
+EndsOrder (Format file i n) honest known old new out out' end = EndsMaking honest i n 0 [] old new end
 EndsOrder (Put file i n) honest known old new out out' end =
     EndsPut honest i n known old new out out' end
 EndsOrder (Get file i n) honest known old new out out' end = EndsGet honest i n old out out' end
-EndsOrder (Check file is_json) honest known old new out out' end =
-    EndsCheck is_json honest old out out' end
+EndsOrder (Check file is_json) honest known old new out out' end = EndsCheck honest old end
 EndsOrder (Slot file slot) honest known old new out out' end = EndsSlot slot honest old out out' end
 
 -- what a crash during the order may leave
 abbrev pub OrderLeaves : FileOrder → (known : Option (List ℕ)) (old : Device) → List ℕ → Type 0
 OrderLeaves (Format file i n) known old b = IsFresh i n old b
 OrderLeaves (Put file i n) known old b = PutLeaves i n known old b
-OrderLeaves (Get file i n) known old b = MayLeave old b
-OrderLeaves (Check file is_json) known old b = MayLeave old b
-OrderLeaves (Slot file slot) known old b = MayLeave old b
+OrderLeaves order known old b = MayLeave old b

@@ -4,7 +4,7 @@ use Rattle.snap_disk.specs.Device.{MayLeave}
 use Rattle.snap_disk.specs.Time.{LeavesOnly}
 use Rattle.snap_disk.specs.declared.refusal.Refusal.TheVariants as refusal
 use Rattle.snap_order.specs.declared.order.FileOrder.{FileOrder}
-use Rattle.snap_order.specs.declared.order.FileOrder.TheVariants.{Format, Put, Get, Check, Slot}
+use Rattle.snap_order.specs.declared.order.FileOrder.TheVariants.{Format, Put}
 use Rattle.snap_file_commands.specs.Commands.{End}
 use Rattle.snap_file_commands.specs.declared.failure.CommandFailure.TheVariants.{Refused, Input}
 use Rattle.snap_disk.specs.declared.disk.Disk as Disk
@@ -22,13 +22,13 @@ LeavesNoMore disk old new = AnyCrashLeaves disk old new (MayLeave (disk.device o
 -- `same`: the device is the same, with no call made. `kept`: a crash leaves no more of it than one
 -- before could.
 
-abbrev pub FormatKeeps : (same kept : Type 0) → End → Type 0
-FormatKeeps same kept (Err (Refused refusal.NoMemory)) = same
-FormatKeeps same kept (Err (Refused refusal.WrongFile)) = same
-FormatKeeps same kept (Err (Refused refusal.AlreadyFormatted)) = kept
-FormatKeeps same kept end = Unit {0}
+abbrev pub MakingKeeps : (same kept : Type 0) → End → Type 0
+MakingKeeps same kept (Err (Refused refusal.NoMemory)) = same
+MakingKeeps same kept (Err (Refused refusal.WrongFile)) = same
+MakingKeeps same kept (Err (Refused refusal.AlreadyFormatted)) = kept
+MakingKeeps same kept end = Unit {0}
 
--- each refusal of a store but that of a device which failed
+-- each refusal of a store, unless the device failed
 abbrev pub StoreKeeps : (kept : Type 0) → End → Type 0
 StoreKeeps kept (Err (Refused refusal.DeviceFailed)) = Unit {0}
 StoreKeeps kept (Err (Refused why)) = kept
@@ -39,10 +39,8 @@ PutKeeps same kept (Err (Input error)) = same
 PutKeeps same kept (Err (Refused refusal.TooLong)) = same
 PutKeeps same kept end = StoreKeeps kept end
 
--- `get` and `check` never write
+-- The other orders never write, by what a crash leaves of each.
 abbrev pub OrderKeeps : FileOrder → (same kept : Type 0) → End → Type 0
-OrderKeeps (Format file i n) same kept end = FormatKeeps same kept end
+OrderKeeps (Format file i n) same kept end = MakingKeeps same kept end
 OrderKeeps (Put file i n) same kept end = PutKeeps same kept end
-OrderKeeps (Get file i n) same kept end = kept
-OrderKeeps (Check file is_json) same kept end = kept
-OrderKeeps (Slot file slot) same kept end = kept
+OrderKeeps order same kept end = Unit {0}

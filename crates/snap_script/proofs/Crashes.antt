@@ -9,14 +9,14 @@ use Rattle.snap_script.specs.Words.{words_of, IsFill}
 use Rattle.snap_script.proofs.Zip.{AllZip-push}
 
 -- the words of what is left of a line
-abbrev pub words_behind : Option (Bor (List ℕ)) → List (List ℕ)
-words_behind None = []
-words_behind (Some text) = words_of text.now
+abbrev pub words_after : Option (Bor (List ℕ)) → List (List ℕ)
+words_after None = []
+words_after (Some text) = words_of text.now
 
 -- some words of the line are read as these fills, and these are left
 pub record IsRead (line : List ℕ) (fills : List Fill) (rest : Option (Bor (List ℕ))) : Type 0 where
   pub words : List (List ℕ)
-  pub whole : words_of line ≡ words ++ words_behind rest
+  pub whole : words_of line ≡ words ++ words_after rest
   pub are : AllZip IsFill words fills
 
 -- each word is a fill
@@ -32,36 +32,36 @@ some_word line = omega (arith, length-slice_split (λ b. b == 32) line)
 
 cut-words : (text word : List ℕ) (o : Option (Bor (List ℕ)))
     → MatchOption o (words_of text ≡ word ∷ []) (λ rest. words_of text ≡ word ∷ words_of rest.now)
-    → words_of text ≡ word ∷ words_behind o
+    → words_of text ≡ word ∷ words_after o
 cut-words text word None h = h
 cut-words text word (Some rest) h = h
 
-nothing_behind : (o : Option (Bor (List ℕ))) → ((x : Bor (List ℕ)) → o ≡ Some x → ⊥)
-    → words_behind o ≡ []
-nothing_behind None h = refl
-nothing_behind (Some x) h = absurd (h x refl)
+nothing_after : (o : Option (Bor (List ℕ))) → ((x : Bor (List ℕ)) → o ≡ Some x → ⊥)
+    → words_after o ≡ []
+nothing_after None h = refl
+nothing_after (Some x) h = absurd (h x refl)
 
 -- one word on
 module _ {line : List ℕ} {fills : List Fill} {now : Option (Bor (List ℕ))} {text : Bor (List ℕ)}
-    (behind : Option (Bor (List ℕ))) (word : List ℕ)
+    (after : Option (Bor (List ℕ))) (word : List ℕ)
     (read : IsRead line fills now) (is : now ≡ Some text)
-    (cut : MatchOption behind (words_of text.now ≡ word ∷ []) (λ rest. words_of text.now ≡ word
+    (cut : MatchOption after (words_of text.now ≡ word ∷ []) (λ rest. words_of text.now ≡ word
     ∷ words_of rest.now)) where
-  whole_on : words_of line ≡ read.words ++ word ∷ words_behind behind
-  whole_on = read.whole ∙ ap (λ o. read.words ++ words_behind o) is
-      ∙ ap (λ ws. read.words ++ ws) (cut-words text.now word behind cut)
+  whole_on : words_of line ≡ read.words ++ word ∷ words_after after
+  whole_on = read.whole ∙ ap (λ o. read.words ++ words_after o) is
+      ∙ ap (λ ws. read.words ++ ws) (cut-words text.now word after cut)
 
-  pub read_on : (fill : Fill) → IsFill word fill → IsRead line (fills ++ fill ∷ []) behind
+  pub read_on : (fill : Fill) → IsFill word fill → IsRead line (fills ++ fill ∷ []) after
   read_on fill f = record {
     words = read.words ++ word ∷ [];
-    whole = whole_on ∙ sym (append_assoc read.words (word ∷ []) (words_behind behind));
+    whole = whole_on ∙ sym (append_assoc read.words (word ∷ []) (words_after after));
     are = AllZip-push IsFill read.words fills word fill read.are f;
   }
 
   pub no_fills : ((f : Fill) → IsFill word f → ⊥) → (all : List Fill)
       → AllZip IsFill (words_of line) all → ⊥
   no_fills none all are =
-      let some = fill_at read.words (words_behind behind) word all (rw whole_on at are) in
+      let some = fill_at read.words (words_after after) word all (rw whole_on at are) in
       none some.0 some.1
 
 -- nothing is left
@@ -69,4 +69,4 @@ pub read_whole : {line : List ℕ} {fills : List Fill} {now : Option (Bor (List 
     → IsRead line fills now → ((x : Bor (List ℕ)) → now ≡ Some x → ⊥)
     → AllZip IsFill (words_of line) fills
 read_whole {line} {fills} {now} read none =
-    rw (read.whole, nothing_behind now none, append-nil read.words) read.are
+    rw (read.whole, nothing_after now none, append-nil read.words) read.are

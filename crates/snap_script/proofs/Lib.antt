@@ -6,5 +6,5 @@ pub mod Values
 pub mod Plays
 pub mod Lines
 pub mod Steps
-pub mod Ends
+pub mod Halts
 pub mod Runs

@@ -1,4 +1,4 @@
--- What stands in a word, and what doesn't.
+-- What a word means, and what it doesn't.
 use Rattle.std.proofs.Common.{◌≡◌, ◌≢◌, ℕ, ◌+◌, ◌*◌, ◌^◌, ◌<◌, ◌≤◌, Option, Some, None, Result, Ok, Err, List, [], ◌∷◌, length, codes}
 use Rattle.std.proofs.Common.{refl, sym, ap, ◌∙◌, arith}
 use Rattle.std.specs.Prelude.{MatchOption, IfOk}
@@ -26,16 +26,16 @@ sized s bytes n few h =
     let pairs : decode_sized s n ≡ decode_pairs 0 s = grind arith in
     pairs ∙ sym (decode_of-even s (omega arith)) ∙ h
 
--- a word behind `at:` is no other fill
+-- a word after `at:` is no other fill
 module _ (word rest : List ℕ) (at : parts_at 58 word ≡ codes "at" ∷ parts_at 58 rest) where
   abbrev IsNoFillAt : Type 0
   IsNoFillAt = (o h bs : List ℕ) (p : ℕ) → parts_at 58 rest ≡ o ∷ h ∷ [] → IsNumber o p → IsHex h bs
       → ⊥
 
-  abbrev IsFillBehind : Fill → Type 0
-  IsFillBehind f = (o h : List ℕ) × (parts_at 58 rest ≡ o ∷ h ∷ []) × IsFillAt o h f
+  abbrev IsFillAfter : Fill → Type 0
+  IsFillAfter f = (o h : List ℕ) × (parts_at 58 rest ≡ o ∷ h ∷ []) × IsFillAt o h f
 
-  found : (f : Fill) → IsFillBehind f → IsFill word f
+  found : (f : Fill) → IsFillAfter f → IsFill word f
   found Keep h = absurd h.3
   found (All b) h = absurd h.3
   found (At o bs) h = (h.0, h.1, at ∙ ap (λ parts. codes "at" ∷ parts) h.2, h.3)
@@ -48,16 +48,16 @@ module _ (word rest : List ℕ) (at : parts_at 58 word ≡ codes "at" ∷ parts_
       other h.0 h.1 bs.items p (let e = sym at ∙ h.2 in cc) h.3.0 h.3.1
 
   picked : (codes "keep" ≢ word) → ((b : ℕ) → decode_of word ≢ Ok (b ∷ [])) → (o : Option Fill)
-      → MatchOption o IsNoFillAt IsFillBehind
+      → MatchOption o IsNoFillAt IsFillAfter
       → Finds o (IsFill word)
   picked keep byte None h = none keep byte h
   picked keep byte (Some f) h = found f h
 
-  pub fill_behind : {E : Type 0} → (codes "keep" ≢ word) → ((b : ℕ) → decode_of word ≢ Ok (b ∷ []))
+  pub fill_after : {E : Type 0} → (codes "keep" ≢ word) → ((b : ℕ) → decode_of word ≢ Ok (b ∷ []))
       → (r : Result (Option Fill) E)
-      → IfOk r (λ o. MatchOption o IsNoFillAt IsFillBehind) → IfOk r (λ o. Finds o (IsFill word))
-  fill_behind keep byte (Ok o) h = picked keep byte o h
-  fill_behind keep byte (Err e) h = tt
+      → IfOk r (λ o. MatchOption o IsNoFillAt IsFillAfter) → IfOk r (λ o. Finds o (IsFill word))
+  fill_after keep byte (Ok o) h = picked keep byte o h
+  fill_after keep byte (Err e) h = tt
 
 -- where nothing was found
 pub where_none : {A : Type 0} (P : A → Type 0) (o : Option A) → Finds o P

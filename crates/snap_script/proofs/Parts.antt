@@ -23,7 +23,7 @@ module _ (p : ℕ → Bool) (xs : List ℕ) where
       let all = ltb-false (position_or_len p xs) (length xs) beyond in
       slice_split_none p xs (λ k d inside. fails_before_first p xs k d (omega (arith, inside, all)))
 
-  -- the first part ends at the place that `position` finds
+  -- the first part ends at the index that `position` finds
   pub splits_at_place : (r : Option ℕ) → r ≡ position_from p 0 xs → SplitsAt r
   splits_at_place r e = rw (e, ← position_from-zero p xs)
       (splits_by (ltb (position_or_len p xs) (length xs)) refl)

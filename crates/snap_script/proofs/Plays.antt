@@ -3,7 +3,7 @@ use Rattle.std.proofs.Common.{◌≡◌, ℕ, Some, List, [], ◌∷◌, ◌++�
 use Rattle.std.proofs.Common.{append-nil}
 use Rattle.snap_script.proofs.Zip.{AllZip-push}
 use Rattle.snap_script.specs.Line.{IsWorldLine, IsEventLine}
-use Rattle.snap_script.specs.Player.{Played}
+use Rattle.snap_script.specs.Interpreter.{Played}
 use Rattle.snap_script.specs.Text.{world_text, line_text, reply_text, replies_text}
 use Rattle.snap_world.proofs.Runs.{Run-append}
 use Rattle.snap_world.specs.Start.{start_state, start_world_phases, AreFormatted}

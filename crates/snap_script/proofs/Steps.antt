@@ -4,10 +4,12 @@ use Rattle.std.specs.Io.KnownBytes.{Appends}
 use Rattle.std.proofs.KnownBytes.{Appends-nil, Appends-trans}
 use Rattle.std.proofs.Math.Seq.{take-append-add}
 use Rattle.std.proofs.lemmas.List.Elements.{All-push}
-use Rattle.snap_script.specs.Player.{Played}
-use Rattle.snap_script.specs.Progress.{HasDone}
-use Rattle.snap_script.specs.Script.{full_lines, IsShort, IsNumberBehind, MayPrint, Prints}
-use Rattle.snap_script.specs.Script.{PrintsPart}
+use Rattle.snap_script.specs.Interpreter.{HaltsAt, Played}
+use Rattle.snap_script.specs.LineBuffer.{HasDone}
+use Rattle.snap_script.specs.Script.{full_lines, IsShort, IsNextNumber, MayPrint, Prints}
+use Rattle.snap_script.specs.Script.{IsUnreadable, PrintsPart}
+use Rattle.snap_script.specs.declared.fault.LineFault.{LineFault}
+use Rattle.snap_script.specs.declared.interpreter.Halt.TheVariants.{Fault}
 use Rattle.snap_world.specs.declared.world.World.{World}
 
 -- nothing was done
@@ -41,6 +43,15 @@ may_print [] text (Some w) h = absurd h
 may_print (first ∷ lines) text None h = absurd h
 may_print (first ∷ lines) text (Some w) h = (_, _, h.2)
 
+-- a line that the interpreter can't read
+pub unreadable : (lines : List (List ℕ)) (text : List ℕ) (world : Option World) (line : List ℕ)
+    (fault : LineFault) → Played lines text world → HaltsAt world line (Fault fault)
+    → IsUnreadable lines line
+unreadable [] text None line fault played halts = halts
+unreadable [] text (Some w) line fault played halts = absurd played
+unreadable (first ∷ lines) text None line fault played halts = absurd played
+unreadable (first ∷ lines) text (Some w) line fault played halts = halts
+
 pub empty_list : (line : List ℕ) → length line ≡ 0 → line ≡ []
 empty_list [] e = refl
 empty_list (b ∷ line) e = absurd (omega arith)
@@ -48,10 +59,10 @@ empty_list (b ∷ line) e = absurd (omega arith)
 pub some_list : (line : List ℕ) → 0 < length line → line ≢ []
 some_list line some e = omega (arith, ap length e)
 
--- behind the lines that were done
+-- after the lines that were done
 module _ {done : List (List ℕ)} {old now : Option (List ℕ)} {world : Option World} {number : ℕ}
     (h : HasDone done old now world number) where
-  pub next_number : (next : ℕ) → next ≡ min (number + 1) (2 ^ 64 - 1) → IsNumberBehind done next
+  pub next_number : (next : ℕ) → next ≡ min (number + 1) (2 ^ 64 - 1) → IsNextNumber done next
   next_number next e = omega (arith, h.count, e)
 
   pub prints : Prints old now (full_lines done)

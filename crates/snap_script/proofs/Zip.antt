@@ -1,4 +1,4 @@
--- Two lists, place by place.
+-- Two lists, index by index.
 use Rattle.std.proofs.Common.{List, [], ◌∷◌, ◌++◌}
 use Rattle.std.specs.List.{AllZip}
 

@@ -1,4 +1,4 @@
--- How the program ends where a script does, and what it says of it.
+-- How the program ends after a script, and what it prints then.
 use Rattle.std.specs.Prelude.{◌≡◌, ℕ, Bool, true, List, Option, None}
 use Rattle.std.specs.Io.KnownBytes.{Keeps}
 use Rattle.snap_order.specs.declared.status.Status.{Status}
@@ -17,9 +17,8 @@ status_of NoMemory = status.Refused
 status_of (ReadFailed error) = status.Failed
 status_of (WriteFailed error) = status.Failed
 
--- What standard error got, by whether it took the line whole: nothing where the script was done, and
--- of want of memory its line. Of the other ends it got a line that begins `snapd: `, with a text of
--- the system or of the script's fault in it.
+-- What standard error got: nothing if the script was done, the refusal's line if memory ran out, and
+-- otherwise a line that begins `snapd: `. `is_told` says whether it took the line whole.
 abbrev pub EndSays : ScriptEnd → (is_told : Bool) (old new : Option (List ℕ)) → Type 0
 EndSays Done is_told old new = (is_told ≡ true) × Keeps old new
 EndSays NoMemory is_told old new = SaysLines (refused_line refusal.NoMemory) is_told old new

@@ -1,9 +1,7 @@
 pub mod Words
 pub mod Line
 pub mod Text
-pub mod Fault
 pub mod Script
-pub mod Player
-pub mod Progress
-pub mod Intake
+pub mod Interpreter
+pub mod LineBuffer
 pub mod Ends

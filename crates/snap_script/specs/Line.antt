@@ -47,7 +47,7 @@ IsActor word (actor.Scanner s) = (digits : List ℕ) × (word ≡ 115 ∷ digits
 abbrev pub IsOneNumber : List (List ℕ) → ℕ → Type 0
 IsOneNumber words i = (word : List ℕ) × (words ≡ word ∷ []) × IsNumber word i
 
--- one number stands behind the verb
+-- one number follows the verb
 abbrev pub TakesNumber : Verb → Type 0
 TakesNumber verb.Call = ⊤
 TakesNumber verb.Show = ⊤
@@ -56,7 +56,7 @@ TakesNumber verb.Scan = ⊤
 TakesNumber verb.Answer = ⊤
 TakesNumber v = ⊥
 
--- the words behind the verb, and the event that they make with it
+-- the words after the verb, and the event that they make with it
 abbrev pub HasForm : Verb → List (List ℕ) → Event → Type 0
 HasForm verb.Begin words e =
     (w hex : List ℕ) × (i : ℕ) × (value : Vec ℕ Global)
@@ -74,7 +74,7 @@ HasForm verb.Pick words e =
     (s mask : List ℕ) × (i : ℕ) × (set : SegmentSet)
     × (e ≡ event.Pick i set) × (words ≡ s ∷ mask ∷ []) × IsNumber s i × IsMask mask set
 HasForm verb.Answer words e = (i : ℕ) × (e ≡ event.Answer i) × IsOneNumber words i
--- each word is the fill at its place
+-- each word is the fill at its index
 HasForm verb.Crash words e =
     (fills : Vec Fill Global) × (e ≡ event.Crash fills)
     × (1 ≤ length words) × AllZip IsFill words fills.items

@@ -1,4 +1,4 @@
--- What a script writes, for each way in which it can end.
+-- What a script writes, for each end.
 use Rattle.std.specs.Prelude.{◌≡◌, ◌≢◌, ◌<◌, ◌≤◌, ◌⊎◌, ℕ, ◌+◌, ◌-◌, ◌^◌, min, List, [], ◌∷◌, ◌++◌}
 use Rattle.std.specs.Prelude.{length, take, All, Option}
 use Rattle.std.specs.List.{AllZip}
@@ -7,7 +7,6 @@ use Rattle.snap_stream.specs.Streams.{Had}
 use Rattle.snap_script.specs.Words.{lines_of}
 use Rattle.snap_script.specs.Line.{IsWorldLine, IsEventLine}
 use Rattle.snap_script.specs.Text.{world_text, line_text, replies_text}
-use Rattle.snap_script.specs.Fault.{IsUnreadable}
 use Rattle.snap_script.specs.declared.run.ScriptEnd.{ScriptEnd}
 use Rattle.snap_script.specs.declared.run.ScriptEnd.TheVariants.{Done, BadLine, TooLong, NoMemory}
 use Rattle.snap_script.specs.declared.run.ScriptEnd.TheVariants.{ReadFailed, WriteFailed}
@@ -41,7 +40,7 @@ pub record Plays (first : List ℕ) (lines : List (List ℕ)) (text : List ℕ) 
   pub devices : List Device
   pub formatted : AreFormatted n devices
   pub events : List Event
-  -- each line is the event at its place
+  -- each line is the event at its index
   pub are_events : AllZip IsEventLine lines events
   pub replies : List Reply
   pub run : Run n (start_configuration n s devices) events replies b
@@ -61,48 +60,51 @@ abbrev pub PrintsPart : Option (List ℕ) → Option (List ℕ) → List (List �
 PrintsPart old new lines =
     (text : List ℕ) × MayPrint lines text × (m : ℕ) × Appends old new (take m text)
 
--- a line may have so many bytes, without its end
+-- the line isn't too long: its bytes are counted without LF
 abbrev pub IsShort : List ℕ → Type 0
 IsShort line = length line ≤ MAX_LINE
 
 -- the text's lines are those done, none of them too long, and then others
-pub record IsAt (text : List ℕ) (done behind : List (List ℕ)) : Type 0 where
-  pub whole : lines_of text ≡ done ++ behind
+pub record IsAt (text : List ℕ) (done after : List (List ℕ)) : Type 0 where
+  pub whole : lines_of text ≡ done ++ after
   pub short : All IsShort done
 
--- the number of the line behind these, from 1, which stops at `u64::MAX`
-abbrev pub IsNumberBehind : List (List ℕ) → ℕ → Type 0
-IsNumberBehind done number = number ≡ min (length done + 1) (2 ^ 64 - 1)
+-- the number of the line after these, counted from 1, which stops at `u64::MAX`
+abbrev pub IsNextNumber : List (List ℕ) → ℕ → Type 0
+IsNextNumber done number = number ≡ min (length done + 1) (2 ^ 64 - 1)
 
--- why the line behind those that were done ends the script: it can't be read, though it isn't too
+-- the line after these can't be read: it makes no world, or is no event
+abbrev pub IsUnreadable : List (List ℕ) → List ℕ → Type 0
+IsUnreadable [] line = (n s : ℕ) → IsWorldLine line n s → ⊥
+IsUnreadable (first ∷ lines) line = (e : Event) → IsEventLine line e → ⊥
+
+-- why the line after those that were done ends the script: it can't be read, though it isn't too
 -- long, or it is too long, or memory ran out in it
 abbrev pub Stops : (done : List (List ℕ)) (line : List ℕ) → ScriptEnd → Type 0
 Stops done line (BadLine number fault) =
-    (line ≢ []) × IsShort line × IsNumberBehind done number
-    × IsUnreadable (full_lines done) line fault
-Stops done line (TooLong number) = (MAX_LINE < length line) × IsNumberBehind done number
+    (line ≢ []) × IsShort line × IsNextNumber done number
+    × IsUnreadable (full_lines done) line
+Stops done line (TooLong number) = (MAX_LINE < length line) × IsNextNumber done number
 Stops done line NoMemory = line ≢ []
 Stops done line end = ⊥
 
 -- these lines of the text were done, and the next one ends the script
-abbrev pub StopsBehind : (text : List ℕ) (done : List (List ℕ)) → ScriptEnd → Type 0
-StopsBehind text done end =
-    (line : List ℕ) × (behind : List (List ℕ)) × IsAt text done (line ∷ behind) × Stops done line end
+abbrev pub StopsAfter : (text : List ℕ) (done : List (List ℕ)) → ScriptEnd → Type 0
+StopsAfter text done end =
+    (line : List ℕ) × (after : List (List ℕ)) × IsAt text done (line ∷ after) × Stops done line end
 
--- How a script ends behind these lines that were done, of which these bytes were read and the rest
--- wasn't.
-abbrev pub EndsBehind : (taken rest : List ℕ) (done : List (List ℕ)) → ScriptEnd → Type 0
+-- How a script ends after these lines were done. `taken` was read, and `rest` wasn't.
+abbrev pub EndsAfter : (taken rest : List ℕ) (done : List (List ℕ)) → ScriptEnd → Type 0
 -- every line was done
-EndsBehind taken rest done Done = IsAt taken done [] × (rest ≡ [])
--- memory ran out at first, or in some line
-EndsBehind taken rest done NoMemory = (done ≡ []) ⊎ StopsBehind (taken ++ rest) done NoMemory
--- the reader failed, and all lines were done but the last one of what was read, which has no end
--- there
-EndsBehind taken rest done (ReadFailed error) = (last : List ℕ) × IsAt taken done (last ∷ [])
+EndsAfter taken rest done Done = IsAt taken done [] × (rest ≡ [])
+-- memory ran out before the first line, or in some line
+EndsAfter taken rest done NoMemory = (done ≡ []) ⊎ StopsAfter (taken ++ rest) done NoMemory
+-- the reader failed, and all lines of what was read were done but the last one, which has no LF
+EndsAfter taken rest done (ReadFailed error) = (last : List ℕ) × IsAt taken done (last ∷ [])
 -- the writer failed in the text of these lines
-EndsBehind taken rest done (WriteFailed error) =
-    (behind : List (List ℕ)) × IsAt (taken ++ rest) done behind
-EndsBehind taken rest done end = StopsBehind (taken ++ rest) done end
+EndsAfter taken rest done (WriteFailed error) =
+    (after : List (List ℕ)) × IsAt (taken ++ rest) done after
+EndsAfter taken rest done end = StopsAfter (taken ++ rest) done end
 
 -- what was written of these lines: their text, or a beginning of it where the writer failed
 abbrev pub EndPrints : (old new : Option (List ℕ)) (lines : List (List ℕ)) → ScriptEnd → Type 0
@@ -112,7 +114,7 @@ EndPrints old new lines end = Prints old new lines
 -- and what a writer that held the old bytes then holds
 abbrev pub Ends : (taken rest : List ℕ) (old new : Option (List ℕ)) → ScriptEnd → Type 0
 Ends taken rest old new end =
-    (done : List (List ℕ)) × EndsBehind taken rest done end
+    (done : List (List ℕ)) × EndsAfter taken rest done end
     × EndPrints old new (full_lines done) end
 
 -- what a script reads and writes, and how it ends

@@ -1,4 +1,4 @@
--- The lines of a script, the words of a line, and what stands in a word.
+-- The lines of a script, the words of a line, and the value of a word.
 use Rattle.std.specs.Prelude.{◌≡◌, ℕ, ◌+◌, ◌*◌, ◌≤◌, ◌==◌, List, [], ◌∷◌, length, codes, Option, Some, None, Ok}
 use Rattle.std.specs.List.{slice_split}
 use Rattle.std.specs.Str.Parse.{IsNumeral, digits_value}
@@ -8,7 +8,7 @@ use Rattle.snap_disk.specs.declared.fill.Fill.{Fill}
 use Rattle.snap_disk.specs.declared.fill.Fill.TheVariants.{Keep, All, At}
 use Rattle.snap_world.specs.set.SegmentSet.{SegmentSet}
 
--- what was found, of which the fact holds, or that it holds of nothing
+-- the fact holds of what was found, or of nothing if nothing was found
 abbrev pub Finds : {A : Type 0} → Option A → (A → Type 0) → Type 0
 Finds None P = (x : _) → P x → ⊥
 Finds (Some x) P = P x
@@ -17,11 +17,11 @@ Finds (Some x) P = P x
 abbrev pub parts_at : ℕ → List ℕ → List (List ℕ)
 parts_at c text = slice_split (λ b. b == c) text
 
--- the lines of a text, which LF parts
+-- the lines of a text, which LF separates
 abbrev pub lines_of : List ℕ → List (List ℕ)
 lines_of text = parts_at 10 text
 
--- the words of a line, which single spaces part
+-- the words of a line, which single spaces separate
 abbrev pub words_of : List ℕ → List (List ℕ)
 words_of line = parts_at 32 line
 

@@ -11,8 +11,8 @@ use std::io::{Read, Write};
 use std::sync::Wait;
 
 impl ScriptEnd {
-    /// Says on standard error why the script ended early, as a complaint, which begins `snapd: `. That
-    /// memory was wanting is said without taking any.
+    /// Prints on `errors` why the script ended early, as a line that begins `snapd: `, and returns the
+    /// program's exit. If memory ran out, this takes none.
     pub fn report<E: Write>(&self, alloc: Global, errors: &mut E) -> Exit
         ensures status { result.status ≡ status_of self.now }
         ensures says { EndSays self.now result.is_told (E.contents errors.old)
@@ -39,9 +39,8 @@ impl ScriptEnd {
     }
 }
 
-/// Runs the script that the reader has, as [`script`] does, and says how the program ends. What the
-/// script prints goes to `writer`, and why it ended early to `errors`, as one line that begins
-/// `snapd: `.
+/// Runs the script that `reader` has, by [`script`], and returns the program's exit. Its output goes to
+/// `writer`. Why it ended early goes to `errors`, as one line that begins `snapd: `.
 pub fn play<X: Wait, R: Read, W: Write, E: Write>(
     rt: &X,
     alloc: Global,

@@ -1,30 +1,25 @@
 //! What can be wrong in a line of a script.
-ghost use Rattle.std.specs.Prelude.{◌≡◌, ℕ, ◌∷◌, List};
 
 use crate::verb::Verb;
 use crate::words::{cut, is};
 use std::fmt;
 
-/// What is wrong in a line that can't be read. It prints as what was wanted there.
+/// Why a line can't be read. It prints as what was expected there.
 #[derive(Clone, Copy, Debug, Drop, PartialEq, Eq)]
 pub enum LineFault {
-    /// The first line that isn't empty is no `world N S`.
+    /// The first line that isn't empty has to be `world N S`, and isn't.
     NoWorld,
     /// A later line begins with `world`.
     SecondWorld,
     /// No event's line begins with this word.
     UnknownWord,
-    /// The words behind this verb aren't those that it takes.
+    /// The words after this verb aren't those that it takes.
     Form(Verb),
 }
 
 impl LineFault {
-    ghost use Rattle.snap_script.specs.Fault.{IsFaultOf};
-
-    /// What is wrong in a line behind the first that is no event's.
-    pub(crate) fn of(line: &[u8]) -> LineFault
-        ensures { IsFaultOf line.now result }
-    {
+    /// The fault of a later line that is no event's.
+    pub(crate) fn of(line: &[u8]) -> LineFault {
         let (word, _) = cut(line, b' ');
         if is(word, "world") {
             return LineFault::SecondWorld;

@@ -1,26 +1,22 @@
 //! Scripts: a world's events as text, one a line, done on a new world, with what each of them
 //! answers.
 //!
-//! [`script`] is how one shows and replays what the world promises: the text that it writes is that
-//! of replies that a new world may give to the events of the lines (specs/Script.antt). The forms
-//! of the lines stand in specs/Line.antt and specs/Words.antt, as the words that a line consists
-//! of, and the printed text in specs/Text.antt. A line is read as an event exactly where its words
-//! have that event's form.
+//! [`script`] shows and replays what the world promises. The text that it writes is that of replies
+//! which a new world may give to the events of the lines (specs/Script.antt). specs/Line.antt and
+//! specs/Words.antt have the form of each line, and specs/Text.antt has the printed text. A line is
+//! read as an event exactly if its words have that event's form.
 //!
-//! [`play`] is the command `script` of the program: it reads a script from one stream, and says on
-//! another why it ended early.
+//! [`play`] is the program's command `script`.
 //!
-//! A line costs the memory of its event's own values and of a reply's, and no more: the text of
-//! each line is made in one list, which is kept.
+//! A line takes the memory of its bytes, of its event's values and of the reply's, and no more.
 #![tactic(auto)]
 
 mod command;
 mod fault;
-mod intake;
+mod interpreter;
 mod line;
-mod player;
+mod line_buffer;
 mod print;
-mod progress;
 mod run;
 mod verb;
 mod words;

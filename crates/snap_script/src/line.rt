@@ -1,4 +1,4 @@
-//! The lines of a script, read.
+//! Reads the lines of a script.
 ghost use Rattle.std.specs.Prelude.{ℕ, ◌≤◌, [], MatchOption, IfOk};
 ghost use Rattle.snap_history.specs.declared.limits.TheConstants.{MAX_COUNT};
 ghost use Rattle.snap_script.specs.Words.{Finds, words_of, IsNumber};
@@ -11,7 +11,7 @@ use snap_history::MAX_COUNT;
 use snap_world::{Actor, Event};
 use std::alloc::{AllocError, Global};
 
-/// How many segments and scanners the world of this line has.
+/// The numbers of segments and scanners of a line `world N S`.
 pub(crate) fn world_line(line: &[u8]) -> Option<(usize, usize)>
     ensures { MatchOption result ((n s : ℕ) → IsWorldLine line.now n s → ⊥)
         (λ world. IsWorldLine line.now world.0 world.1) }
@@ -51,7 +51,7 @@ pub(crate) fn event_line(alloc: Global, line: &[u8]) -> Result<Option<Event>, Al
     }
 }
 
-/// The event of a verb that nothing follows.
+/// The event of a verb without further words.
 fn bare_event(verb: Verb) -> Option<Event>
     ensures { Finds result (HasForm verb []) }
 {
@@ -63,7 +63,7 @@ fn bare_event(verb: Verb) -> Option<Event>
     }
 }
 
-/// The event of a verb and the words behind it.
+/// The event of a verb and the words after it.
 fn event_of(alloc: Global, verb: Verb, operands: &[u8]) -> Result<Option<Event>, AllocError>
     ensures { IfOk result (λ found. Finds found (HasForm verb (words_of operands.now))) }
 {
@@ -134,12 +134,12 @@ fn crash(alloc: Global, operands: &[u8]) -> Result<Option<Event>, AllocError>
     let mut fills = Vec::new(alloc);
     let mut rest = Some(operands);
     while let Some(text) = rest {
-        let (word, behind) = cut(text, b' ');
+        let (word, after) = cut(text, b' ');
         match fill(alloc, word)? {
             Some(fill) => fills.push(fill)?,
             None => return Ok(None),
         }
-        rest = behind;
+        rest = after;
     }
     Ok(Some(Event::Crash(fills)))
 }

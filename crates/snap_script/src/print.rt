@@ -1,4 +1,4 @@
-//! The text of replies.
+//! Prints replies.
 ghost use Rattle.std.specs.Prelude.{◌≡◌, ◌++◌, map, codes, OnOk};
 ghost use Rattle.std.specs.Fmt.{decimal};
 ghost use Rattle.snap_script.specs.Text.{kind_text, line_text, reply_text};
@@ -10,7 +10,7 @@ use snap_hex::put_hex;
 use snap_world::{Kind, PartEntry, Reply, Write};
 use std::alloc::AllocError;
 
-/// Appends the line that a reply is printed as.
+/// Appends a reply's line.
 pub(crate) fn print_reply(out: &mut Vec<u8>, reply: &Reply) -> Result<(), AllocError>
     ensures { OnOk result (out.new.items ≡ out.old.items ++ line_text (reply_text reply.now)) }
 {
@@ -54,7 +54,7 @@ fn put(out: &mut Vec<u8>, text: &[u8]) -> Result<(), AllocError>
     out.extend_from_slice(text)
 }
 
-/// Appends a line of this text and a number.
+/// Appends a line of `text` and a number.
 fn put_number(out: &mut Vec<u8>, text: &[u8], number: u64) -> Result<(), AllocError>
     ensures { OnOk result (out.new.items
         ≡ out.old.items ++ line_text (text.now ++ decimal number)) }
@@ -92,7 +92,7 @@ fn put_memory(out: &mut Vec<u8>, values: &[Vec<u8>]) -> Result<(), AllocError>
     put(out, b"\n")
 }
 
-/// Appends the line of some segments with their values.
+/// Appends the line of a part: segments with their values.
 fn put_part(out: &mut Vec<u8>, entries: &[PartEntry]) -> Result<(), AllocError>
     ensures { OnOk result (out.new.items ≡ out.old.items
         ++ line_text (codes "part" ++ spaced (map entry_text entries.now))) }

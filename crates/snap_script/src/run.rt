@@ -1,10 +1,9 @@
 //! A script, run while it is read.
-ghost use Rattle.std.specs.Prelude.{◌≡◌, ◌<◌, ◌≤◌, IfOk, length, vec_len};
+ghost use Rattle.std.specs.Prelude.{◌≡◌, ◌<◌, IfOk, length, vec_len};
 ghost use Rattle.snap_script.specs.Script.{Runs};
-ghost use Rattle.snap_script.specs.declared.run.TheConstants.{MAX_LINE};
 
 use crate::fault::LineFault;
-use crate::intake::Intake;
+use crate::line_buffer::LineBuffer;
 use std::alloc::{AllocError, Global};
 use std::io::{self, Read, Write};
 use std::sync::Wait;
@@ -13,16 +12,16 @@ use thiserror::Error;
 /// The longest line in bytes, without the LF that ends it.
 pub const MAX_LINE: usize = 1_048_576;
 
-/// How many bytes one read may give.
+/// The most bytes of one read.
 const PIECE: usize = 65_536;
 
-/// How a script ended. Its text is what standard error gets behind `snapd: `, save at
+/// How a script ended. Its text follows `snapd: ` on standard error, except for
 /// [`ScriptEnd::Done`].
 ///
 /// A line's number counts all lines of the input from 1, empty ones too, and stops at `u64::MAX`.
 #[derive(Debug, Drop, Error)]
 pub enum ScriptEnd {
-    /// Every line was done, and the reader is at its end.
+    /// Every line was done, and the reader has no more bytes.
     #[error("every line was done")]
     Done,
     /// A line can't be read. Those before it were done.
@@ -31,7 +30,7 @@ pub enum ScriptEnd {
     /// A line has more than [`MAX_LINE`] bytes. Those before it were done.
     #[error("line {number}: a line has at most 1048576 bytes")]
     TooLong { number: u64 },
-    /// Memory ran out in a line, or at first. What was written is the text of the lines before it.
+    /// Memory ran out in a line, or before the first one. The lines before were done.
     #[error("refused 8 NoMemory")]
     NoMemory,
     /// The reader failed. The lines whose ends were read before were done.
@@ -45,18 +44,17 @@ pub enum ScriptEnd {
 /// Runs a script on a new world while it is read, and writes a line for each of its lines: what
 /// each event answered.
 ///
-/// A script is lines, each of which LF ends (the last one may go without), of words, which single
-/// spaces part. Empty lines are skipped. The first other line is `world N S`, and every other one
-/// is an event; docs/FORMATS.md has their forms, and those of what is written. What is written are
-/// replies that a new world may give to all those events, in the order of the lines.
+/// Each line ends with LF, which the last one may lack, and has words separated by single spaces.
+/// Empty lines are skipped. The first other line is `world N S`, and every later one is an event;
+/// docs/FORMATS.md has their forms, and those of what is written. What is written are replies that a
+/// new world may give to all these events, in the order of the lines.
 ///
-/// Each line whose end has come is done and its text is written and flushed before the next read,
-/// so whoever writes the script can wait for its answer. An error of the reader or of the writer
-/// ends the script with no retry.
+/// Each line is done, and its text is written and flushed, before the next one. So a client that
+/// writes the script can wait for the reply to a line. An error of the reader or of the writer ends
+/// the script with no retry.
 ///
-/// It takes room for one read and for the longest line, however many lines there are, and besides
-/// it what an event's own values and a reply's take. It returns only once the reader ends or
-/// something fails.
+/// It takes memory for one read, for the longest line, and for the values of one event and one reply.
+/// It returns only once the reader has no more bytes or something fails.
 pub fn script<X: Wait, R: Read, W: Write>(
     rt: &X,
     alloc: Global,
@@ -69,18 +67,10 @@ pub fn script<X: Wait, R: Read, W: Write>(
     let Ok(mut piece) = zero_bytes(alloc, PIECE) else {
         return ScriptEnd::NoMemory;
     };
-    let end = run_pieces(rt, alloc, reader, writer, &mut piece);
-    if let ScriptEnd::WriteFailed(_) = end {
-        return end;
-    }
-    match writer.flush() {
-        Ok(()) => end,
-        Err(error) => ScriptEnd::WriteFailed(error),
-    }
+    run_pieces(rt, alloc, reader, writer, &mut piece)
 }
 
-/// Runs a script piece by piece. What was written since the last read isn't flushed yet. `piece` is
-/// where a read puts its bytes.
+/// Runs a script. `piece` is where a read puts its bytes.
 fn run_pieces<X: Wait, R: Read, W: Write>(
     rt: &X,
     alloc: Global,
@@ -88,31 +78,26 @@ fn run_pieces<X: Wait, R: Read, W: Write>(
     writer: &mut W,
     piece: &mut [u8],
 ) -> ScriptEnd
-    requires some { 0 < length piece.old }
-    requires short { length piece.old ≤ MAX_LINE }
+    requires { 0 < length piece.old }
     ensures { Runs (R.remaining reader.old) (R.remaining reader.new)
         (W.contents writer.old) (W.contents writer.new) result }
 {
-    let mut intake = Intake::new(alloc);
+    let mut lines = LineBuffer::new(alloc);
     for _ in rt.forever() {
         let len = match reader.read(piece) {
-            Ok(0) => return intake.finish(writer),
+            Ok(0) => return lines.finish(writer),
             Ok(len) => len,
             Err(error) => return ScriptEnd::ReadFailed(error),
         };
-        match intake.take(&piece[..len], writer) {
+        match lines.take(&piece[..len], writer) {
             Ok(()) => {}
             Err(end) => return end,
-        }
-        match writer.flush() {
-            Ok(()) => {}
-            Err(error) => return ScriptEnd::WriteFailed(error),
         }
     }
     unreachable!()
 }
 
-/// So many zero bytes.
+/// `len` zero bytes.
 fn zero_bytes(alloc: Global, len: usize) -> Result<Vec<u8>, AllocError>
     ensures { IfOk result (λ bytes. vec_len bytes ≡ len) }
 {

@@ -3,7 +3,7 @@ ghost use Rattle.std.specs.Prelude.{◌≡◌, ◌≢◌, MatchOption};
 
 use crate::words::is;
 
-/// The word by which the line of an event begins.
+/// The first word of an event's line.
 #[derive(Clone, Copy, Debug, Drop, PartialEq, Eq)]
 pub enum Verb {
     /// `begin W HEX`
@@ -39,7 +39,7 @@ pub enum Verb {
 impl Verb {
     ghost use Rattle.snap_script.specs.Line.{name_of};
 
-    /// The verb of this name.
+    /// The verb of this word.
     pub(crate) fn named(word: &[u8]) -> Option<Verb>
         ensures { MatchOption result ((v : Verb) → name_of v ≢ word.now)
             (λ v. name_of v ≡ word.now) }
@@ -78,7 +78,7 @@ impl Verb {
         Some(verb)
     }
 
-    /// The form of its line.
+    /// The form of its line, as a fault prints it.
     pub(crate) fn form(self) -> &'static str {
         match self {
             Verb::Begin => "begin W HEX",

@@ -1,4 +1,4 @@
-//! The parts of a text, and what stands in a word.
+//! The parts of a text, and the value of a word.
 ghost use Rattle.std.specs.Prelude.{◌≡◌, ◌≢◌, ◌==◌, ◌+◌, ◌<◌, ◌∷◌, ◌↔◌, [], length, take, drop};
 ghost use Rattle.std.specs.Prelude.{List, ℕ, IsTrue, MatchOption, IfOk};
 ghost use Rattle.std.specs.List.{position_from};
@@ -12,14 +12,14 @@ use snap_hex::read_hex;
 use snap_world::SegmentSet;
 use std::alloc::{AllocError, Global};
 
-/// Whether the word is this name.
+/// Whether `word` is this name.
 pub(crate) fn is(word: &[u8], name: &str) -> bool
     ensures { IsTrue result ↔ (name.now ≡ word.now) }
 {
     name.as_bytes() == word
 }
 
-/// The part before the first such byte, and what follows that byte where there is one.
+/// The part of `text` before the first byte `at`, and what follows that byte, if there is one.
 pub(crate) fn cut(text: &[u8], at: u8) -> (&[u8], Option<&[u8]>)
     ensures { MatchOption result.1 (parts_at at text.now ≡ result.0.now ∷ [])
         (λ rest. parts_at at text.now ≡ result.0.now ∷ parts_at at rest.now) }
@@ -30,14 +30,14 @@ pub(crate) fn cut(text: &[u8], at: u8) -> (&[u8], Option<&[u8]>)
     }
 }
 
-/// Where the first such byte stands.
+/// The index of the first such byte.
 fn place_of(text: &[u8], byte: u8) -> Option<usize>
     ensures { result ≡ position_from (λ b. b == byte) 0 text.now }
 {
     text.iter().position(|b| *b == byte)
 }
 
-/// The one part of a text without such a byte.
+/// The whole text, if it has no byte `at`.
 pub(crate) fn one_part(text: &[u8], at: u8) -> Option<&[u8]>
     ensures { MatchOption result ((a : List ℕ) → parts_at at text.now ≢ a ∷ [])
         (λ part. parts_at at text.now ≡ part.now ∷ []) }
@@ -49,7 +49,7 @@ pub(crate) fn one_part(text: &[u8], at: u8) -> Option<&[u8]>
     }
 }
 
-/// The two parts of a text with one such byte.
+/// The parts before and after the only byte `at`.
 pub(crate) fn two_parts(text: &[u8], at: u8) -> Option<(&[u8], &[u8])>
     ensures { MatchOption result ((a b : List ℕ) → parts_at at text.now ≢ a ∷ b ∷ [])
         (λ parts. parts_at at text.now ≡ parts.0.now ∷ parts.1.now ∷ []) }
@@ -59,7 +59,7 @@ pub(crate) fn two_parts(text: &[u8], at: u8) -> Option<(&[u8], &[u8])>
     Some((first, second))
 }
 
-/// The number that 1 to 19 decimal digits stand for.
+/// The number of 1 to 19 decimal digits.
 pub(crate) fn number(word: &[u8]) -> Option<u64>
     ensures { Finds result (IsNumber word.now) }
 {
@@ -74,7 +74,7 @@ pub(crate) fn number(word: &[u8]) -> Option<u64>
     Some(value)
 }
 
-/// The fill that a word stands for.
+/// The fill of a word: `keep`, two hexadecimal digits, or `at:OFFSET:HEX`.
 pub(crate) fn fill(alloc: Global, word: &[u8]) -> Result<Option<Fill>, AllocError>
     ensures { IfOk result (λ found. Finds found (IsFill word.now)) }
 {
@@ -94,7 +94,7 @@ pub(crate) fn fill(alloc: Global, word: &[u8]) -> Result<Option<Fill>, AllocErro
     fill_at(alloc, rest)
 }
 
-/// The byte that two hexadecimal digits stand for.
+/// The byte of two hexadecimal digits.
 fn one_byte(word: &[u8]) -> Option<u8>
     ensures { Finds result (λ b. decode_of word.now ≡ Ok (b ∷ [])) }
 {
@@ -105,7 +105,7 @@ fn one_byte(word: &[u8]) -> Option<u8>
     }
 }
 
-/// The fill of an offset and bytes, which a colon parts.
+/// The fill of `OFFSET:HEX`.
 fn fill_at(alloc: Global, text: &[u8]) -> Result<Option<Fill>, AllocError>
     ensures { IfOk result (λ found. MatchOption found
         ((o h bs : List ℕ) (p : ℕ) → parts_at 58 text.now ≡ o ∷ h ∷ []
@@ -124,7 +124,7 @@ fn fill_at(alloc: Global, text: &[u8]) -> Result<Option<Fill>, AllocError>
     }
 }
 
-/// The set that four hexadecimal digits stand for.
+/// The set of four hexadecimal digits.
 pub(crate) fn mask(word: &[u8]) -> Option<SegmentSet>
     ensures { Finds result (IsMask word.now) }
 {

@@ -6,8 +6,7 @@ use crate::file_system::{file_system_of, is_taken, keeps_locks, remedy_of, try_a
 use crate::folder::{FolderTrouble, SegmentContents, contents_of, order_of, segment_files};
 use crate::store_times::{MeasureFault, STORED_LEN, STORES, measure};
 use snap_devices::FileFault;
-use snap_file_commands::CommandFailure;
-use snap_folder::SegmentPlace;
+use snap_file_commands::{CommandFailure, SegmentPlace};
 use snap_order::{Examination, Status};
 use std::io::{self, ErrorKind};
 

@@ -10,10 +10,11 @@ use crate::folder::{FolderTrouble, files_in_order, segment_files};
 use crate::tries::Patience;
 use jiff::Timestamp;
 use snap_devices::{FileDisk, FileFault, Lock};
+use snap_disk::Disk;
 use snap_dump::{DumpFault, document, read};
 use snap_file_commands::{CommandFailure, held_value};
 use snap_frame::SegmentValue;
-use snap_order::{Dumping, Holder, Status};
+use snap_order::{Dumping, FileOrder, Holder, Status};
 use snap_stream::write_whole;
 use std::alloc::Global;
 use std::fmt::InlineText;
@@ -135,10 +136,15 @@ fn read_file<'f>(
         Ok(disk) => disk.telling(told.place()),
         Err(fault) => return Err(fail_at_locked(rt, file, &fault)),
     };
-    let mut errors = rt.stderr();
-    match held_value(alloc, file, index, count, disk, told, &mut errors) {
+    let len = disk.len();
+    match held_value(alloc, index, count, disk) {
         (disk, Ok(value)) => Ok((disk, value)),
-        (_, Err(ended)) => Err(ended.status),
+        (_, Err(why)) => {
+            let order = FileOrder::Get { file, index, count };
+            let refused = CommandFailure::Refused(why);
+            let ended = refused.report_of(alloc, &order, len, told, &mut rt.stderr());
+            Err(ended.status)
+        }
     }
 }
 

@@ -1,9 +1,9 @@
 //! Folders with the files of all segments: `init` makes them, and `serve --dir` opens them.
 //!
 //! Only the header of a file says which segment it is, so the files may have any names that end in
-//! `.seg`. `snap_folder` judges the headers; this module reads them.
+//! `.seg`. `snap_file_commands` judges the headers; this module reads them.
 ghost use Rattle.std.specs.Prelude.{◌≡◌, ◌<◌, ◌≤◌, All, IfOk, length};
-ghost use Rattle.snap_folder.specs.Order.{IsFaultOf};
+ghost use Rattle.snap_file_commands.specs.SegmentOrder.{IsNameable};
 ghost use Rattle.snap_order.specs.Limits.{MAX_COUNT};
 
 use crate::complaint::fail_at_folder;
@@ -11,7 +11,9 @@ use crate::files::FirstFault;
 use crate::folder_refusal::{FileRefusal, FolderRefusal, Pair};
 use snap_devices::{FileDisk, FileFault, Lock, sync_folder_of};
 use snap_disk::{Disk, Refusal};
-use snap_folder::{FolderFault, SegmentPlace, file_name, is_further, is_segment_name, order_files};
+use snap_file_commands::{
+    FolderFault, SegmentPlace, file_name, is_further, is_segment_name, order_files,
+};
 use snap_order::{OLD_FILE_LEN, Status};
 use snap_segment::{Findings, Header, check};
 use snap_stream::Cause;
@@ -271,7 +273,7 @@ fn trouble_of<'f>(
     places: &[SegmentPlace],
     fault: FolderFault,
 ) -> FolderTrouble<'f>
-    requires { IsFaultOf places.now fault }
+    requires { IsNameable fault }
 {
     let pair = |first, second| pair_of(folder, files, places, first, second);
     FolderTrouble::Refused(match fault {

@@ -11,8 +11,8 @@ use crate::folder::{
 };
 use crate::folder_refusal::{FileRefusal, FolderRefusal};
 use snap_devices::FileFault;
-use snap_file_commands::found;
-use snap_folder::sign_of_loss;
+use snap_disk::Disk;
+use snap_file_commands::{finish, found, sign_of_loss};
 use snap_order::{FileOrder, Founding, Status};
 use snap_segment::{Findings, Header, Slot};
 use std::alloc::{AllocError, Global};
@@ -290,15 +290,7 @@ fn found_at(rt: &HostRuntime, file: &str, index: u8, count: u8) -> Status
         Ok(disk) => disk,
         Err(status) => return status,
     };
-    let (_disk, ended) = found(
-        rt.alloc(),
-        file,
-        index,
-        count,
-        disk,
-        &told,
-        &mut rt.stdout(),
-        &mut rt.stderr(),
-    );
-    ended.status
+    let len = disk.len();
+    let (_disk, end) = found(rt.alloc(), disk, index, count, &mut rt.stdout());
+    finish(rt.alloc(), &order, len, end, &told, &mut rt.stderr()).status
 }

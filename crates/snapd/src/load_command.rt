@@ -13,8 +13,9 @@ use crate::files::{FirstFault, take_file};
 use crate::folder::segment_path;
 use crate::loading_folder::{LoadRefusal, LoadingFolder};
 use snap_devices::FileFault;
+use snap_disk::Disk;
 use snap_dump::{Dump, DumpFault, MAX_DUMP_LEN, read};
-use snap_file_commands::{CommandFailure, LoadedFile};
+use snap_file_commands::{CommandFailure, LoadedFile, finish};
 use snap_frame::SegmentValue;
 use snap_order::{FileOrder, Loading, Status};
 use snap_stream::{read_up_to, write_whole};
@@ -143,27 +144,20 @@ fn make_file(rt: &HostRuntime, file: &str, index: u8, count: u8, values: &[Segme
 {
     let told = FirstFault::new();
     let order = FileOrder::Format { file, index, count };
-    let disk = match take_file(rt, &order, file, &told) {
+    let mut disk = match take_file(rt, &order, file, &told) {
         Ok(disk) => disk,
         Err(status) => return status,
     };
     let (number, value) = value_at(values, index);
     let of = LoadedFile {
-        file,
         index,
         count,
         number,
         value,
     };
-    let (_disk, ended) = snap_file_commands::load(
-        rt.alloc(),
-        &of,
-        disk,
-        &told,
-        &mut rt.stdout(),
-        &mut rt.stderr(),
-    );
-    ended.status
+    let end = snap_file_commands::load(rt.alloc(), &of, &mut disk, &mut rt.stdout());
+    let len = disk.len();
+    finish(rt.alloc(), &order, len, end, &told, &mut rt.stderr()).status
 }
 
 /// The number and value of this segment, or number 0 and the empty value after the last one.

@@ -3,7 +3,7 @@
 use crate::complaint::{fail_at, fail_at_folder, say, stop_without_memory};
 use crate::folder::{index_of_name, make_folder};
 use snap_devices::{FileFault, sync_folder_of};
-use snap_folder::MAX_COUNT;
+use snap_file_commands::MAX_COUNT;
 use snap_order::Status;
 use std::fs::{self, DirEntry, File, Metadata, TryLockError};
 use std::io::{self, ErrorKind};

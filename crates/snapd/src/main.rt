@@ -52,7 +52,8 @@ use load_command::load;
 use right_order::say_right_order;
 use serve_command::{serve, take_files};
 use snap_args::{WordFault, lack_of, order};
-use snap_file_commands::{Causes, CommandFailure, act, act_pair};
+use snap_disk::Disk;
+use snap_file_commands::{Causes, CommandFailure, act, act_pair, finish};
 use snap_order::{
     Calling, Dumping, Examination, FileOrder, Founding, Holder, Loading, Migration, Order, Serving,
     Status, Watching,
@@ -143,16 +144,10 @@ fn run<'a>(rt: &'a HostRuntime, order: &FileOrder<'a>) -> Status
         Ok(disk) => disk,
         Err(status) => return status,
     };
-    let (_disk, ended) = act(
-        rt.alloc(),
-        order,
-        disk,
-        &told,
-        &mut rt.stdin(),
-        &mut rt.stdout(),
-        &mut rt.stderr(),
-    );
-    ended.status
+    let len = disk.len();
+    let (mut reader, mut writer) = (rt.stdin(), rt.stdout());
+    let (_disk, end) = act(rt.alloc(), order, disk, &mut reader, &mut writer);
+    finish(rt.alloc(), order, len, end, &told, &mut rt.stderr()).status
 }
 
 /// Does the order `migrate`.
@@ -168,20 +163,19 @@ fn run_migration<'a>(rt: &'a HostRuntime, order: &Migration<'a>) -> Status
         Ok(pair) => pair,
         Err(status) => return status,
     };
+    let (_old, _new, end) = act_pair(rt.alloc(), order, old, new, &mut rt.stdout());
     let causes = Causes {
         old: &told_old,
         new: &told_new,
     };
-    let (_old, _new, ended) = act_pair(
-        rt.alloc(),
-        order,
-        old,
-        new,
-        &causes,
-        &mut rt.stdout(),
-        &mut rt.stderr(),
-    );
-    ended.status
+    match end {
+        Ok(status) => status,
+        Err(failure) => {
+            failure
+                .report(rt.alloc(), order, &causes, &mut rt.stderr())
+                .status
+        }
+    }
 }
 
 /// Does the order `init`.

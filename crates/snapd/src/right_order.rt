@@ -3,7 +3,7 @@ ghost use Rattle.std.specs.Prelude.{◌<◌, All, length};
 
 use crate::complaint::say;
 use crate::folder::contents_of;
-use snap_folder::{SegmentPlace, order_files};
+use snap_file_commands::{SegmentPlace, order_files};
 use snap_order::Serving;
 use std::alloc::{AllocError, Global};
 

@@ -1,4 +1,4 @@
-//! What a desk answers while its storers work, fail or are held, and which writers come back.
+//! What a desk answers while its storers work, fail or are held, and which writers return.
 mod course;
 mod seats;
 
@@ -19,7 +19,7 @@ use std::sync::{Arc, Wait};
 use std::test::Fail;
 use std::thread::Threads;
 
-/// How long a held store waits: so many turns of yielding.
+/// For how many turns of yielding a held store waits.
 const TURNS: u64 = 1_000_000;
 
 /// Two new files as devices whose stores may begin once the flag is set. The first one's may fail.
@@ -108,13 +108,13 @@ fn answers_of_a_desk_are_counted(rt: HostRuntime) -> Result<(), Fail> {
     let (asked, replies) = halves(rt.alloc(), &IN_ORDER)?;
     let seen = run(&rt, Course::Talk, asked.as_slice(), false, 1)?;
     let mut wanted = tally_in_order(asked.as_slice(), replies.as_slice());
-    // the scan looks at both segments twice
+    // the scan takes two looks at both registers
     wanted.looks = 4;
     assert!(rt; seen.tally == wanted, "{:?}", seen.tally);
     Ok(())
 }
 
-/// What is said while the first segment's first store fails, and behind it.
+/// What is asked and answered while the first segment's first store fails, and after it.
 const FAULT: [Pair<'static>; 5] = [
     (HI, FAILED),
     (SCAN, EMPTY),
@@ -167,7 +167,7 @@ fn writer_goes_home_from_a_worker_that_left(rt: HostRuntime) -> Result<(), Fail>
     Ok(())
 }
 
-/// What the windows of storers that are gone are asked, and what a look answers.
+/// What is asked and answered after the storers were dropped.
 const ALONE: [Pair<'static>; 3] = [(HI, FENCED), (REPEAT, STORED_0), (SCAN, EMPTY)];
 
 #[test]

@@ -25,7 +25,7 @@ pub(crate) const EMPTY: &[u8] = &[
     0, 0, 0, 26, 0x82, 2, 0, 0, 0, 0, 0, 0, 0, 0, 0, 0, 0, 0, 0, 0, 0, 0, 0, 0, 0, 0, 0, 0, 0, 0,
 ];
 
-/// The snapshot behind the update.
+/// The snapshot after the update.
 pub(crate) const SNAPSHOT_HI: &[u8] = &[
     0, 0, 0, 28, 0x82, 2, 0, 0, 0, 0, 0, 0, 0, 1, 0, 0, 0, 2, 0x68, 0x69, 0, 0, 0, 0, 0, 0, 0, 0,
     0, 0, 0, 0,
@@ -39,7 +39,7 @@ pub(crate) const CONFLICT: Pair<'static> = (
     &[0, 0, 0, 10, 0xE0, 4, 0, 0, 0, 0, 0, 0, 0, 1],
 );
 
-/// Number 3 behind number 1.
+/// Number 3 after number 1.
 pub(crate) const OUT_OF_STEP: Pair<'static> = (
     &[0, 0, 0, 10, 1, 0, 0, 0, 0, 0, 0, 0, 0, 3],
     &[0, 0, 0, 10, 0xE0, 5, 0, 0, 0, 0, 0, 0, 0, 1],
@@ -51,7 +51,7 @@ pub(crate) const NO_SEGMENT: Pair<'static> = (
     &[0, 0, 0, 10, 0xE0, 2, 0, 0, 0, 0, 0, 0, 0, 2],
 );
 
-/// A status behind the update.
+/// A status after the update.
 pub(crate) const STATUS_HI: Pair<'static> = (
     STATUS,
     &[
@@ -59,7 +59,7 @@ pub(crate) const STATUS_HI: Pair<'static> = (
     ],
 );
 
-/// The frames, one behind the other.
+/// The frames in a row.
 pub(crate) fn joined(alloc: Global, frames: &[&[u8]]) -> Result<Vec<u8>, AllocError> {
     let mut all = Vec::new(alloc);
     for frame in frames {
@@ -68,7 +68,7 @@ pub(crate) fn joined(alloc: Global, frames: &[&[u8]]) -> Result<Vec<u8>, AllocEr
     Ok(all)
 }
 
-/// The requests, one behind the other, and their replies.
+/// The requests in a row, and their replies.
 pub(crate) fn halves(alloc: Global, talk: &[Pair<'_>]) -> Result<(Vec<u8>, Vec<u8>), AllocError> {
     let mut requests = Vec::new(alloc);
     let mut replies = Vec::new(alloc);

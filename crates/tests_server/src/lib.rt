@@ -1,19 +1,32 @@
-//! The tests of what serves: of `snap_service`, `snap_desk`, `snap_server`, `snap_spin` and
-//! `snap_figures`, by their public items alone. The tests of a room share a crate, since each crate of
-//! tests reads all libraries below it.
+//! The tests of a server: requests and storers (`snap_service`, `snap_desk`, `snap_spin`), connections (`snap_server`),
+//! metrics (`snap_figures`), HTTP (`snap_board`, `snap_http`), and what of `snap_args`, `snap_file_commands` and
+//! `snap_serve` no command shows. What the program prints is compared to the byte by the end-to-end
+//! tests, `tests/`.
 #![tactic(auto)]
 
+#[cfg(test)]
+mod board;
 #[cfg(test)]
 mod desk;
 #[cfg(test)]
 mod figures;
 #[cfg(test)]
+mod file_commands;
+#[cfg(test)]
+mod folder;
+#[cfg(test)]
 mod frames;
+#[cfg(test)]
+mod serve;
 #[cfg(test)]
 mod server;
 #[cfg(test)]
 mod service;
 #[cfg(test)]
+mod site;
+#[cfg(test)]
 mod spin;
 #[cfg(test)]
 mod stores;
+#[cfg(test)]
+mod words;

@@ -21,7 +21,7 @@ use std::sync::Wait;
 use std::thread::Threads;
 use std::time::Duration;
 
-/// So many services, and the store to which they hand updates over.
+/// `workers` services, and the store that gets their updates.
 fn shops<'a, R: Wait>(
     rt: &'a R,
     alloc: Global,
@@ -44,7 +44,7 @@ fn shops<'a, R: Wait>(
     Ok((shops, stores))
 }
 
-/// So many connections in all, as many at once as come, and no rest after a fault.
+/// `connections` in all, up to 1,000 at once, and no rest after a fault.
 fn limits(connections: Option<u64>) -> Limits {
     Limits {
         connections,
@@ -54,7 +54,7 @@ fn limits(connections: Option<u64>) -> Limits {
     }
 }
 
-/// Runs a server with so many workers and one store behind a gate.
+/// Runs a server with `workers` workers and one store behind a gate.
 fn serve_behind<
     R: Threads + Wait + Clock + Net + AllocGlobal + Sync,
     L: Listen + Drop,
@@ -103,13 +103,13 @@ fn serve<R: Threads + Wait + Clock + Net + AllocGlobal + Sync, L: Listen + Drop>
 }
 
 /// A listener at a port that the system picks, and its address.
-fn listen(rt: &HostRuntime) -> io::Result<(Tcp, SocketAddr)> {
+pub(crate) fn listen(rt: &HostRuntime) -> io::Result<(Tcp, SocketAddr)> {
     let tcp = Tcp::bind(rt, SocketAddr::from((Ipv4Addr::LOCALHOST, 0)))?;
     let address = tcp.address()?;
     Ok((tcp, address))
 }
 
-fn connect(rt: &HostRuntime, address: SocketAddr) -> io::Result<TcpStream> {
+pub(crate) fn connect(rt: &HostRuntime, address: SocketAddr) -> io::Result<TcpStream> {
     TcpStream::connect(rt, address)
 }
 
@@ -126,4 +126,12 @@ fn received(rt: &HostRuntime, mut stream: TcpStream) -> io::Result<Vec<u8>> {
     let mut bytes = Vec::new(rt.alloc());
     stream.read_to_end(&mut bytes)?;
     Ok(bytes)
+}
+
+/// Whether these bytes come next.
+pub(crate) fn gets(mut stream: &TcpStream, wanted: &[u8]) -> io::Result<bool> {
+    let mut bytes = [0u8; 64];
+    let len = wanted.len();
+    stream.read_exact(&mut bytes[..len])?;
+    Ok(&bytes[..len] == wanted)
 }

@@ -1,12 +1,7 @@
 //! Sessions with a node over new files.
-ghost use Rattle.std.specs.Prelude.{◌≡◌, ◌^◌, ◌-◌, ◌<◌, ◌≤◌, All, length, IfOk};
-ghost use Rattle.snap_frame.specs.Messages.{payload, max_payload, IsAskable};
-ghost use Rattle.snap_restart.specs.Closed.{AreBack};
-ghost use Rattle.snap_service.specs.Memory.{AreWriters, IsOf};
-
 use crate::frames::{
     CONFLICT, FAILED, FENCED, HI, NO_SEGMENT, OUT_OF_STEP, Pair, REPEAT, SCAN, SNAPSHOT_HI, STATUS,
-    STATUS_HI, STORED_0, STORED_1, halves,
+    STATUS_HI, STORED_0, STORED_1, halves, joined,
 };
 use crate::stores::{failing, new_files, open};
 use bytes::Bytes;
@@ -51,10 +46,7 @@ fn serve_bytes<M: Memory, R: Wait>(
     writers: Vec<Writer<MemDisk>>,
     scanner: Scanner,
     input: &[u8],
-) -> Result<Served, AllocError>
-    requires writers { AreWriters M.table M.plan writers.items }
-    requires scanner { IsOf M.table M.plan scanner }
-{
+) -> Result<Served, AllocError> {
     let Ok(shared) = Shared::<M, MemDisk>::new(alloc, writers) else {
         return Err(AllocError);
     };
@@ -75,9 +67,7 @@ fn serve_store<R: Wait>(
     alloc: Global,
     mut store: Store<MemDisk>,
     input: &[u8],
-) -> Result<Served, AllocError>
-    requires { AreBack store.writers.items store.scanners.items }
-{
+) -> Result<Served, AllocError> {
     let writers = mem::replace(&mut store.writers, Vec::new(alloc));
     match store.scanners.pop() {
         Some(scanner) => serve_bytes::<Brand, R>(rt, alloc, writers, scanner, input),
@@ -145,11 +135,16 @@ fn vectors_in_order(rt: HostRuntime) -> Result<(), Fail> {
     Ok(())
 }
 
+/// A scan of segment 1.
+const PART: &[u8] = &[0, 0, 0, 3, 4, 0, 2];
+
+/// The scanner returns from its node. If nothing changes, a scan takes two looks a segment.
 #[test]
-fn scanner_comes_back_from_its_node(rt: HostRuntime) -> Result<(), Fail> {
-    let served = serve_files(&rt, new_files(rt.alloc(), 2)?, SCAN)?;
-    // A scan of two segments in which nothing moves makes two collects.
-    assert!(rt; served.looks_left == (1 << 50) - 4);
+fn scans_take_two_looks_a_segment(rt: HostRuntime) -> Result<(), Fail> {
+    for (request, looks) in [(SCAN, 4), (PART, 2)] {
+        let served = serve_files(&rt, new_files(rt.alloc(), 2)?, request)?;
+        assert!(rt; served.looks_left == (1 << 50) - looks);
+    }
     Ok(())
 }
 
@@ -159,7 +154,7 @@ fn partial_frames(rt: HostRuntime) -> Result<(), Fail> {
     let talk: [Pair<'_>; 4] = [
         (HI, STORED_1),
         (
-            &[0, 0, 0, 3, 4, 0, 2],
+            PART,
             &[0, 0, 0, 15, 0x84, 1, 1, 0, 0, 0, 0, 0, 0, 0, 0, 0, 0, 0, 0],
         ),
         (
@@ -172,14 +167,7 @@ fn partial_frames(rt: HostRuntime) -> Result<(), Fail> {
     Ok(())
 }
 
-#[test]
-fn scan_of_one_segment_takes_two_looks(rt: HostRuntime) -> Result<(), Fail> {
-    let served = serve_files(&rt, new_files(rt.alloc(), 2)?, &[0, 0, 0, 3, 4, 0, 2])?;
-    assert!(rt; served.looks_left == (1 << 50) - 2);
-    Ok(())
-}
-
-/// What is said while the only segment's first store fails, and behind it.
+/// What is asked and answered while the only segment's first store fails, and after it.
 const FAULT: [Pair<'static>; 6] = [
     (HI, FAILED),
     (
@@ -205,61 +193,57 @@ fn fault_fences_the_segment(rt: HostRuntime) -> Result<(), Fail> {
     Ok(())
 }
 
-/// What a client says of the request: the bytes that it writes, and its answer to these bytes.
-fn call(alloc: Global, request: &Request, replies: Vec<u8>) -> (Vec<u8>, Result<Reply, ClientFault>)
-    requires fits { length (payload request.now) ≤ max_payload }
-    requires askable { IsAskable request.now }
-{
-    let mut client = Client::new(alloc, stream(replies), stream(Vec::new(alloc)));
+/// What a client writes for the request, and its answer to these bytes.
+fn call(
+    alloc: Global,
+    request: &Request,
+    replies: &[u8],
+) -> Result<(Vec<u8>, Result<Reply, ClientFault>), AllocError> {
+    let reader = stream(Vec::from_slice(alloc, replies)?);
+    let mut client = Client::new(alloc, reader, stream(Vec::new(alloc)));
     let answer = client.call(request);
     let (_, writer) = client.into_parts();
-    (writer.bytes, answer)
+    Ok((writer.bytes, answer))
 }
 
-/// The answer of a client to the request, with a node over new files of two segments behind it that
-/// was asked these frames before.
+/// The answer of a client to the request, with a node over new files of two segments that was asked these frames
+/// before.
 fn call_node(
     rt: &(impl Abort + AllocGlobal + Wait),
     before: &[u8],
     request: &Request,
-) -> Result<Reply, Fail>
-    requires fits { length (payload request.now) ≤ max_payload }
-    requires askable { IsAskable request.now }
-{
-    let (asked, fault) = call(rt.alloc(), request, Vec::new(rt.alloc()));
+) -> Result<Reply, Fail> {
+    let (asked, fault) = call(rt.alloc(), request, &[])?;
     assert!(rt; fault == Err(ClientFault::Ended));
-    let mut input = Vec::from_slice(rt.alloc(), before)?;
-    let skipped = serve_files(rt, new_files(rt.alloc(), 2)?, before)?.written;
-    input.extend_from_slice(&asked)?;
+    let skipped = serve_files(rt, new_files(rt.alloc(), 2)?, before)?
+        .written
+        .len();
+    let input = joined(rt.alloc(), &[before, &asked])?;
     let written = serve_files(rt, new_files(rt.alloc(), 2)?, &input)?.written;
-    let mut replies = Vec::new(rt.alloc());
-    for byte in written.iter().skip(skipped.len()) {
-        replies.push(*byte)?;
-    }
-    let (_, answer) = call(rt.alloc(), request, replies);
+    let (_, answer) = call(rt.alloc(), request, &written[skipped..])?;
     match answer {
         Ok(reply) => Ok(reply),
         Err(_) => panic!(rt; "no answer"),
     }
 }
 
-// A node that refuses each new update as `Worn`, or each scan as `NoMemory`, and does nothing meets
-// every clause of `Answers`: looks and memory may be wanting. That no node gives up so is shown by
-// the two tests below alone, and that it asks for memory only where it has to by
-// tests/test_service_allocations.py.
+// A node that refuses each new update as `Worn`, or each scan as `NoMemory`, and does nothing meets every clause of
+// `Answers`: there may be no looks and no memory left. Only the first two of these tests show that no node gives up so,
+// and only tests/test_service_allocations.py shows that it asks for memory only if it has to.
 
 #[test]
 fn node_gives_up_no_new_update(rt: HostRuntime) -> Result<(), Fail> {
-    let value = Bytes::copy_from_slice(rt.alloc(), b"hi")?;
-    assert!(rt; value.len() == 2);
     let request = Request::Update {
         segment: 0,
         number: 1,
-        value,
+        value: Bytes::copy_from_slice(rt.alloc(), b"hi")?,
     };
     assert!(rt; call_node(&rt, &[], &request)? == Reply::Stored(1));
     Ok(())
 }
+
+/// The numbers and the values of both segments after the update.
+const AFTER: [(u64, &[u8]); 2] = [(1, b"hi"), (0, b"")];
 
 #[test]
 fn node_gives_up_no_scan(rt: HostRuntime) -> Result<(), Fail> {
@@ -267,8 +251,9 @@ fn node_gives_up_no_scan(rt: HostRuntime) -> Result<(), Fail> {
         panic!(rt; "no snapshot")
     };
     assert!(rt; values.len() == 2);
-    assert!(rt; values[0].number == 1 && values[0].value.as_slice() == b"hi".as_slice());
-    assert!(rt; values[1].number == 0 && values[1].value.is_empty());
+    for (given, want) in values.iter().zip(AFTER) {
+        assert!(rt; given.number == want.0 && given.value.as_slice() == want.1);
+    }
     Ok(())
 }
 
@@ -278,24 +263,24 @@ fn client_asks_a_node_for_its_status(rt: HostRuntime) -> Result<(), Fail> {
         panic!(rt; "no status")
     };
     assert!(rt; statuses.len() == 2);
-    assert!(rt; statuses[0].number == 1 && !statuses[0].is_fenced);
-    assert!(rt; statuses[1].number == 0 && !statuses[1].is_fenced);
+    for (given, want) in statuses.iter().zip(AFTER) {
+        assert!(rt; given.number == want.0 && !given.is_fenced);
+    }
     Ok(())
 }
 
 #[test]
 fn client_asks_a_node_for_some_segments(rt: HostRuntime) -> Result<(), Fail> {
-    let both = Request::Part(SegmentSet { bits: 3 });
-    let Reply::Part(values) = call_node(&rt, HI, &both)? else {
-        panic!(rt; "no part")
-    };
-    assert!(rt; values.len() == 2);
-    assert!(rt; values[0].segment == 0 && values[0].value.as_slice() == b"hi".as_slice());
-    assert!(rt; values[1].segment == 1 && values[1].number == 0 && values[1].value.is_empty());
-    let first = Request::Part(SegmentSet { bits: 1 });
-    let Reply::Part(values) = call_node(&rt, HI, &first)? else {
-        panic!(rt; "no part")
-    };
-    assert!(rt; values.len() == 1 && values[0].segment == 0 && values[0].number == 1);
+    for (bits, count) in [(3, 2), (1, 1)] {
+        let request = Request::Part(SegmentSet { bits });
+        let Reply::Part(values) = call_node(&rt, HI, &request)? else {
+            panic!(rt; "no part")
+        };
+        assert!(rt; values.len() == count);
+        for (segment, (given, want)) in values.iter().zip(AFTER).enumerate() {
+            assert!(rt; usize::from(given.segment) == segment && given.number == want.0);
+            assert!(rt; given.value.as_slice() == want.1);
+        }
+    }
     Ok(())
 }

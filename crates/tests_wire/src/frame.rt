@@ -1,225 +1,143 @@
-//! The worked vectors of docs/FORMATS.md, "Frames and messages", cut everywhere.
-ghost use Rattle.snap_frame.specs.Messages.{IsInLimits};
+//! The worked vectors of docs/FORMATS.md, "Frames and messages": cut everywhere, written again, and without memory.
 
-mod partial;
+mod longest;
+mod messages;
 mod random;
-mod written;
 
-use crate::streams::joined;
-use bytes::{Bytes, BytesMut};
+use crate::streams::{Host, joined};
+use bytes::BytesMut;
+use messages::{Answer, SCAN, STORED, pieces_of, replies, requests, update};
 use snap_disk::Refusal;
 use snap_frame::{
-    Failure, Feed, Reply, ReplyFault, ReplyFeed, Request, SegmentStatus, SegmentValue, write_reply,
+    Failure, Feed, Reply, ReplyFault, ReplyFeed, Request, write_reply, write_request,
 };
-use std::alloc::{AllocError, Global};
-use std::process::Abort;
+use std::alloc::Global;
 use std::test::Fail;
 
-/// The frames of requests on one connection, but the one with the long value and the length that
-/// is too large.
-pub(crate) const REQUEST_FRAMES: [&[u8]; 9] = [
-    &[0, 0, 0, 0x0C, 1, 0, 0, 0, 0, 0, 0, 0, 0, 1, 0x68, 0x69],
-    &[0, 0, 0, 0x0C, 1, 0, 0, 0, 0, 0, 0, 0, 0, 1, 0x68, 0x69],
-    &[0, 0, 0, 0x0B, 1, 0, 0, 0, 0, 0, 0, 0, 0, 1, 0x68],
-    &[0, 0, 0, 0x0A, 1, 0, 0, 0, 0, 0, 0, 0, 0, 3],
-    &[0, 0, 0, 0x0A, 1, 2, 0, 0, 0, 0, 0, 0, 0, 1],
-    &[0, 0, 0, 1, 2],
-    &[0, 0, 0, 1, 3],
-    &[0, 0, 0, 2, 3, 0],
-    &[0, 0, 0, 0],
-];
-
-/// The frames of all replies, the refusal that ends a session last.
-pub(crate) const REPLY_FRAMES: [&[u8]; 11] = [
-    &[0, 0, 0, 9, 0x81, 0, 0, 0, 0, 0, 0, 0, 1],
-    &[0, 0, 0, 9, 0x81, 0, 0, 0, 0, 0, 0, 0, 1],
-    &[0, 0, 0, 0x0A, 0xE0, 4, 0, 0, 0, 0, 0, 0, 0, 1],
-    &[0, 0, 0, 0x0A, 0xE0, 5, 0, 0, 0, 0, 0, 0, 0, 1],
-    &[0, 0, 0, 0x0A, 0xE0, 2, 0, 0, 0, 0, 0, 0, 0, 2],
-    &[0, 0, 0, 0x0A, 0xE0, 3, 0, 0, 0, 0, 0, 0, 0x0F, 0xF1],
-    &[
-        0, 0, 0, 0x1C, 0x82, 2, 0, 0, 0, 0, 0, 0, 0, 1, 0, 0, 0, 2, 0x68, 0x69, 0, 0, 0, 0, 0, 0,
-        0, 0, 0, 0, 0, 0,
-    ],
-    &[
-        0, 0, 0, 0x14, 0x83, 2, 0, 0, 0, 0, 0, 0, 0, 1, 0, 0, 0, 0, 0, 0, 0, 0, 0, 0,
-    ],
-    &[0, 0, 0, 0x0A, 0xE0, 1, 0, 0, 0, 0, 0, 0, 0, 0],
-    &[0, 0, 0, 0x0A, 0xE0, 1, 0, 0, 0, 0, 0, 0, 0, 0],
-    &[0, 0, 0, 0x0A, 0xE0, 0x0F, 0, 0, 0, 0, 0, 1, 1, 0xD0],
-];
-
-/// The head of an update of segment 1, number 1, with 4,081 bytes of value behind it.
-const LONG_UPDATE_HEAD: [u8; 14] = [0, 0, 0x0F, 0xFB, 1, 1, 0, 0, 0, 0, 0, 0, 0, 1];
-
-pub(crate) fn update(
-    alloc: Global,
-    segment: u8,
-    number: u64,
-    value: &[u8],
-) -> Result<Result<Option<Request>, Refusal>, AllocError> {
-    let value = Bytes::copy_from_slice(alloc, value)?;
-    Ok(Ok(Some(Request::Update {
-        segment,
-        number,
-        value,
-    })))
-}
-
-/// What a feed answers to the frames of requests, in order.
-pub(crate) fn request_answers(
-    alloc: Global,
-) -> Result<Vec<Result<Option<Request>, Refusal>>, AllocError> {
-    let mut answers = Vec::new(alloc);
-    let updates: [(u8, u64, &[u8]); 5] = [
-        (0, 1, b"hi"),
-        (0, 1, b"hi"),
-        (0, 1, b"h"),
-        (0, 3, b""),
-        (2, 1, b""),
-    ];
-    for (segment, number, value) in updates {
-        answers.push(update(alloc, segment, number, value)?)?;
-    }
-    answers.push(Ok(Some(Request::Scan)))?;
-    answers.push(Ok(Some(Request::Status)))?;
-    answers.push(Err(Refusal::Malformed))?;
-    answers.push(Err(Refusal::Malformed))?;
-    Ok(answers)
-}
-
-/// The snapshot of the frames above.
-fn snapshot(alloc: Global) -> Result<Reply, AllocError> {
-    let mut values = Vec::new(alloc);
-    for (number, value) in [(1, b"hi".as_slice()), (0, b"".as_slice())] {
-        let value = Bytes::copy_from_slice(alloc, value)?;
-        values.push(SegmentValue { number, value })?;
-    }
-    Ok(Reply::Snapshot(values))
-}
-
-/// The status of the frames above.
-fn status(alloc: Global) -> Result<Reply, AllocError> {
-    let mut statuses = Vec::new(alloc);
-    for number in [1, 0] {
-        let is_fenced = false;
-        statuses.push(SegmentStatus { number, is_fenced })?;
-    }
-    Ok(Reply::Status(statuses))
-}
-
-/// The replies of the frames above, in order.
-fn replies(alloc: Global) -> Result<Vec<Reply>, AllocError> {
-    let mut replies = Vec::new(alloc);
-    replies.push(Reply::Stored(1))?;
-    replies.push(Reply::Stored(1))?;
-    for (why, detail) in [
-        (Refusal::Conflict, 1),
-        (Refusal::OutOfStep, 1),
-        (Refusal::NoSegment, 2),
-        (Refusal::TooLong, 4081),
-    ] {
-        replies.push(Reply::Refused { why, detail })?;
-    }
-    replies.push(snapshot(alloc)?)?;
-    replies.push(status(alloc)?)?;
-    for (why, detail) in [
-        (Refusal::Malformed, 0),
-        (Refusal::Malformed, 0),
-        (Refusal::TooLarge, 66_000),
-    ] {
-        replies.push(Reply::Refused { why, detail })?;
-    }
-    Ok(replies)
-}
-
-// An assertion is proved with all that its function holds, so each stands in a function of its own.
-
 /// The feed answers so next.
-pub(crate) fn expect_next(
-    rt: &impl Abort,
-    feed: &mut Feed,
-    answer: &Result<Option<Request>, Refusal>,
-) {
+pub(crate) fn comes(rt: &impl Host, feed: &mut Feed, answer: &Answer) {
     assert_eq!(rt; feed.next(), *answer);
 }
 
 /// The feed of replies answers so next.
-fn expect_reply(rt: &impl Abort, feed: &mut ReplyFeed, answer: &Result<Option<Reply>, ReplyFault>) {
+fn reply_comes(rt: &impl Host, feed: &mut ReplyFeed, answer: &Result<Option<Reply>, ReplyFault>) {
     assert_eq!(rt; feed.next(), *answer);
 }
 
-/// Whether the feed of replies gives this one next.
-fn gives(feed: &mut ReplyFeed, reply: &Reply) -> bool {
-    match feed.next() {
-        Ok(Some(given)) => given == *reply,
-        _ => false,
-    }
-}
-
-/// Both are the same bytes.
-pub(crate) fn expect_bytes(rt: &impl Abort, given: &[u8], wanted: &[u8]) {
-    assert_eq!(rt; given, wanted);
-}
-
-pub(crate) fn expect(rt: &impl Abort, holds: bool) {
-    assert!(rt; holds);
-}
-
-/// The feed answers the frame with its last byte, and nothing before.
-fn expect_in_bytes(
-    rt: &impl Abort,
-    feed: &mut Feed,
-    frame: &[u8],
-    answer: &Result<Option<Request>, Refusal>,
-) -> Result<(), Refusal> {
-    for byte in frame {
-        expect_next(rt, feed, &Ok(None));
-        feed.push(&[*byte])?;
-        expect(rt, !feed.is_between());
-    }
-    expect_next(rt, feed, answer);
-    expect(rt, feed.is_between());
-    Ok(())
-}
-
-/// The same of a feed of replies.
-fn expect_reply_in_bytes(
-    rt: &impl Abort,
-    feed: &mut ReplyFeed,
-    frame: &[u8],
-    reply: &Reply,
-) -> Result<(), Failure> {
-    for byte in frame {
-        expect_reply(rt, feed, &Ok(None));
-        feed.push(&[*byte])?;
-        expect(rt, !feed.is_between());
-    }
-    expect(rt, gives(feed, reply));
-    expect(rt, feed.is_between());
-    Ok(())
-}
-
-/// One byte after the other.
+/// A frame is answered with its last byte, and with none before.
 #[test]
 fn frames_in_any_pieces(rt: HostRuntime) -> Result<(), Fail> {
-    let alloc = rt.alloc();
-    let answers = request_answers(alloc)?;
-    let mut feed = Feed::new(alloc);
-    for (frame, answer) in REQUEST_FRAMES.iter().zip(answers.iter()) {
-        expect_in_bytes(&rt, &mut feed, *frame, answer)?;
+    let mut feed = Feed::new(rt.alloc());
+    for (frame, answer) in &requests(rt.alloc())? {
+        for byte in frame.iter() {
+            comes(&rt, &mut feed, &Ok(None));
+            feed.push(&[*byte])?;
+            assert!(rt; !feed.is_between());
+        }
+        comes(&rt, &mut feed, answer);
+        assert!(rt; feed.is_between());
     }
     Ok(())
 }
 
-/// One byte after the other.
+/// The same of replies.
 #[test]
 fn replies_in_any_pieces(rt: HostRuntime) -> Result<(), Fail> {
-    let alloc = rt.alloc();
-    let replies = replies(alloc)?;
-    let mut feed = ReplyFeed::new(alloc);
-    for (frame, reply) in REPLY_FRAMES.iter().zip(replies.iter()) {
-        expect_reply_in_bytes(&rt, &mut feed, *frame, reply)?;
+    let mut feed = ReplyFeed::new(rt.alloc());
+    for (frame, reply) in &replies(rt.alloc())? {
+        for byte in frame.iter() {
+            reply_comes(&rt, &mut feed, &Ok(None));
+            feed.push(&[*byte])?;
+            assert!(rt; !feed.is_between());
+        }
+        let given = feed.next()?;
+        assert!(rt;
+            given.is_some_and(|it| it == *reply) && feed.is_between(),
+            "{frame:?}"
+        );
+    }
+    Ok(())
+}
+
+/// The stream of all requests, cut in two at each of its bytes.
+#[test]
+fn requests_cut_anywhere(rt: HostRuntime) -> Result<(), Fail> {
+    let requests = requests(rt.alloc())?;
+    let stream = joined(rt.alloc(), &pieces_of(rt.alloc(), &requests)?)?;
+    for cut in 0..=stream.len() {
+        let mut feed = Feed::new(rt.alloc());
+        let mut left = requests.iter();
+        for piece in [&stream[..cut], &stream[cut..]] {
+            feed.push(piece)?;
+            for _ in 0..requests.len() {
+                match feed.next() {
+                    Ok(None) => break,
+                    given => assert!(rt; left.next().is_some_and(|it| it.1 == given), "{cut}"),
+                }
+            }
+        }
+        assert!(rt; left.next().is_none(), "cut at {cut}");
+        comes(&rt, &mut feed, &Ok(None));
+    }
+    Ok(())
+}
+
+/// The same of replies.
+#[test]
+fn replies_cut_anywhere(rt: HostRuntime) -> Result<(), Fail> {
+    let replies = replies(rt.alloc())?;
+    let stream = joined(rt.alloc(), &pieces_of(rt.alloc(), &replies)?)?;
+    for cut in 0..=stream.len() {
+        let mut feed = ReplyFeed::new(rt.alloc());
+        let mut left = replies.iter();
+        for piece in [&stream[..cut], &stream[cut..]] {
+            feed.push(piece)?;
+            for _ in 0..replies.len() {
+                match feed.next()? {
+                    None => break,
+                    Some(given) => assert!(rt;
+                        left.next().is_some_and(|it| it.1 == given),
+                        "{cut}"
+                    ),
+                }
+            }
+        }
+        assert!(rt; left.next().is_none() && feed.is_between(), "cut at {cut}");
+    }
+    Ok(())
+}
+
+/// The reply of the frame is written as the same frame.
+pub(crate) fn is_rewritten(rt: &impl Host, frame: &[u8]) -> Result<(), Fail> {
+    let mut feed = ReplyFeed::new(rt.alloc());
+    feed.push(frame)?;
+    let mut out = BytesMut::new(rt.alloc());
+    if let Some(reply) = feed.next()? {
+        write_reply(&reply, &mut out)?;
+    }
+    assert_eq!(rt; out.as_slice(), frame);
+    Ok(())
+}
+
+/// The request is written as its frame, after what the buffer has.
+pub(crate) fn is_written(rt: &impl Host, request: &Request, frame: &[u8]) -> Result<(), Fail> {
+    let mut out = BytesMut::new(rt.alloc());
+    write_request(&Request::Scan, &mut out)?;
+    write_request(request, &mut out)?;
+    let wanted = joined(rt.alloc(), &[SCAN, frame])?;
+    assert_eq!(rt; out.as_slice(), wanted.as_slice());
+    Ok(())
+}
+
+#[test]
+fn messages_are_written_as_their_frames(rt: HostRuntime) -> Result<(), Fail> {
+    for (frame, answer) in &requests(rt.alloc())? {
+        if let Ok(Some(request)) = answer {
+            is_written(&rt, request, *frame)?;
+        }
+    }
+    for (frame, _) in &replies(rt.alloc())? {
+        is_rewritten(&rt, *frame)?;
     }
     Ok(())
 }
@@ -227,50 +145,14 @@ fn replies_in_any_pieces(rt: HostRuntime) -> Result<(), Fail> {
 /// An update whose value is too long for a segment is a request, whole with its last byte.
 #[test]
 fn long_value_in_any_pieces(rt: HostRuntime) -> Result<(), Fail> {
-    let alloc = rt.alloc();
-    let mut feed = Feed::new(alloc);
-    feed.push(&LONG_UPDATE_HEAD)?;
+    let mut feed = Feed::new(rt.alloc());
+    feed.push(&[0, 0, 0x0F, 0xFB, 1, 1, 0, 0, 0, 0, 0, 0, 0, 1])?;
     for _ in 0..4081 {
-        expect_next(&rt, &mut feed, &Ok(None));
+        comes(&rt, &mut feed, &Ok(None));
         feed.push(b"v")?;
     }
-    expect_next(&rt, &mut feed, &update(alloc, 1, 1, &[b'v'; 4081])?);
-    expect(&rt, feed.is_between());
-    Ok(())
-}
-
-/// The feed takes both pieces in turn, and answers so in all.
-fn expect_of_two(
-    rt: &impl Abort,
-    feed: &mut Feed,
-    pieces: [&[u8]; 2],
-    answers: &[Result<Option<Request>, Refusal>],
-) -> Result<(), Refusal> {
-    let mut left = answers.iter();
-    for piece in pieces {
-        feed.push(piece)?;
-        for _ in 0..answers.len() {
-            match feed.next() {
-                Ok(None) => break,
-                given => expect(rt, left.next() == Some(&given)),
-            }
-        }
-    }
-    expect(rt, left.next().is_none());
-    expect_next(rt, feed, &Ok(None));
-    Ok(())
-}
-
-/// The stream of all requests, cut in two at each of its bytes.
-#[test]
-fn requests_cut_anywhere(rt: HostRuntime) -> Result<(), Fail> {
-    let alloc = rt.alloc();
-    let stream = joined(alloc, &REQUEST_FRAMES)?;
-    let answers = request_answers(alloc)?;
-    for cut in 0..=stream.len() {
-        let (front, back) = stream.split_at(cut);
-        expect_of_two(&rt, &mut Feed::new(alloc), [front, back], &answers)?;
-    }
+    comes(&rt, &mut feed, &update(rt.alloc(), 1, 1, &[b'v'; 4081])?);
+    assert!(rt; feed.is_between());
     Ok(())
 }
 
@@ -279,158 +161,149 @@ fn requests_cut_anywhere(rt: HostRuntime) -> Result<(), Fail> {
 fn too_large_and_malformed(rt: HostRuntime) -> Result<(), Fail> {
     let mut feed = Feed::new(rt.alloc());
     feed.push(&[0, 0, 0, 0, 0, 0, 0, 1, 2, 0, 1, 1, 0xD1, 0, 0, 0, 1, 2])?;
-    expect_next(&rt, &mut feed, &Err(Refusal::Malformed));
-    expect_next(&rt, &mut feed, &Ok(Some(Request::Scan)));
+    comes(&rt, &mut feed, &Err(Refusal::Malformed));
+    comes(&rt, &mut feed, &Ok(Some(Request::Scan)));
     for _ in 0..2 {
-        expect_next(&rt, &mut feed, &Err(Refusal::TooLarge));
-        expect(&rt, feed.push(&[0, 0, 0, 1, 2]) == Err(Refusal::TooLarge));
-        expect(&rt, !feed.is_between());
+        comes(&rt, &mut feed, &Err(Refusal::TooLarge));
+        assert!(rt; feed.push(SCAN) == Err(Refusal::TooLarge) && !feed.is_between());
+    }
+    let mut feed = ReplyFeed::new(rt.alloc());
+    feed.push(&[0, 0, 0, 0])?;
+    feed.push(STORED)?;
+    feed.push(&[0, 1, 1, 0xD1])?;
+    reply_comes(&rt, &mut feed, &Err(ReplyFault::BadReply));
+    reply_comes(&rt, &mut feed, &Ok(Some(Reply::Stored(1))));
+    for _ in 0..2 {
+        reply_comes(&rt, &mut feed, &Err(ReplyFault::Failed(Failure::TooLarge)));
+        assert!(rt; feed.push(&[0]) == Err(Failure::TooLarge) && !feed.is_between());
     }
     Ok(())
 }
 
-/// The same of replies.
-#[test]
-fn too_large_and_bad_replies(rt: HostRuntime) -> Result<(), Fail> {
+/// The payload breaks the grammar of replies. That ends nothing.
+pub(crate) fn is_bad_reply(rt: &impl Host, payload: &[u8]) -> Result<(), Fail> {
     let mut feed = ReplyFeed::new(rt.alloc());
-    feed.push(&[0, 0, 0, 0])?;
-    feed.push(REPLY_FRAMES[0])?;
-    feed.push(&[0, 1, 1, 0xD1])?;
-    expect_reply(&rt, &mut feed, &Err(ReplyFault::BadReply));
-    expect_reply(&rt, &mut feed, &Ok(Some(Reply::Stored(1))));
-    for _ in 0..2 {
-        expect_reply(&rt, &mut feed, &Err(ReplyFault::Failed(Failure::TooLarge)));
-        expect(&rt, feed.push(&[0]) == Err(Failure::TooLarge));
-        expect(&rt, !feed.is_between());
-    }
+    feed.push(&(payload.len() as u32).to_be_bytes())?;
+    feed.push(payload)?;
+    reply_comes(rt, &mut feed, &Err(ReplyFault::BadReply));
+    assert!(rt; feed.is_between());
     Ok(())
 }
 
 /// Payloads that break the grammar of replies in one place each.
+const BAD_REPLIES: [&[u8]; 30] = [
+    &[],
+    &[0x81],
+    &[0x81, 0, 0, 0, 0, 0, 0, 0],
+    &[0x81, 0, 0, 0, 0, 0, 0, 0, 1, 0],
+    &[0x81, 0x80, 0, 0, 0, 0, 0, 0, 0],
+    &[0x82],
+    &[0x82, 0],
+    &[0x82, 1, 0, 0, 0, 0, 0, 0, 0, 1, 0, 0, 0, 2, 0x68],
+    &[0x82, 1, 0, 0, 0, 0, 0, 0, 0, 1, 0, 0, 0, 1, 0x68, 0x69],
+    &[0x82, 2, 0, 0, 0, 0, 0, 0, 0, 1, 0, 0, 0, 1, 0x68],
+    &[0x82, 1, 0, 0, 0, 0, 0, 0, 0, 1, 0, 0, 0x0F, 0xF1],
+    &[0x83, 1, 0, 0, 0, 0, 0, 0, 0, 1, 2],
+    &[0x83, 2, 0, 0, 0, 0, 0, 0, 0, 1, 1],
+    &[0xE0, 0, 0, 0, 0, 0, 0, 0, 0, 0],
+    &[0xE0, 4, 0, 0, 0, 0, 0, 0, 0],
+    &[0x84, 0, 0, 0, 0, 0, 0, 0, 1],
+    // A part: no count, no entry, too many of them.
+    &[0x84],
+    &[0x84, 0],
+    &[0x84, 17],
+    // Fewer entries than are counted, and more.
+    &[0x84, 1],
+    &[0x84, 2, 0, 0, 0, 0, 0, 0, 0, 0, 0, 0, 0, 0, 0],
+    &[0x84, 1, 0, 0, 0, 0, 0, 0, 0, 0, 0, 0, 0, 0, 0, 1],
+    // An entry without its segment.
+    &[0x84, 1, 0, 0, 0, 0, 0, 0, 0, 1, 0, 0, 0, 0],
+    // A value with a byte too few, and one too many.
+    &[0x84, 1, 0, 0, 0, 0, 0, 0, 0, 0, 1, 0, 0, 0, 2, 0x68],
+    &[0x84, 1, 0, 0, 0, 0, 0, 0, 0, 0, 1, 0, 0, 0, 1, 0x68, 0x69],
+    // Segment 16, the number 2^63, a length of 4,081.
+    &[0x84, 1, 16, 0, 0, 0, 0, 0, 0, 0, 0, 0, 0, 0, 0],
+    &[0x84, 1, 0, 0x80, 0, 0, 0, 0, 0, 0, 0, 0, 0, 0, 0],
+    &[0x84, 1, 0, 0, 0, 0, 0, 0, 0, 0, 0, 0, 0, 0x0F, 0xF1],
+    // A segment twice, and a smaller one after a greater one.
+    &[
+        0x84, 2, 3, 0, 0, 0, 0, 0, 0, 0, 0, 0, 0, 0, 0, 3, 0, 0, 0, 0, 0, 0, 0, 0, 0, 0, 0, 0,
+    ],
+    &[
+        0x84, 2, 3, 0, 0, 0, 0, 0, 0, 0, 0, 0, 0, 0, 0, 2, 0, 0, 0, 0, 0, 0, 0, 0, 0, 0, 0, 0,
+    ],
+];
+
 #[test]
 fn bad_replies(rt: HostRuntime) -> Result<(), Fail> {
-    let bad: [&[u8]; 16] = [
-        &[],
-        &[0x81],
-        &[0x81, 0, 0, 0, 0, 0, 0, 0],
-        &[0x81, 0, 0, 0, 0, 0, 0, 0, 1, 0],
-        &[0x81, 0x80, 0, 0, 0, 0, 0, 0, 0],
-        &[0x82],
-        &[0x82, 0],
-        &[0x82, 1, 0, 0, 0, 0, 0, 0, 0, 1, 0, 0, 0, 2, 0x68],
-        &[0x82, 1, 0, 0, 0, 0, 0, 0, 0, 1, 0, 0, 0, 1, 0x68, 0x69],
-        &[0x82, 2, 0, 0, 0, 0, 0, 0, 0, 1, 0, 0, 0, 1, 0x68],
-        &[0x82, 1, 0, 0, 0, 0, 0, 0, 0, 1, 0, 0, 0x0F, 0xF1],
-        &[0x83, 1, 0, 0, 0, 0, 0, 0, 0, 1, 2],
-        &[0x83, 2, 0, 0, 0, 0, 0, 0, 0, 1, 1],
-        &[0xE0, 0, 0, 0, 0, 0, 0, 0, 0, 0],
-        &[0xE0, 4, 0, 0, 0, 0, 0, 0, 0],
-        &[0x84, 0, 0, 0, 0, 0, 0, 0, 1],
-    ];
-    for payload in bad {
-        is_bad_reply(&rt, rt.alloc(), payload)?;
+    for payload in &BAD_REPLIES {
+        is_bad_reply(&rt, *payload)?;
     }
     Ok(())
 }
 
-/// The payload is refused, and ends nothing.
-fn is_bad_reply(rt: &impl Abort, alloc: Global, payload: &[u8]) -> Result<(), Failure> {
-    let mut feed = ReplyFeed::new(alloc);
-    let len = u32::try_from(payload.len()).unwrap_or(u32::MAX);
-    feed.push(&len.to_be_bytes())?;
-    feed.push(payload)?;
-    expect_reply(rt, &mut feed, &Err(ReplyFault::BadReply));
-    expect(rt, feed.is_between());
-    Ok(())
-}
-
-/// The frame is pushed, again where it finds no memory, which changes nothing. Whether the feed has
-/// it.
-fn is_pushed(rt: &impl Abort, feed: &mut Feed, frame: &[u8]) -> bool {
+/// The frame is pushed, and again if there was no memory, which changed nothing. Whether the feed has it.
+fn is_pushed(rt: &impl Host, feed: &mut Feed, frame: &[u8]) -> bool {
     if feed.push(frame) != Err(Refusal::NoMemory) {
         return true;
     }
-    expect_next(rt, feed, &Ok(None));
-    expect(rt, feed.is_between());
+    comes(rt, feed, &Ok(None));
+    assert!(rt; feed.is_between());
     feed.push(frame).is_ok()
 }
 
-/// The feed, which has the frame, answers so, or says from then on that it finds no memory. Whether
-/// it goes on.
-fn is_answered(
-    rt: &impl Abort,
-    feed: &mut Feed,
-    frame: &[u8],
-    answer: &Result<Option<Request>, Refusal>,
-) -> bool {
-    let given = feed.next();
-    if given != Err(Refusal::NoMemory) {
-        expect(rt, given == *answer);
-        return true;
-    }
-    expect_next(rt, feed, &Err(Refusal::NoMemory));
-    expect(rt, feed.push(frame) == Err(Refusal::NoMemory));
-    expect(rt, !feed.is_between());
-    false
-}
-
-/// Run with each allocation refused in turn: a push that finds no memory changes nothing and may be
-/// made again, and a feed that couldn't take a frame off says so from then on.
+/// Run with each allocation refused in turn (`rt try --test --fail-alloc N`): a push without memory changes nothing and
+/// may be made again, and a feed that couldn't take a frame off returns `NoMemory` from then on.
 #[test]
 fn requests_without_memory(rt: HostRuntime) {
-    let Ok(answers) = request_answers(rt.alloc()) else {
+    let Ok(requests) = requests(rt.alloc()) else {
         return;
     };
     let mut feed = Feed::new(rt.alloc());
-    for (frame, answer) in REQUEST_FRAMES.iter().zip(answers.iter()) {
-        if !is_pushed(&rt, &mut feed, *frame) || !is_answered(&rt, &mut feed, *frame, answer) {
+    for (frame, answer) in &requests {
+        if !is_pushed(&rt, &mut feed, *frame) {
             return;
         }
-    }
-}
-
-/// A reply is written as its frame, or the buffer is left as it was.
-fn expect_written_reply(rt: &impl Abort, alloc: Global, reply: &Reply, frame: &[u8])
-    requires { IsInLimits reply.now }
-{
-    let mut out = BytesMut::new(alloc);
-    match write_reply(reply, &mut out) {
-        Ok(()) => expect_bytes(rt, out.as_slice(), frame),
-        Err(why) => {
-            expect(rt, why == Refusal::NoMemory);
-            expect(rt, out.is_empty());
+        let given = feed.next();
+        if given == Err(Refusal::NoMemory) {
+            comes(&rt, &mut feed, &given);
+            assert!(rt; feed.push(*frame) == given.map(|_| ()) && !feed.is_between());
+            return;
         }
+        assert!(rt; given == *answer);
     }
+    comes(&rt, &mut feed, &Ok(None));
 }
 
-/// The reply of the frame is read and written again, or memory was wanting: a feed says so from
-/// then on.
-fn expect_reply_of(rt: &impl Abort, alloc: Global, frame: &[u8], reply: &Reply) {
+/// The reply of the frame is read and written again, or there was no memory: a feed returns that from then on, and a
+/// buffer stays as it was.
+fn is_reply_of(rt: &impl Host, alloc: Global, frame: &[u8], reply: &Reply) {
     let mut feed = ReplyFeed::new(alloc);
     if feed.push(frame).is_err() {
-        expect(rt, feed.is_between());
+        assert!(rt; feed.is_between());
         return;
     }
-    match feed.next() {
-        Ok(Some(given)) => {
-            expect(rt, given == *reply);
-            expect_written_reply(rt, alloc, &given, frame);
-        }
+    let given = match feed.next() {
+        Ok(Some(given)) => given,
         answer => {
-            expect(rt, answer == Err(ReplyFault::Failed(Failure::NoMemory)));
-            expect_reply(rt, &mut feed, &answer);
+            assert!(rt; answer == Err(ReplyFault::Failed(Failure::NoMemory)));
+            return reply_comes(rt, &mut feed, &answer);
         }
+    };
+    assert!(rt; given == *reply);
+    let mut out = BytesMut::new(alloc);
+    match write_reply(&given, &mut out) {
+        Ok(()) => assert_eq!(rt; out.as_slice(), frame),
+        Err(why) => assert!(rt; why == Refusal::NoMemory && out.is_empty()),
     }
 }
 
-/// Run with each allocation refused in turn: so it is for replies, and one that can't be written
-/// leaves the buffer as it was.
+/// Run with each allocation refused in turn.
 #[test]
 fn replies_without_memory(rt: HostRuntime) {
-    let Ok(replies) = replies(rt.alloc()) else {
-        return;
-    };
-    for (frame, reply) in REPLY_FRAMES.iter().zip(replies.iter()) {
-        expect_reply_of(&rt, rt.alloc(), *frame, reply);
+    if let Ok(replies) = replies(rt.alloc()) {
+        for (frame, reply) in &replies {
+            is_reply_of(&rt, rt.alloc(), *frame, reply);
+        }
     }
 }

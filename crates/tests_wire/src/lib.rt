@@ -1,6 +1,4 @@
-//! The tests of frames, sessions and clients: of `snap_frame`, `snap_session` and `snap_client`, by
-//! their public items alone. The tests of a room share a crate, since each crate of tests reads all
-//! libraries below it.
+//! The tests of frames, sessions and clients: `snap_frame`, `snap_session` and `snap_client`.
 #![tactic(auto)]
 
 #[cfg(test)]

@@ -1,4 +1,4 @@
-//! Sessions whose input is cut, whose reader fails and whose writer is short, beside a plain model.
+//! Sessions whose input is cut, whose reads fail and whose writer is full, compared with a plain model.
 
 mod peers;
 
@@ -6,7 +6,7 @@ use crate::streams::{joined, sink, source};
 use peers::{Counter, Later, Peer};
 use snap_session::{End, Turn, serve};
 use snap_stream::TestStream;
-use std::alloc::{AllocError, Global};
+use std::alloc::Global;
 use std::sync::Wait;
 use std::test::Fail;
 
@@ -32,83 +32,47 @@ const TOO_LARGE: &[u8] = &[0, 1, 1, 0xD1];
 
 const REFUSED_TOO_LARGE: &[u8] = &[0, 0, 0, 10, 0xE0, 15, 0, 0, 0, 0, 0, 1, 1, 0xD0];
 
-/// How many requests end within the first `len` bytes of them all, and whether these end between
-/// frames.
+/// How many requests end within the first `len` bytes of them all, and whether these end between frames.
 fn frames_within(len: usize) -> (usize, bool) {
     let mut left = len;
-    let mut count: usize = 0;
-    for frame in &REQUESTS {
+    for (count, frame) in REQUESTS.iter().enumerate() {
         if left < frame.len() {
             return (count, left == 0);
         }
-        left = left.wrapping_sub(frame.len());
-        count = count.wrapping_add(1);
+        left -= frame.len();
     }
-    (count, true)
+    (REQUESTS.len(), true)
 }
 
-/// What the first `len` bytes of all requests are answered.
-fn replies_to(alloc: Global, len: usize) -> Result<Vec<u8>, AllocError> {
-    let (count, _) = frames_within(len);
-    joined(alloc, &REPLIES[..count.min(REPLIES.len())])
-}
-
-/// How a session over this reader and a writer with this room ends, and what was written.
-fn run(rt: &impl Wait, alloc: Global, reader: &mut TestStream, room: usize) -> (End, Vec<u8>) {
+/// What a session writes, in pieces of three bytes and `room` bytes at most, and how it ends.
+fn run(rt: &impl Wait, alloc: Global, mut reader: TestStream, room: usize) -> (End, Vec<u8>) {
     let mut writer = sink(alloc, room);
     let mut service = Counter { answered: 0 };
-    let end = serve(rt, alloc, reader, &mut writer, &mut service);
+    let end = serve(rt, alloc, &mut reader, &mut writer, &mut service);
     (end, writer.bytes)
-}
-
-/// Whether a session over this reader and a writer with this room ends so, and has written this.
-fn ends(
-    rt: &impl Wait,
-    alloc: Global,
-    mut reader: TestStream,
-    room: usize,
-    end: End,
-    replies: &[u8],
-) -> bool {
-    let (ended, written) = run(rt, alloc, &mut reader, room);
-    ended == end && written.as_slice() == replies
-}
-
-/// Whether the requests that were cut here, in such pieces, are answered as they have to be.
-fn is_cut(rt: &impl Wait, alloc: Global, cut: &[u8], piece: usize) -> Result<bool, AllocError> {
-    let (_, is_between) = frames_within(cut.len());
-    let end = if is_between {
-        End::Closed
-    } else {
-        End::Truncated
-    };
-    let replies = replies_to(alloc, cut.len())?;
-    let reader = source(alloc, cut, usize::MAX, piece)?;
-    Ok(ends(rt, alloc, reader, usize::MAX, end, &replies))
 }
 
 #[test]
 fn cut_input(rt: HostRuntime) -> Result<(), Fail> {
     let input = joined(rt.alloc(), &REQUESTS)?;
     for cut in 0..=input.len() {
+        let (count, is_between) = frames_within(cut);
+        let end = if is_between {
+            End::Closed
+        } else {
+            End::Truncated
+        };
+        let replies = joined(rt.alloc(), &REPLIES[..count])?;
         for piece in [1, 7, 4096] {
-            let is = is_cut(&rt, rt.alloc(), &input[..cut], piece)?;
-            assert!(rt; is, "cut at {cut} in pieces of {piece}");
+            let reader = source(rt.alloc(), &input[..cut], usize::MAX, piece)?;
+            let given = run(&rt, rt.alloc(), reader, usize::MAX);
+            assert!(rt;
+                given.0 == end && given.1 == replies,
+                "cut at {cut} in pieces of {piece}"
+            );
         }
     }
     Ok(())
-}
-
-/// Whether the replies are written up to this room, which is too small.
-fn is_short(
-    rt: &impl Wait,
-    alloc: Global,
-    input: &[u8],
-    written: &[u8],
-) -> Result<bool, AllocError> {
-    let reader = source(alloc, input, usize::MAX, 4096)?;
-    let room = written.len();
-    Ok(ends(rt, alloc, reader, room, End::WriteFailed, written))
 }
 
 #[test]
@@ -116,59 +80,39 @@ fn failed_output(rt: HostRuntime) -> Result<(), Fail> {
     let input = joined(rt.alloc(), &REQUESTS)?;
     let replies = joined(rt.alloc(), &REPLIES)?;
     for room in 0..replies.len() {
-        assert!(rt;
-            is_short(&rt, rt.alloc(), &input, &replies[..room])?,
-            "room {room}"
-        );
+        let reader = source(rt.alloc(), &input, usize::MAX, 4096)?;
+        let (end, written) = run(&rt, rt.alloc(), reader, room);
+        let is = end == End::WriteFailed && written.as_slice() == &replies[..room];
+        assert!(rt; is, "room {room}");
     }
     Ok(())
 }
 
-/// Whether the first so many bytes of the input, one a read, are answered before a read that fails.
-fn fails_behind(
-    rt: &impl Wait,
-    alloc: Global,
-    input: &[u8],
-    len: usize,
-) -> Result<bool, AllocError> {
-    let replies = replies_to(alloc, len)?;
-    let reader = source(alloc, input, len, 1)?;
-    let end = End::ReadFailed;
-    Ok(ends(rt, alloc, reader, usize::MAX, end, &replies))
-}
-
+/// Each read gives one byte. What came before one that fails is answered.
 #[test]
 fn reader_fails_at_each_read(rt: HostRuntime) -> Result<(), Fail> {
     let input = joined(rt.alloc(), &REQUESTS)?;
     for read in 0..input.len() {
-        assert!(rt; fails_behind(&rt, rt.alloc(), &input, read)?, "read {read}");
+        let replies = joined(rt.alloc(), &REPLIES[..frames_within(read).0])?;
+        let reader = source(rt.alloc(), &input, read, 1)?;
+        let (end, written) = run(&rt, rt.alloc(), reader, usize::MAX);
+        assert!(rt; end == End::ReadFailed && written == replies, "read {read}");
     }
     Ok(())
 }
 
-/// The first so many frames, and this last one.
-fn behind(alloc: Global, frames: &[&[u8]], last: &[u8]) -> Result<Vec<u8>, AllocError> {
-    let mut bytes = joined(alloc, frames)?;
-    bytes.extend_from_slice(last)?;
-    Ok(bytes)
-}
-
-/// Whether a length that is too large, behind so many frames and before all, ends the session.
-fn is_too_large(rt: &impl Wait, alloc: Global, place: usize) -> Result<bool, AllocError> {
-    let place = place.min(REQUESTS.len());
-    let mut bytes = behind(alloc, &REQUESTS[..place], TOO_LARGE)?;
-    for frame in &REQUESTS {
-        bytes.extend_from_slice(*frame)?;
-    }
-    let reader = source(alloc, &bytes, usize::MAX, 4096)?;
-    let replies = behind(alloc, &REPLIES[..place], REFUSED_TOO_LARGE)?;
-    Ok(ends(rt, alloc, reader, usize::MAX, End::TooLarge, &replies))
-}
-
+/// A length that is too large, after some frames and before all of them, ends the session.
 #[test]
 fn too_large_at_each_place(rt: HostRuntime) -> Result<(), Fail> {
+    let all = joined(rt.alloc(), &REQUESTS)?;
     for place in 0..=REQUESTS.len() {
-        assert!(rt; is_too_large(&rt, rt.alloc(), place)?, "place {place}");
+        let before = joined(rt.alloc(), &REQUESTS[..place])?;
+        let bytes = joined(rt.alloc(), &[&before, TOO_LARGE, &all])?;
+        let replies = joined(rt.alloc(), &REPLIES[..place])?;
+        let replies = joined(rt.alloc(), &[&replies, REFUSED_TOO_LARGE])?;
+        let reader = source(rt.alloc(), &bytes, usize::MAX, 4096)?;
+        let (end, written) = run(&rt, rt.alloc(), reader, usize::MAX);
+        assert!(rt; end == End::TooLarge && written == replies, "place {place}");
     }
     Ok(())
 }
@@ -182,44 +126,29 @@ const LATER: [&[u8]; 5] = [
     &[0, 0, 0, 10, 0xE0, 2, 0, 0, 0, 0, 0, 0, 0, 5],
 ];
 
-/// The turns up to the update and behind its outcome, and whether the session waited between them.
-fn turns_of_later(peer: &mut Peer) -> (Turn, bool, Turn) {
-    let first = peer.turn(&mut Later, 5);
-    let waited = peer.is_waiting();
-    peer.finish(9);
-    (first, waited, peer.turn(&mut Later, 5))
-}
-
-/// Nothing behind a request that was handed over is answered before it.
+/// No request after one that was handed over is answered before it.
 #[test]
 fn handed_over_and_finished_later(rt: HostRuntime) -> Result<(), Fail> {
     let input = joined(rt.alloc(), &REQUESTS)?;
-    let replies = joined(rt.alloc(), &LATER)?;
     let mut peer = Peer::new(rt.alloc(), &input, 4096, false)?;
-    let (first, waited, last) = turns_of_later(&mut peer);
-    assert!(rt; first == Turn::NeedsOutcome && waited && last == Turn::Over(End::Closed));
-    assert!(rt; peer.written() == replies.as_slice());
+    assert!(rt; peer.turn(&mut Later, 5) == Turn::NeedsOutcome && peer.is_waiting());
+    peer.finish(9);
+    assert!(rt; peer.turn(&mut Later, 5) == Turn::Over(End::Closed));
+    assert!(rt; peer.written() == joined(rt.alloc(), &LATER)?.as_slice());
     Ok(())
 }
 
-/// Whether both sessions are over, by two turns of each, the first one's no earlier.
-fn are_over_by_turns(first: &mut Peer, second: &mut Peer) -> bool {
-    let mut service = Counter { answered: 0 };
-    let mut are = true;
-    for end in [Turn::Again, Turn::Over(End::Closed)] {
-        are &= first.turn(&mut service, 0) == end;
-        are &= second.turn(&mut service, 1) == Turn::Over(End::Closed);
-    }
-    are
-}
-
-/// Two sessions on one service, by turns of 16 bytes: each peer gets the replies to its own requests.
-/// The request that came whole first is answered first.
+/// Two sessions on one service, by turns of 16 bytes: each peer gets the replies to its own requests. The request that
+/// is whole first is answered first.
 #[test]
 fn two_sessions_by_turns(rt: HostRuntime) -> Result<(), Fail> {
     let mut first = Peer::new(rt.alloc(), REQUESTS[0], 1, false)?;
     let mut second = Peer::new(rt.alloc(), REQUESTS[1], 1, false)?;
-    assert!(rt; are_over_by_turns(&mut first, &mut second));
+    let mut service = Counter { answered: 0 };
+    for end in [Turn::Again, Turn::Over(End::Closed)] {
+        assert!(rt; first.turn(&mut service, 0) == end);
+        assert!(rt; second.turn(&mut service, 1) == Turn::Over(End::Closed));
+    }
     let refused = [0, 0, 0, 10, 0xE0, 2, 0, 0, 0, 0, 0, 0, 0, 1];
     assert!(rt; first.written() == REPLIES[0] && second.written() == refused.as_slice());
     Ok(())
@@ -227,65 +156,58 @@ fn two_sessions_by_turns(rt: HostRuntime) -> Result<(), Fail> {
 
 /// Whether these are as many bytes as some of the replies' frames have, from the first one on.
 fn ends_between_frames(written: &[u8]) -> bool {
-    let mut len: usize = 0;
+    let mut len = 0;
     for reply in &REPLIES {
         if written.len() == len {
             return true;
         }
-        len = len.wrapping_add(reply.len());
+        len += reply.len();
     }
     written.len() == len
 }
 
-/// Whether a session that gets all requests in such pieces has written whole frames of the first
-/// replies: all of them, or memory was wanting.
-fn writes_whole_frames(rt: &impl Wait, alloc: Global, piece: usize) -> Result<bool, AllocError> {
-    let input = joined(alloc, &REQUESTS)?;
-    let replies = joined(alloc, &REPLIES)?;
-    let mut reader = source(alloc, &input, usize::MAX, piece)?;
-    let (end, written) = run(rt, alloc, &mut reader, usize::MAX);
-    let is_whole = match end {
-        End::Closed => written.len() == replies.len(),
-        End::NoMemory => ends_between_frames(&written),
-        // The test's writer found no memory.
-        end => end == End::WriteFailed,
-    };
-    Ok(is_whole && replies.starts_with(&written))
-}
-
-/// Run with each allocation refused in turn: a session that ends for want of memory has written
-/// whole frames of the first replies, and nothing else.
+/// Run with each allocation refused in turn (`rt try --test --fail-alloc N`): a session that ends without memory has
+/// written whole frames of the first replies, and nothing else.
 #[test]
 fn session_without_memory(rt: HostRuntime) {
     for piece in [1, 7, 4096] {
-        let has_written = writes_whole_frames(&rt, rt.alloc(), piece);
-        assert!(rt; has_written != Ok(false), "pieces of {piece}");
+        let (Ok(input), Ok(replies)) = (joined(rt.alloc(), &REQUESTS), joined(rt.alloc(), &REPLIES))
+        else {
+            return;
+        };
+        let Ok(reader) = source(rt.alloc(), &input, usize::MAX, piece) else {
+            return;
+        };
+        let (end, written) = run(&rt, rt.alloc(), reader, usize::MAX);
+        let is_whole = match end {
+            End::Closed => written.len() == replies.len(),
+            End::NoMemory => ends_between_frames(&written),
+            // The test's writer found no memory.
+            end => end == End::WriteFailed,
+        };
+        assert!(rt;
+            is_whole && replies.starts_with(&written),
+            "pieces of {piece}"
+        );
     }
 }
 
-/// The turn that ends the session, and whether it needed input and room before.
-fn turns_of_waiting(peer: &mut Peer) -> (Option<End>, bool, bool) {
-    let mut service = Counter { answered: 0 };
-    let mut has_needed_input = false;
-    let mut has_needed_room = false;
-    for _ in 0..1000 {
-        match peer.turn(&mut service, 0) {
-            Turn::NeedsInput => has_needed_input = true,
-            Turn::NeedsRoom => has_needed_room = true,
-            Turn::Over(end) => return (Some(end), has_needed_input, has_needed_room),
-            _ => break,
-        }
-    }
-    (None, has_needed_input, has_needed_room)
-}
-
-/// A session whose peer makes it wait at every other step goes on where it stopped.
+/// A session whose peer makes it wait at every other step continues where it stopped.
 #[test]
 fn reader_and_writer_that_wait(rt: HostRuntime) -> Result<(), Fail> {
     let input = joined(rt.alloc(), &REQUESTS)?;
-    let replies = joined(rt.alloc(), &REPLIES)?;
     let mut peer = Peer::new(rt.alloc(), &input, 7, true)?;
-    assert!(rt; turns_of_waiting(&mut peer) == (Some(End::Closed), true, true));
-    assert!(rt; peer.written() == replies.as_slice());
+    let mut service = Counter { answered: 0 };
+    let (mut has_needed_input, mut has_needed_room, mut last) = (false, false, Turn::Again);
+    for _ in 0..1000 {
+        last = peer.turn(&mut service, 0);
+        match last {
+            Turn::NeedsInput => has_needed_input = true,
+            Turn::NeedsRoom => has_needed_room = true,
+            _ => break,
+        }
+    }
+    assert!(rt; last == Turn::Over(End::Closed) && has_needed_input && has_needed_room);
+    assert!(rt; peer.written() == joined(rt.alloc(), &REPLIES)?.as_slice());
     Ok(())
 }

@@ -1,8 +1,14 @@
-//! Streams between the tests and what they test, and bytes for them.
+//! Streams that tests read and write, and bytes for them.
 use snap_stream::TestStream;
 use std::alloc::{AllocError, Global};
+use std::process::Abort;
 
-/// A stream that gives these bytes in pieces of at most `step`, and fails behind `passes` bytes.
+/// What a test may do: end the process, and allocate.
+pub(crate) trait Host: Abort + AllocGlobal {}
+
+impl<R: Abort + AllocGlobal> Host for R {}
+
+/// A stream that gives these bytes in pieces of at most `step`, and fails after `passes` bytes.
 pub(crate) fn source(
     alloc: Global,
     bytes: &[u8],
@@ -27,7 +33,7 @@ pub(crate) fn sink(alloc: Global, room: usize) -> TestStream {
     }
 }
 
-/// The pieces, one behind the other.
+/// The pieces, in a row.
 pub(crate) fn joined(alloc: Global, pieces: &[&[u8]]) -> Result<Vec<u8>, AllocError> {
     let mut all = Vec::new(alloc);
     for piece in pieces {

@@ -11,7 +11,7 @@ use std::alloc::Global;
 use std::io;
 use std::io::ErrorKind;
 
-/// The device as the new file of this segment of so many.
+/// The device as the new file of segment `index` of `count`.
 pub fn formatted<D: Disk + Drop>(disk: D, index: u8, count: u8) -> io::Result<D> {
     let mut disk = disk;
     if index >= count || count > 16 || disk.failures() != 0 {
@@ -28,7 +28,7 @@ pub fn new_memory(alloc: Global, index: u8, count: u8) -> io::Result<MemDisk> {
     formatted(MemDisk::zeroed(alloc, FILE_LEN as usize)?, index, count)
 }
 
-/// The new files of so many segments, in memory.
+/// The new files of `count` segments, in memory.
 pub fn new_memories(alloc: Global, count: u8) -> io::Result<Vec<MemDisk>> {
     let mut devices = Vec::new(alloc);
     for index in 0..count {
@@ -37,7 +37,7 @@ pub fn new_memories(alloc: Global, count: u8) -> io::Result<Vec<MemDisk>> {
     Ok(devices)
 }
 
-/// Opens all files for so many scanners.
+/// Opens all files for `scanners` scanners.
 pub fn try_open_all<D: Disk + Drop>(
     alloc: Global,
     devices: Vec<D>,

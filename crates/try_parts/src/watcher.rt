@@ -1,4 +1,4 @@
-//! Who reads the scans, in a thread of its own.
+//! A reader of scans, in a thread of its own.
 ghost use Rattle.std.specs.Prelude.{◌≡◌, ◌<◌, IfOk, IsTrue};
 ghost use Rattle.snap_register.specs.Seat.{Grows};
 ghost use Rattle.snap_memory.specs.Scans.{IsSnapshot};
@@ -21,7 +21,7 @@ pub struct Watcher {
 }
 
 impl Watcher {
-    /// Who reads the scans of this scanner, after one that showed these numbers.
+    /// A reader of this scanner's scans, after one that showed these numbers.
     pub fn new(alloc: Global, scanner: Scanner, shown: Numbers) -> Result<Watcher, AllocError>
         ensures scanner { IfOk result (λ w. w.scanner ≡ scanner) }
     {
@@ -66,7 +66,7 @@ impl Watcher {
     }
 }
 
-/// Waits for the others, but for no more than so many turns of yielding: where no thread can be made
+/// Waits for the others, but for no more than `turns` of yielding: if no thread can be made
 /// they come after this one.
 pub fn wait_for_all(arrived: &AtomicU64, workers: u64, turns: u64) {
     arrived.fetch_add(1, Ordering::SeqCst);

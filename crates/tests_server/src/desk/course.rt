@@ -1,4 +1,4 @@
-//! What a desk's worker is asked while its storers work beside it.
+//! What a desk's worker is asked while its storers work.
 use crate::frames::SCAN;
 use crossbeam_channel::Receiver;
 use snap_desk::{Desk, Outcome};
@@ -19,19 +19,19 @@ pub(crate) enum Course {
     Talk,
     /// A peer sends the update, whose store is held. Meanwhile another one scans, and both go on.
     Held,
-    /// A peer sends the update, and is gone before its outcome comes. Then another one sends it too,
+    /// A peer sends the update, and is lost before its outcome comes. Then another one sends it too,
     /// and scans.
     Gone,
     /// A peer sends the update, and then the worker leaves.
     Left,
-    /// The storers are gone. Then a peer sends the frames, and takes what it is owed at once.
+    /// The storers were dropped. Then a peer sends the frames, and takes what it is owed at once.
     Alone,
 }
 
 /// A desk whose answers are counted.
 pub(crate) type CountedDesk<'f, R, M> = Counted<'f, Desk<R, M, Held>>;
 
-/// What comes to the worker, what its peers were sent, and what was counted of that at the end.
+/// The outcomes that a worker gets, what its peers were sent, and what was counted of that at the end.
 #[derive(Drop)]
 pub(crate) struct Worker<R: Wait + Copy, M: Memory> {
     pub alloc: Global,
@@ -69,10 +69,7 @@ fn ask<R: Wait + Copy + Clock, M: Memory>(
 impl<R: Wait + Copy + Clock, M: Memory> Worker<R, M> {
     /// What comes next.
     fn next(&self, rt: &R) -> Option<Done<Outcome<R, M, Held>>> {
-        match &self.inbox {
-            Some(inbox) => inbox.recv(rt).ok(),
-            None => None,
-        }
+        self.inbox.as_ref()?.recv(rt).ok()
     }
 
     /// Finishes what the session waits for, until it waits for nothing.
@@ -137,18 +134,7 @@ impl<R: Wait + Copy + Clock, M: Memory> Worker<R, M> {
         self.talk(rt, desk, SCAN)
     }
 
-    /// What a session of one peer is owed with no outcome.
-    fn talk_alone(
-        &mut self,
-        desk: &mut CountedDesk<'_, R, M>,
-        bytes: &[u8],
-    ) -> Result<(), AllocError> {
-        let mut session = Session::new(self.alloc);
-        ask(desk, &mut session, bytes, 0);
-        self.written.extend_from_slice(session.owed())
-    }
-
-    /// The whole course. At its end nothing comes to the worker any more.
+    /// The whole course. Then the worker's inbox is closed.
     pub(crate) fn run(
         &mut self,
         rt: &R,
@@ -166,7 +152,11 @@ impl<R: Wait + Copy + Clock, M: Memory> Worker<R, M> {
                 ask(desk, &mut left, bytes, 0);
                 Ok(())
             }
-            Course::Alone => self.talk_alone(desk, bytes),
+            Course::Alone => {
+                // No outcome comes any more.
+                self.inbox = None;
+                self.talk(rt, desk, bytes)
+            }
         };
         self.inbox = None;
         self.tally = desk.tally();

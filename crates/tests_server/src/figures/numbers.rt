@@ -5,7 +5,6 @@ use snap_figures::{
 use std::process::Abort;
 use std::test::Fail;
 use std::thread;
-use std::thread::Threads;
 use std::time::Duration;
 
 #[test]
@@ -61,7 +60,7 @@ fn histogram_sorts_times(rt: HostRuntime) {
     assert!(rt; times.total == 20_000_093_000);
 }
 
-/// A tally of so many updates and refusals of the last number.
+/// A tally of updates and of refusals of the last number.
 fn tally_of(updates: u64, refused: u64) -> Tally {
     let mut tally = Tally::new();
     tally.updates = updates;
@@ -107,9 +106,6 @@ fn only_what_a_number_has_grown_by_is_counted(rt: HostRuntime) -> Result<(), Fai
 
 /// Counts updates up to this one.
 fn count_to(figures: &Figures, last: u64) {
-    if figures.worker_count() == 0 {
-        return;
-    }
     for updates in 0..last {
         figures
             .worker(0)
@@ -117,38 +113,26 @@ fn count_to(figures: &Figures, last: u64) {
     }
 }
 
-/// How often the updates that were read fell, while they were counted.
-fn falls<R: AllocGlobal>(rt: &R, figures: &Figures, last: u64) -> u64 {
+/// Reads the updates while they are counted. Whether they could be read and never fell.
+fn reads<R: AllocGlobal>(rt: &R, figures: &Figures, last: u64) -> bool {
     let mut before = 0;
-    let mut falls = 0u64;
     for _ in 0..last {
-        let Ok(reading) = figures.read(rt.alloc()) else {
-            return u64::MAX;
-        };
-        if reading.requests.updates < before {
-            falls = falls.saturating_add(1);
+        match figures.read(rt.alloc()) {
+            Ok(reading) if reading.requests.updates >= before => before = reading.requests.updates,
+            _ => return false,
         }
-        before = reading.requests.updates;
     }
-    falls
-}
-
-/// One thread counts while another one reads. How often what was read fell, and what is read at the end.
-fn count_and_read<R: Threads + AllocGlobal + Sync>(
-    rt: &R,
-    figures: &Figures,
-    last: u64,
-) -> (u64, u64) {
-    let ((), falls) = thread::join(rt, || count_to(figures, last), || falls(rt, figures, last));
-    match figures.read(rt.alloc()) {
-        Ok(reading) => (falls, reading.requests.updates),
-        Err(_) => (falls, 0),
-    }
+    true
 }
 
 #[test]
 fn one_thread_reads_what_another_counts(rt: HostRuntime) -> Result<(), Fail> {
     let figures = Figures::new(rt.alloc(), 1, 1)?;
-    assert!(rt; count_and_read(&rt, &figures, 2_000) == (0, 2_000));
+    let ((), is_right) = thread::join(
+        &rt,
+        || count_to(&figures, 2_000),
+        || reads(&rt, &figures, 2_000),
+    );
+    assert!(rt; is_right && figures.read(rt.alloc())?.requests.updates == 2_000);
     Ok(())
 }

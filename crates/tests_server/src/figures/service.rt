@@ -1,6 +1,4 @@
-//! A service that counts, round one that hands updates over.
-ghost use Rattle.snap_frame.specs.Messages.{IsAskable};
-
+//! A service that counts what another one answers, which answers updates later.
 use super::tallies::request_of;
 use crate::frames::{HI, SCAN};
 use snap_disk::Refusal;
@@ -10,7 +8,7 @@ use snap_session::Service;
 use std::process::Abort;
 use std::test::Fail;
 
-/// Hands updates over, and refuses them behind one look; answers all else by three looks.
+/// Answers updates later, by a refusal after one look, and all others by three looks.
 #[derive(Drop)]
 struct Shop {
     looks_left: u64,
@@ -35,14 +33,14 @@ impl Service for Shop {
         match request {
             Request::Update { .. } => None,
             Request::Scan | Request::Status | Request::Part(_) => {
-                self.looks_left = self.looks_left.saturating_sub(3);
+                self.looks_left -= 3;
                 Some(Reply::Stored(1))
             }
         }
     }
 
     fn finish(&mut self, _request: &Request, outcome: u64) -> Reply {
-        self.looks_left = self.looks_left.saturating_sub(1);
+        self.looks_left -= 1;
         Reply::Refused {
             why: Refusal::Fenced,
             detail: outcome,
@@ -50,19 +48,15 @@ impl Service for Shop {
     }
 }
 
-/// A tally of what the shop answers: so many scans, and so many updates.
+/// A tally of what the shop answers to these numbers of scans and updates.
 fn tally_of(scans: u64, updates: u64) -> Tally {
     let mut tally = Tally::new();
     tally.scans = scans;
     tally.updates = updates;
     tally.refusals[5] = updates;
-    tally.looks = scans.saturating_mul(3).saturating_add(updates);
-    tally.bytes_in = scans
-        .saturating_mul(5)
-        .saturating_add(updates.saturating_mul(16));
-    tally.bytes_out = scans
-        .saturating_mul(13)
-        .saturating_add(updates.saturating_mul(14));
+    tally.looks = 3 * scans + updates;
+    tally.bytes_in = 5 * scans + 16 * updates;
+    tally.bytes_out = 13 * scans + 14 * updates;
     tally
 }
 
@@ -83,15 +77,8 @@ fn counts_what_was_answered(rt: HostRuntime) -> Result<(), Fail> {
     assert!(rt; shop.answer(&update, 2).is_none());
     assert!(rt; is_counted(&shop, &figures, &tally_of(1, 0)));
     let reply = shop.finish(&update, 7);
-    assert!(rt;
-        matches!(
-            &reply,
-            Reply::Refused {
-                why: Refusal::Fenced,
-                detail: 7
-            }
-        )
-    );
+    let (why, detail) = (Refusal::Fenced, 7);
+    assert!(rt; reply == Reply::Refused { why, detail });
     assert!(rt; is_counted(&shop, &figures, &tally_of(1, 1)));
     assert!(rt; shop.answer(&scan, 1).is_some());
     assert!(rt; is_counted(&shop, &figures, &tally_of(2, 1)));

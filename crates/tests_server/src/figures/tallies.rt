@@ -1,7 +1,4 @@
 //! What requests and their replies add to a tally.
-ghost use Rattle.std.specs.Prelude.{IfOk};
-ghost use Rattle.snap_frame.specs.Messages.{IsAskable, IsInLimits};
-
 use crate::frames::{
     CONFLICT, EMPTY, FENCED, HI, REPEAT, SCAN, SNAPSHOT_HI, STATUS, STATUS_HI, STORED_1,
 };
@@ -20,25 +17,21 @@ const PART_HI: &[u8] = &[
 ];
 
 /// The request of a frame.
-pub(crate) fn request_of(alloc: Global, frame: &[u8]) -> Result<Request, Fail>
-    ensures { IfOk result IsAskable }
-{
+pub(crate) fn request_of(alloc: Global, frame: &[u8]) -> Result<Request, Fail> {
     let mut feed = Feed::new(alloc);
     feed.push(frame)?;
     match feed.next()? {
-        Some(request) => Ok(request),
+        Some(message) => Ok(message),
         None => Err(Fail::from("no frame")),
     }
 }
 
 /// The reply of a frame.
-fn reply_of(alloc: Global, frame: &[u8]) -> Result<Reply, Fail>
-    ensures { IfOk result IsInLimits }
-{
+fn reply_of(alloc: Global, frame: &[u8]) -> Result<Reply, Fail> {
     let mut feed = ReplyFeed::new(alloc);
     feed.push(frame)?;
     match feed.next()? {
-        Some(reply) => Ok(reply),
+        Some(message) => Ok(message),
         None => Err(Fail::from("no frame")),
     }
 }
@@ -56,29 +49,21 @@ fn lengths_are_those_of_the_frames(rt: HostRuntime) -> Result<(), Fail> {
     Ok(())
 }
 
-/// Counts this request and reply, and so many looks.
-fn count(
-    alloc: Global,
-    tally: &mut Tally,
-    request: &[u8],
-    reply: &[u8],
-    looks: u64,
-) -> Result<(), Fail> {
-    let request = request_of(alloc, request)?;
-    let reply = reply_of(alloc, reply)?;
-    tally.count(&request, &reply, looks);
-    Ok(())
-}
-
 #[test]
 fn each_kind_is_counted(rt: HostRuntime) -> Result<(), Fail> {
     let mut tally = Tally::new();
-    count(rt.alloc(), &mut tally, HI, STORED_1, 0)?;
-    count(rt.alloc(), &mut tally, CONFLICT.0, CONFLICT.1, 1)?;
-    count(rt.alloc(), &mut tally, HI, FENCED, 1)?;
-    count(rt.alloc(), &mut tally, SCAN, SNAPSHOT_HI, 4)?;
-    count(rt.alloc(), &mut tally, PART, PART_HI, 6)?;
-    count(rt.alloc(), &mut tally, STATUS, STATUS_HI.1, 0)?;
+    for (request, reply, looks) in [
+        (HI, STORED_1, 0),
+        (CONFLICT.0, CONFLICT.1, 1),
+        (HI, FENCED, 1),
+        (SCAN, SNAPSHOT_HI, 4),
+        (PART, PART_HI, 6),
+        (STATUS, STATUS_HI.1, 0),
+    ] {
+        let request = request_of(rt.alloc(), request)?;
+        let reply = reply_of(rt.alloc(), reply)?;
+        tally.count(&request, &reply, looks);
+    }
     let mut wanted = Tally::new();
     wanted.updates = 3;
     wanted.scans = 1;

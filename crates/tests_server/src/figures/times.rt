@@ -1,4 +1,4 @@
-//! Devices whose stores are timed, by a clock that goes on by 20 microseconds each time that it is read.
+//! Devices whose stores are timed, by a clock that advances by 20 microseconds with each reading.
 use snap_devices::{FaultPlan, MemDisk};
 use snap_disk::{Disk, Fill, Refusal};
 use snap_figures::{BOUNDS, Distribution, SegmentFigures, Timed};
@@ -10,7 +10,7 @@ use std::sync::atomic::{AtomicU64, Ordering};
 use std::test::Fail;
 use std::time::Duration;
 
-/// It goes on by 20 microseconds each time that it is read, from 20 on. Readings behind so many fail.
+/// It advances by 20 microseconds with each reading, from 20 on. Readings after `passes` fail.
 #[derive(Drop)]
 struct Ticking {
     readings: AtomicU64,
@@ -63,9 +63,6 @@ const STORE: [Call; 6] = [
 
 /// Makes one call of the device. Whether it succeeded.
 fn succeeds(disk: &mut impl Disk, call: Call) -> bool {
-    if disk.len() == 0 || disk.failures() == u64::MAX {
-        return false;
-    }
     match call {
         Call::Write => disk.write_at(0, &[7]).is_ok(),
         Call::Sync => disk.sync().is_ok(),
@@ -87,15 +84,13 @@ fn failing(alloc: Global, number: u64) -> Result<MemDisk, AllocError> {
     Ok(disk)
 }
 
-/// So many times at this place, and so long together, in microseconds.
+/// `count` times at this place, of `micros` microseconds in all.
 fn times(place: usize, count: u64, micros: u64) -> Distribution {
     let mut counts = [0; BOUNDS + 1];
-    if place < counts.len() {
-        counts[place] = count;
-    }
+    counts[place] = count;
     Distribution {
         counts,
-        total: micros.saturating_mul(1_000),
+        total: micros * 1_000,
     }
 }
 
@@ -116,7 +111,7 @@ fn times_two_stores(rt: HostRuntime) -> Result<(), Fail> {
     Ok(())
 }
 
-/// What is counted where the call of this number fails, and a whole store is made behind it.
+/// What is counted if the call of this number fails, and a whole store is made after it.
 fn with_fault(alloc: Global, number: u64) -> Result<(u64, u64, u64), AllocError> {
     let figures = SegmentFigures::new();
     let clock = Ticking::new(u64::MAX);
@@ -137,10 +132,12 @@ fn with_fault(alloc: Global, number: u64) -> Result<(u64, u64, u64), AllocError>
 
 #[test]
 fn broken_store_is_not_counted(rt: HostRuntime) -> Result<(), Fail> {
-    assert!(rt; with_fault(rt.alloc(), 1)? == (1, 1, 1));
-    assert!(rt; with_fault(rt.alloc(), 3)? == (1, 1, 1));
-    assert!(rt; with_fault(rt.alloc(), 5)? == (2, 1, 1));
-    assert!(rt; with_fault(rt.alloc(), 6)? == (2, 1, 1));
+    for (number, first_waits) in [(1, 1), (3, 1), (5, 2), (6, 2)] {
+        assert!(rt;
+            with_fault(rt.alloc(), number)? == (first_waits, 1, 1),
+            "call {number}"
+        );
+    }
     Ok(())
 }
 

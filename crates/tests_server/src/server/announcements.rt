@@ -10,7 +10,7 @@ use std::sync::Wait;
 use std::sync::atomic::{AtomicU64, Ordering};
 use std::thread::Threads;
 
-/// Gives no connection, and counts how often it is asked for one.
+/// Accepts no connection, and counts how often it is asked for one.
 #[derive(Drop)]
 struct Asked {
     calls: AtomicU64,
@@ -37,7 +37,7 @@ struct Said {
     asked: u64,
 }
 
-/// Tells how often the listener was asked, or can't.
+/// Says how often the listener was asked, or can't.
 #[derive(Drop)]
 struct Telling<'a> {
     listener: &'a Asked,
@@ -51,7 +51,7 @@ impl Announce<Said> for Telling<'_> {
 
     fn announce(&self, to: &mut Said) -> io::Result<()> {
         *to = Said {
-            times: to.times.saturating_add(1),
+            times: to.times + 1,
             asked: self.listener.calls.load(Ordering::SeqCst),
         };
         if self.can_tell {
@@ -91,27 +91,14 @@ fn announced<R: Threads + Wait + Clock + Net + AllocGlobal + Sync>(
 
 #[test]
 fn a_server_is_announced_before_it_accepts(rt: HostRuntime) {
+    let said = Said { times: 1, asked: 0 };
     let ended = announced(&rt, true);
-    assert!(rt;
-        matches!(
-            ended,
-            Some((Err(RunFault::Server(_)), Said { times: 1, asked: 0 }, 16, 1))
-        )
-    );
+    assert!(rt; matches!(ended, Some((Err(RunFault::Server(_)), it, 16, 1)) if it == said));
 }
 
 #[test]
 fn one_that_cannot_be_announced_accepts_none(rt: HostRuntime) {
+    let said = Said { times: 1, asked: 0 };
     let ended = announced(&rt, false);
-    assert!(rt;
-        matches!(
-            ended,
-            Some((
-                Err(RunFault::Announcement(_)),
-                Said { times: 1, asked: 0 },
-                0,
-                1
-            ))
-        )
-    );
+    assert!(rt; matches!(ended, Some((Err(RunFault::Announcement(_)), it, 0, 1)) if it == said));
 }

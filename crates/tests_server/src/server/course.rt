@@ -1,10 +1,10 @@
-//! What a server does, as its gate, its service and its notes tell it.
+//! What a server does, as its gate, its service and its notes see it.
 
 use snap_server::{Ended, Ending, Gate, Note, Peer};
 use snap_session::End;
 use std::sync::atomic::{AtomicU64, Ordering};
 
-/// Where the request stands that a worker is at, where no two are under way at once.
+/// How far the only request under way is.
 #[derive(Clone, Copy)]
 pub(crate) enum Stand {
     Outside,
@@ -28,7 +28,7 @@ impl Stand {
 #[derive(Drop)]
 pub(crate) struct Course {
     stand: AtomicU64,
-    /// Steps that came from another stand than they had to.
+    /// Steps that didn't begin where they had to.
     wrong: AtomicU64,
     left: AtomicU64,
     closed: AtomicU64,
@@ -54,6 +54,14 @@ pub(crate) struct Ends {
     pub(crate) port: u64,
 }
 
+fn count(number: &AtomicU64) {
+    number.fetch_add(1, Ordering::SeqCst);
+}
+
+fn get(number: &AtomicU64) -> u64 {
+    number.load(Ordering::SeqCst)
+}
+
 impl Course {
     pub(crate) fn new() -> Course {
         Course {
@@ -73,41 +81,31 @@ impl Course {
         }
     }
 
-    /// A request goes from one stand to the next.
+    /// A request makes one step.
     pub(crate) fn step(&self, from: Stand, to: Stand) {
         if self.stand.swap(to.number(), Ordering::SeqCst) != from.number() {
-            self.wrong.fetch_add(1, Ordering::SeqCst);
+            count(&self.wrong);
         }
     }
 
-    /// What the server tells.
+    /// A note of the server.
     pub(crate) fn note(&self, note: &Note) {
         match note {
             Note::Ended(ended) => self.count_end(ended),
-            Note::Full { .. } => {
-                self.full.fetch_add(1, Ordering::SeqCst);
-            }
-            Note::Room => {
-                self.room.fetch_add(1, Ordering::SeqCst);
-            }
-            Note::Deaf => {
-                self.deaf.fetch_add(1, Ordering::SeqCst);
-            }
+            Note::Full { .. } => count(&self.full),
+            Note::Room => count(&self.room),
+            Note::Deaf => count(&self.deaf),
         }
     }
 
-    /// How often it told that there is no room, that there is again, and that it accepts no more.
+    /// How often it noted that there is no room, that there is again, and that it accepts no more.
     pub(crate) fn told(&self) -> (u64, u64, u64) {
-        (
-            self.full.load(Ordering::SeqCst),
-            self.room.load(Ordering::SeqCst),
-            self.deaf.load(Ordering::SeqCst),
-        )
+        (get(&self.full), get(&self.room), get(&self.deaf))
     }
 
     /// A connection has ended.
     fn count_end(&self, ended: &Ended) {
-        let count = match ended.how {
+        let to = match ended.how {
             Ending::Session(End::Closed) => &self.closed,
             Ending::Session(End::Truncated) => &self.truncated,
             Ending::Session(End::TooLarge) => &self.too_large,
@@ -115,35 +113,30 @@ impl Course {
             Ending::Silent => &self.silent,
             Ending::Stopped => &self.stopped,
         };
-        count.fetch_add(1, Ordering::SeqCst);
+        count(to);
         if let Peer::Tcp(peer) = ended.peer {
             self.port.store(u64::from(peer.port()), Ordering::SeqCst);
         }
     }
 
-    /// How many connections were let go of that were silent, and how many since the server stopped.
-    pub(crate) fn let_go(&self) -> (u64, u64) {
-        (
-            self.silent.load(Ordering::SeqCst),
-            self.stopped.load(Ordering::SeqCst),
-        )
+    /// How many connections were closed that were silent, and how many because the server stopped.
+    pub(crate) fn closed_early(&self) -> (u64, u64) {
+        (get(&self.silent), get(&self.stopped))
     }
 
     /// How many requests have left the gate, and how many steps were wrong.
     pub(crate) fn passed(&self) -> (u64, u64) {
-        let left = self.left.load(Ordering::SeqCst);
-        let wrong = self.wrong.load(Ordering::SeqCst);
-        (left, wrong)
+        (get(&self.left), get(&self.wrong))
     }
 
     /// How the connections ended.
     pub(crate) fn ends(&self) -> Ends {
         Ends {
-            closed: self.closed.load(Ordering::SeqCst),
-            truncated: self.truncated.load(Ordering::SeqCst),
-            too_large: self.too_large.load(Ordering::SeqCst),
-            failed: self.failed.load(Ordering::SeqCst),
-            port: self.port.load(Ordering::SeqCst),
+            closed: get(&self.closed),
+            truncated: get(&self.truncated),
+            too_large: get(&self.too_large),
+            failed: get(&self.failed),
+            port: get(&self.port),
         }
     }
 }
@@ -155,6 +148,6 @@ impl Gate for Course {
 
     fn leave(&self) {
         self.step(Stand::Answered, Stand::Outside);
-        self.left.fetch_add(1, Ordering::SeqCst);
+        count(&self.left);
     }
 }

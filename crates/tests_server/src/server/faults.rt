@@ -10,7 +10,7 @@ use std::sync::atomic::{AtomicU64, Ordering};
 use std::test::Fail;
 use std::thread::Threads;
 
-/// Gives no connection, ever.
+/// Accepts no connection, ever.
 #[derive(Drop)]
 struct Deaf {
     calls: AtomicU64,
@@ -27,7 +27,7 @@ impl Listen for &Deaf {
     fn close(&self) {}
 }
 
-/// Gives none so often before each connection, for this reason.
+/// Accepts none so often before each connection, for this reason.
 #[derive(Drop)]
 struct Slow {
     tcp: Tcp,
@@ -41,7 +41,7 @@ impl Listen for &Slow {
 
     fn accept(&mut self) -> Result<Arrival, Unaccepted> {
         let call = self.calls.fetch_add(1, Ordering::SeqCst);
-        if call % self.tries.saturating_add(1).max(1) == self.tries {
+        if call % (self.tries + 1) == self.tries {
             return Listen::accept(&mut &self.tcp);
         }
         Err(self.why)
@@ -53,7 +53,7 @@ impl Listen for &Slow {
 }
 
 /// What a server over a deaf listener answers, how often it asked for a connection, and how often it
-/// told that it asks no more.
+/// reported that it asks no more.
 fn over_deaf<R: Threads + Wait + Clock + Net + AllocGlobal + Sync>(
     rt: &R,
     connections: Option<u64>,
@@ -74,8 +74,8 @@ fn sixteen_faults_in_a_row_end_accepting(rt: HostRuntime) {
     assert!(rt; over_deaf(&rt, Some(0)) == (Ok(0), 0, 0));
 }
 
-/// Serves two connections, each behind so many tries that gave none, for this reason: whether it served
-/// both, and what was told of room.
+/// Serves two connections, each after `tries` that gave none, for this reason: whether it served
+/// both, and what was reported of the limit.
 fn over_slow<R: Threads + Wait + Clock + Net + AllocGlobal + Sync>(
     rt: &R,
     host: &HostRuntime,
@@ -105,7 +105,7 @@ fn fifteen_faults_in_a_row_pass(rt: HostRuntime) -> Result<(), Fail> {
 }
 
 #[test]
-fn want_of_room_and_callers_that_are_gone_are_no_faults(rt: HostRuntime) -> Result<(), Fail> {
+fn no_room_and_lost_callers_are_no_faults(rt: HostRuntime) -> Result<(), Fail> {
     assert!(rt; over_slow(&rt, &rt, 40, Unaccepted::Gone)? == (true, (0, 0, 0)));
     let (served, (full, _, deaf)) = over_slow(&rt, &rt, 20, Unaccepted::NoRoom)?;
     assert!(rt; served && full >= 1 && full <= 2 && deaf == 0);

@@ -1,4 +1,4 @@
-//! Connections that the server lets go of.
+//! Connections that the server closes.
 
 use super::course::Course;
 use super::{connect, limits, listen, send, serve, serve_behind};
@@ -9,7 +9,7 @@ use std::sync::atomic::{AtomicU64, Ordering};
 use std::test::Fail;
 use std::time::Duration;
 
-/// Gives so many connections, and then fails.
+/// Accepts `few` connections, and then fails.
 #[derive(Drop)]
 struct Few {
     tcp: Tcp,
@@ -41,14 +41,14 @@ fn briefly(connections: Option<u64>) -> Limits {
 }
 
 #[test]
-fn silent_connections_are_let_go(rt: HostRuntime) -> Result<(), Fail> {
+fn silent_connections_are_closed(rt: HostRuntime) -> Result<(), Fail> {
     let (tcp, address) = listen(&rt)?;
     let quiet = connect(&rt, address)?;
     let mut begun = connect(&rt, address)?;
     begun.write_all(&SCAN[..3])?;
     let course = Course::new();
     let served = serve_behind(&rt, &tcp, 1, briefly(Some(2)), &course, &course);
-    assert!(rt; served == Ok(2) && course.let_go() == (2, 0));
+    assert!(rt; served == Ok(2) && course.closed_early() == (2, 0));
     drop(quiet);
     drop(begun);
     Ok(())
@@ -60,13 +60,13 @@ fn who_said_all_is_answered_before_it_is_let_go(rt: HostRuntime) -> Result<(), F
     let said = send(&rt, address, SCAN)?;
     let course = Course::new();
     let served = serve_behind(&rt, &tcp, 1, briefly(Some(1)), &course, &course);
-    assert!(rt; served == Ok(1) && course.let_go() == (0, 0) && course.ends().closed == 1);
+    assert!(rt; served == Ok(1) && course.closed_early() == (0, 0) && course.ends().closed == 1);
     drop(said);
     Ok(())
 }
 
 #[test]
-fn a_server_that_stops_lets_quiet_connections_go(rt: HostRuntime) -> Result<(), Fail> {
+fn a_server_that_stops_closes_quiet_connections(rt: HostRuntime) -> Result<(), Fail> {
     let (tcp, address) = listen(&rt)?;
     let first = connect(&rt, address)?;
     let second = connect(&rt, address)?;
@@ -77,7 +77,7 @@ fn a_server_that_stops_lets_quiet_connections_go(rt: HostRuntime) -> Result<(), 
     };
     let course = Course::new();
     assert!(rt; serve(&rt, &few, 2, None, &course) == Err(ServerFault::AcceptFailed));
-    assert!(rt; course.let_go() == (0, 2));
+    assert!(rt; course.closed_early() == (0, 2));
     drop(first);
     drop(second);
     Ok(())

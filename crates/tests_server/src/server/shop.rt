@@ -15,7 +15,7 @@ pub(crate) struct Job {
     number: u64,
 }
 
-/// Is done with every update at once, and tells its number.
+/// Completes every update at once with its number.
 #[derive(Drop)]
 pub(crate) struct Store<'a, R: Wait> {
     pub(crate) rt: &'a R,

@@ -1,10 +1,10 @@
 //! Connections that talk with a server.
 
 use super::course::{Course, Ends};
-use super::{connect, listen, received, send, serve};
+use super::{connect, gets, listen, received, send, serve};
 use crate::frames::SCAN;
 use snap_server::Tcp;
-use std::io::{Read, Write};
+use std::io::Write;
 use std::net::{Net, Shutdown, SocketAddr, TcpStream};
 use std::rt::Clock;
 use std::sync::Wait;
@@ -25,13 +25,6 @@ const FIVE: &[u8] = b"\x00\x00\x00\x09\x81\x00\x00\x00\x00\x00\x00\x00\x05";
 const THREE: &[u8] = b"\x00\x00\x00\x01\x02\
 \x00\x00\x00\x0c\x01\x00\x00\x00\x00\x00\x00\x00\x00\x05hi\
 \x00\x00\x00\x01\x02";
-
-/// Whether these bytes come next.
-fn gets(mut stream: &TcpStream, wanted: &[u8]) -> io::Result<bool> {
-    let mut bytes = [0u8; 13];
-    stream.read_exact(&mut bytes)?;
-    Ok(bytes.as_slice() == wanted)
-}
 
 /// Asks once. Whether this is the reply.
 pub(crate) fn asks(mut stream: &TcpStream, request: &[u8], reply: &[u8]) -> io::Result<bool> {
@@ -55,32 +48,19 @@ fn answers_in_order_inside_the_gate(rt: HostRuntime) -> Result<(), Fail> {
     Ok(())
 }
 
-/// Five connections that have sent an update each.
-fn five(rt: &HostRuntime, address: SocketAddr) -> io::Result<Vec<TcpStream>> {
-    let mut streams = Vec::new(rt.alloc());
-    for _ in 0..5u64 {
-        streams.push(send(rt, address, UPDATE)?)?;
-    }
-    Ok(streams)
-}
-
-/// Whether each of these connections gets the reply to an update next.
-fn all_get(streams: &[TcpStream]) -> io::Result<bool> {
-    for stream in streams {
-        if !gets(stream, FIVE)? {
-            return Ok(false);
-        }
-    }
-    Ok(true)
-}
-
 #[test]
 fn answers_the_number_of_connections(rt: HostRuntime) -> Result<(), Fail> {
     let (tcp, address) = listen(&rt)?;
     let course = Course::new();
-    let streams = five(&rt, address)?;
+    let mut streams = Vec::new(rt.alloc());
+    for _ in 0..5u64 {
+        streams.push(send(&rt, address, UPDATE)?)?;
+    }
     assert!(rt; serve(&rt, &tcp, 2, Some(5), &course) == Ok(5));
-    assert!(rt; course.ends().closed == 5 && all_get(&streams)?);
+    assert!(rt; course.ends().closed == 5);
+    for stream in &streams {
+        assert!(rt; gets(stream, FIVE)?);
+    }
     Ok(())
 }
 
@@ -112,7 +92,7 @@ fn notes_each_end(rt: HostRuntime) -> Result<(), Fail> {
             },
         ),
         (
-            b"\x00\x01\x01\xd1".as_slice(),
+            b"\x00\x01\x01\xd1",
             Ends {
                 too_large: 1,
                 ..none
@@ -127,7 +107,7 @@ fn notes_each_end(rt: HostRuntime) -> Result<(), Fail> {
 }
 
 #[test]
-fn a_peer_that_vanishes_harms_nobody(rt: HostRuntime) -> Result<(), Fail> {
+fn a_peer_that_vanishes_harms_no_other(rt: HostRuntime) -> Result<(), Fail> {
     let (tcp, address) = listen(&rt)?;
     let vanished = send(&rt, address, UPDATE)?;
     drop(vanished);

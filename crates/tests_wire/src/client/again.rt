@@ -1,41 +1,30 @@
 //! One request on one connection after another.
-use super::words::{Answer, told};
+use super::words::{Answer, in_words};
 use super::{REFUSED, TALK};
 use crate::streams::{sink, source};
 use bytes::Bytes;
-use snap_client::{ClientFault, MAX_TRIES, call_again};
+use snap_client::{ClientFault, call_again};
 use snap_frame::Request;
-use snap_stream::TestStream;
 use std::alloc::{AllocError, Global};
 use std::test::Fail;
 
-/// What comes on a connection: `None` where it can't be made.
-type Link = Option<(TestStream, TestStream)>;
-
-fn link(alloc: Global, comes: Option<&[u8]>) -> Result<Link, AllocError> {
-    let Some(bytes) = comes else {
-        return Ok(None);
-    };
-    let reader = source(alloc, bytes, usize::MAX, 4096)?;
-    Ok(Some((reader, sink(alloc, usize::MAX))))
-}
-
-/// These connections, the last one first.
-fn links(alloc: Global, comes: &[Option<&[u8]>]) -> Result<Vec<Link>, AllocError> {
-    let mut links = Vec::new(alloc);
-    for come in comes.iter().rev() {
-        links.push(link(alloc, *come)?)?;
-    }
-    Ok(links)
-}
-
-/// What the update is answered in so many tries, and how many connections weren't asked for.
+/// What the update is answered in `tries` over these connections, of which `None` can't be made, and how many of them
+/// weren't asked for.
 fn update(
     alloc: Global,
-    comes: &[Option<&[u8]>],
+    connections: &[Option<&[u8]>],
     tries: u8,
 ) -> Result<(Answer, usize), AllocError> {
-    let mut links = links(alloc, comes)?;
+    let mut links = Vec::new(alloc);
+    for bytes in connections.iter().rev() {
+        links.push(match bytes {
+            Some(bytes) => {
+                let reader = source(alloc, *bytes, usize::MAX, 4096)?;
+                Some((reader, sink(alloc, usize::MAX)))
+            }
+            None => None,
+        })?;
+    }
     let request = Request::Update {
         segment: 0,
         number: 1,
@@ -45,8 +34,8 @@ fn update(
         Some(link) => link,
         None => None,
     };
-    let answer = call_again(alloc, &mut connect, &request, tries.clamp(1, MAX_TRIES));
-    Ok((told(&answer), links.len()))
+    let answer = call_again(alloc, &mut connect, &request, tries);
+    Ok((in_words(&answer), links.len()))
 }
 
 /// The first connection can't be made, the second one ends once the update was stored, and the
@@ -54,14 +43,14 @@ fn update(
 #[test]
 fn third_try_succeeds(rt: HostRuntime) -> Result<(), Fail> {
     let stored = TALK[0].1;
-    let comes = [None, Some(&stored[..0]), Some(stored), Some(stored)];
+    let connections = [None, Some(&stored[..0]), Some(stored), Some(stored)];
     for (tries, answer, left) in [
         (3, Ok("stored 1"), 1),
         (10, Ok("stored 1"), 1),
         (2, Err(ClientFault::Ended), 2),
         (1, Err(ClientFault::ConnectFailed), 3),
     ] {
-        assert_eq!(rt; update(rt.alloc(), &comes, tries)?, (answer, left));
+        assert_eq!(rt; update(rt.alloc(), &connections, tries)?, (answer, left));
     }
     Ok(())
 }
@@ -73,8 +62,8 @@ fn ends_for_good(rt: HostRuntime) -> Result<(), Fail> {
         (REFUSED.as_slice(), Ok("worn")),
         (TALK[1].1, Err(ClientFault::BadReply)),
     ] {
-        let comes = [Some(reply), Some(TALK[0].1)];
-        assert_eq!(rt; update(rt.alloc(), &comes, 3)?, (answer, 1));
+        let connections = [Some(reply), Some(TALK[0].1)];
+        assert_eq!(rt; update(rt.alloc(), &connections, 3)?, (answer, 1));
     }
     Ok(())
 }

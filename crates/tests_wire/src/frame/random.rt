@@ -1,11 +1,11 @@
-//! Random bytes in random pieces, beside a plain parser that reads one byte after the other.
+//! Random bytes in random pieces, compared with a plain parser that reads one byte after the other.
 
-use super::expect_next;
-use bytes::Bytes;
+use super::comes;
+use super::messages::{Answer, update};
+use crate::streams::Host;
 use snap_disk::Refusal;
 use snap_frame::{Feed, Request, SegmentSet};
 use std::alloc::{AllocError, Global};
-use std::process::Abort;
 use std::test::Fail;
 
 /// Numbers that look random, the same for each run: a linear congruential generator.
@@ -25,7 +25,7 @@ impl Random {
     }
 }
 
-/// What stands at the end of the bytes that were read.
+/// What the last byte ended.
 #[derive(Debug, Drop)]
 enum Said {
     Nothing,
@@ -76,35 +76,21 @@ impl PlainParser {
 }
 
 /// What a feed has to answer to a payload.
-fn answer_to(
-    alloc: Global,
-    payload: &[u8],
-) -> Result<Result<Option<Request>, Refusal>, AllocError> {
-    if payload == [2].as_slice() {
-        return Ok(Ok(Some(Request::Scan)));
+fn answer_to(alloc: Global, payload: &[u8]) -> Result<Answer, AllocError> {
+    match payload {
+        [2] => Ok(Ok(Some(Request::Scan))),
+        [3] => Ok(Ok(Some(Request::Status))),
+        [4, 0, 0] => Ok(Err(Refusal::Malformed)),
+        [4, high, low] => {
+            let bits = u16::from_be_bytes([*high, *low]);
+            Ok(Ok(Some(Request::Part(SegmentSet { bits }))))
+        }
+        [1, segment, a, b, c, d, e, f, g, h, value @ ..] => {
+            let number = u64::from_be_bytes([*a, *b, *c, *d, *e, *f, *g, *h]);
+            update(alloc, *segment, number, value)
+        }
+        _ => Ok(Err(Refusal::Malformed)),
     }
-    if payload == [3].as_slice() {
-        return Ok(Ok(Some(Request::Status)));
-    }
-    if payload.len() == 3 && payload[0] == 4 {
-        let bits = u16::wrapping_add(u16::from(payload[1]) << 8, u16::from(payload[2]));
-        return Ok(match bits {
-            0 => Err(Refusal::Malformed),
-            _ => Ok(Some(Request::Part(SegmentSet { bits }))),
-        });
-    }
-    if payload.len() < 10 || payload[0] != 1 {
-        return Ok(Err(Refusal::Malformed));
-    }
-    let mut number: u64 = 0;
-    for digit in &payload[2..10] {
-        number = u64::wrapping_add(number << 8, u64::from(*digit));
-    }
-    Ok(Ok(Some(Request::Update {
-        segment: payload[1],
-        number,
-        value: Bytes::copy_from_slice(alloc, &payload[10..])?,
-    })))
 }
 
 /// Some frames with random payloads, rarely with a random length.
@@ -135,66 +121,32 @@ fn a_million_random_bytes(rt: HostRuntime) -> Result<(), Fail> {
     Ok(())
 }
 
-/// The feed answers what the plain parser reads, as soon as it reads it.
+/// The feed, which gets the stream in random pieces, answers what the plain parser reads in each piece.
 fn expect_same(
-    rt: &impl Abort,
+    rt: &impl Host,
     alloc: Global,
     random: &mut Random,
     stream: &[u8],
-) -> Result<(), AllocError> {
-    let mut both = Both::new(alloc);
+) -> Result<(), Fail> {
+    let (mut feed, mut plain) = (Feed::new(alloc), PlainParser::new(alloc));
     let mut start = 0;
     for end in 1..=stream.len() {
         if random.byte() > 12 {
             continue;
         }
-        if !both.expect_of_piece(rt, alloc, &stream[start.min(end)..end])? {
-            return Ok(());
-        }
-        start = end;
-    }
-    Ok(())
-}
-
-/// A feed and a plain parser that get the same bytes.
-#[derive(Drop)]
-struct Both {
-    feed: Feed,
-    plain: PlainParser,
-}
-
-impl Both {
-    fn new(alloc: Global) -> Both {
-        Both {
-            feed: Feed::new(alloc),
-            plain: PlainParser::new(alloc),
-        }
-    }
-
-    /// The feed, which gets the piece at once, answers what the plain parser reads in it. Says
-    /// whether both go on.
-    fn expect_of_piece(
-        &mut self,
-        rt: &impl Abort,
-        alloc: Global,
-        piece: &[u8],
-    ) -> Result<bool, AllocError> {
-        if self.feed.push(piece).is_err() {
-            return Err(AllocError);
-        }
-        for byte in piece {
-            match self.plain.take(alloc, *byte)? {
+        feed.push(&stream[start..end])?;
+        for byte in &stream[start..end] {
+            match plain.take(alloc, *byte)? {
                 Said::Nothing => {}
-                Said::Frame(payload) => {
-                    expect_next(rt, &mut self.feed, &answer_to(alloc, &payload)?);
-                }
+                Said::Frame(payload) => comes(rt, &mut feed, &answer_to(alloc, &payload)?),
                 Said::TooLarge => {
-                    expect_next(rt, &mut self.feed, &Err(Refusal::TooLarge));
-                    return Ok(false);
+                    comes(rt, &mut feed, &Err(Refusal::TooLarge));
+                    return Ok(());
                 }
             }
         }
-        expect_next(rt, &mut self.feed, &Ok(None));
-        Ok(true)
+        comes(rt, &mut feed, &Ok(None));
+        start = end;
     }
+    Ok(())
 }

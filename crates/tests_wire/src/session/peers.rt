@@ -1,4 +1,4 @@
-//! Services that are easily foreseen, and peers that may make their sessions wait.
+//! Services with plain answers, and peers that may make their sessions wait.
 
 use crate::streams::{sink, source};
 use snap_disk::Refusal;
@@ -23,7 +23,7 @@ impl Service for Counter {
     ghost hands_over = { ⊥ };
 
     fn answer(&mut self, request: &Request, _key: usize) -> Option<Reply> {
-        self.answered = self.answered.wrapping_add(1);
+        self.answered = self.answered + 1;
         Some(match request {
             Request::Update { segment, .. } => Reply::Stored(u64::from(*segment)),
             _ => Reply::Refused {
@@ -116,7 +116,7 @@ impl Write for Waiting {
     }
 }
 
-/// A session, and what stands between it and its peer: what the peer sends, and what it was sent.
+/// A session, what its peer sends, and what it was sent.
 #[derive(Drop)]
 pub(crate) struct Peer {
     session: Session,

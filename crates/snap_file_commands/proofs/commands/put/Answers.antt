@@ -4,7 +4,7 @@ use Rattle.snap_stream.proofs.Known.{had}
 use Rattle.snap_file_commands.specs.Effects.{LeavesNoMore}
 use Rattle.snap_file_commands.specs.declared.failure.CommandFailure.TheVariants.{Refused}
 use Rattle.snap_file_commands.proofs.Refused.{put_keeps, refused_count, refused_keeps, refused_open}
-use Rattle.snap_file_commands.proofs.Stored.{held, put_calls, put_leaves, store_ends_put}
+use Rattle.snap_file_commands.proofs.Stored.{held, put_leaves, store_ends_put}
 use Rattle.snap_file_commands.proofs.commands.put.Goals as goal
 
 pub returns-in-Err-open-clause-count : goal.returns-in-Err-open-clause-count
@@ -47,10 +47,6 @@ returns-clause-honest g c = λ honest. c.in-Ok-open.ensures.honest_ok
 pub returns-clause-count : goal.returns-clause-count
 returns-clause-count g c = rw c.into_device.ensures.device
     (rw c.in-Ok-open.ensures.count_ok at c.store-end.ensures.count)
-
-pub returns-clause-calls : goal.returns-clause-calls
-returns-clause-calls g c = rw c.into_device.ensures.device
-    (put_calls _ _ _ c.store-end.result c.in-Ok-open.ensures.calls_ok c.store-end.ensures.calls)
 
 pub returns-clause-ends : goal.returns-clause-ends
 returns-clause-ends g c =

@@ -1,4 +1,4 @@
-use Rattle.std.proofs.Common.{rules, refl}
+use Rattle.std.proofs.Common.{refl}
 use Rattle.snap_file_commands.proofs.Founded.{kept, unopened, unopened_count}
 use Rattle.snap_file_commands.proofs.foundation.keep.Goals as goal
 
@@ -9,7 +9,7 @@ returns-in-Err-clause-count g c =
 pub returns-in-Err-clause-ends : goal.returns-in-Err-clause-ends
 returns-in-Err-clause-ends g c =
     rw c.of_formatted.ensures (unopened _ _ _ (g.D.Disk.device c.args.disk)
-    (g.D.Disk.device c.in-Err.disk) _ c.in-Err.why c.in-Err.ensures.refusals c.in-Err.ensures.refused)
+    (g.D.Disk.device c.in-Err.disk) c.in-Err.why c.in-Err.ensures.refusals c.in-Err.ensures.refused)
 
 pub returns-in-Ok-write_whole-clause-ends : goal.returns-in-Ok-write_whole-clause-ends
 returns-in-Ok-write_whole-clause-ends g c =
@@ -24,7 +24,6 @@ returns-in-Ok-write_whole-clause-ends g c =
             rw c.into_device-in-Ok-write_whole.ensures.device (kept c.args.index c.args.count
             segment.number segment.value segment.spare_open (g.D.Disk.device c.args.disk) _
             opened.file_length (opened.holds was) (opened.at_rest was))),
-        rw (← c.number-number.ensures.number) (search rules),
       ),
     )
 
@@ -39,5 +38,4 @@ returns-clause-ends g c =
           rw c.into_device-in-Err-write_whole.ensures.device (kept c.args.index c.args.count
           segment.number segment.value segment.spare_open (g.D.Disk.device c.args.disk) _
           opened.file_length (opened.holds was) (opened.at_rest was))),
-      rw (← c.number-number.ensures.number) (search rules),
     )

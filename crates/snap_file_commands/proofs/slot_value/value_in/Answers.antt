@@ -3,7 +3,7 @@ use Rattle.snap_slot.specs.declared.layout.TheConstants.{OPEN_GATE}
 use Rattle.snap_slot.proofs.Blocks.{gate_block-same}
 use Rattle.snap_file_commands.proofs.slot_value.value_in.Goals as goal
 
--- the gate that it is read behind is open
+-- it is read with an open gate
 pub returns-in-Closed-clause-flaw : goal.returns-in-Closed-clause-flaw
 returns-in-Closed-clause-flaw c =
     let closed = c.in-Closed.ensures in

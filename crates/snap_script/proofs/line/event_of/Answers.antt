@@ -22,7 +22,7 @@ returns-in-RestartFail c = rw c.in-RestartFail.is c.restart_fail.ensures
 pub returns-in-Look : goal.returns-in-Look
 returns-in-Look c = rw c.in-Look.is c.look.ensures
 
--- the verbs behind which nothing stands
+-- the verbs that no word follows
 bare : (v : Verb) (line : List ℕ) → (v ≡ verb.Restart) ⊎ ((v ≡ verb.RestartCall) ⊎ (v ≡ verb.Serve))
     → (e : Event) → HasForm v (words_of line) e → ⊥
 bare v line (inl is) e form = parts-ne-nil 32 line (rw is at form).1

@@ -1,0 +1,13 @@
+-- What no code can know of a file.
+use Rattle.std.specs.Prelude.{ℕ, Bool, false, List, []}
+
+pub record Story : Type 0 where
+  -- what it holds after so many calls
+  pub held : ℕ → List ℕ
+  -- which places were written before it was opened, and not synced
+  pub open_at_first : ℕ → Bool
+
+-- The stories of all files, by their paths. It is no `abbrev` and not `unfoldable`, so no proof outside
+-- of this file can know what it is, and nothing else stands here.
+pub untold : List ℕ → Story
+untold path = record { held = λ calls. []; open_at_first = λ p. false }

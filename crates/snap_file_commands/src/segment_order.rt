@@ -1,0 +1,131 @@
+//! Which file of a folder is which segment's.
+ghost use Rattle.std.specs.Prelude.{◌≡◌, ◌<◌, ◌≤◌, All, IfOk, IfErr, length};
+ghost use Rattle.snap_history.specs.declared.limits.TheConstants.{MAX_COUNT};
+ghost use Rattle.snap_file_commands.specs.SegmentOrder.{IsNameable, IsOneOf, IsOrderOf, IsSeating};
+
+use snap_history::MAX_COUNT;
+use std::alloc::{AllocError, Global};
+
+/// What a file's header says: whose it is among the segments of one server.
+#[derive(Clone, Copy, Debug, PartialEq, Eq)]
+pub struct SegmentPlace {
+    /// Which segment: below `count` in a header that is right.
+    pub index: u8,
+    /// How many segments there are: 1 to [`MAX_COUNT`] in a header that is right.
+    pub count: u8,
+}
+
+/// Why the files of a folder are not the segments of one server. A file is named by its index in the list
+/// of files.
+#[derive(Clone, Copy, Debug, PartialEq, Eq)]
+pub enum FolderFault {
+    /// There is no file.
+    Empty,
+    /// The file says no place: its index isn't below its count, or the count is above [`MAX_COUNT`].
+    NoPlace { file: usize },
+    /// The file says another count than the first one does.
+    OtherCount { file: usize },
+    /// Both files say that they are the same segment's.
+    Twice { first: usize, second: usize },
+    /// No file says that it is this segment's, of as many as each file says.
+    Missing { index: u8, count: u8 },
+    /// A growth of memory was refused.
+    NoMemory,
+}
+
+/// A growth of memory was refused.
+impl From<AllocError> for FolderFault {
+    ghost use Rattle.snap_file_commands.specs.declared.segment_order.FolderFault.TheVariants.{NoMemory};
+
+    ghost from_gives = { λ _ fault. fault ≡ NoMemory };
+
+    fn from(_error: AllocError) -> FolderFault {
+        FolderFault::NoMemory
+    }
+}
+
+/// The files in order of segment: entry I of the answer is the file whose header says segment I. `places`
+/// has what the header of each file says.
+///
+/// Of several faults it returns one. First come those of one file, in the order of the list; then files
+/// that are there twice; then the first segment that is missing. No clause says that a fault is true of
+/// the list.
+pub fn order_files(alloc: Global, places: &[SegmentPlace]) -> Result<Vec<usize>, FolderFault>
+    ensures order { IfOk result (λ order. IsOrderOf places.now order.items) }
+    ensures within { IfOk result (λ order. All (λ file. file < length places.now) order.items) }
+    ensures some { IfOk result (λ order. 0 < length order.items) }
+    ensures few { IfOk result (λ order. length order.items ≤ MAX_COUNT) }
+    ensures fault { IfErr result IsNameable }
+{
+    let count = common_count(places)?;
+    let seats = seat_files(alloc, places, count)?;
+    seated(alloc, places, &seats, count)
+}
+
+/// How many segments there are, as each file says.
+fn common_count(places: &[SegmentPlace]) -> Result<u8, FolderFault>
+    ensures count { IfOk result (λ count. All (IsOneOf count) places.now) }
+    ensures some { IfOk result (λ count. 0 < count) }
+    ensures few { IfOk result (λ count. count ≤ MAX_COUNT) }
+    ensures fault { IfErr result IsNameable }
+{
+    let Some(first) = places.first() else {
+        return Err(FolderFault::Empty);
+    };
+    for (file, place) in places.iter().enumerate() {
+        if place.index >= place.count || place.count > MAX_COUNT {
+            return Err(FolderFault::NoPlace { file });
+        }
+        if place.count != first.count {
+            return Err(FolderFault::OtherCount { file });
+        }
+    }
+    Ok(first.count)
+}
+
+/// The file of each segment, where there is one.
+fn seat_files(
+    alloc: Global,
+    places: &[SegmentPlace],
+    count: u8,
+) -> Result<Vec<Option<usize>>, FolderFault>
+    requires { All (IsOneOf count) places.now }
+    ensures seats { IfOk result (λ seats. IsSeating places.now count (length places.now)
+        seats.items) }
+    ensures fault { IfErr result IsNameable }
+{
+    let mut seats = vec![in alloc; None; usize::from(count)]?;
+    for (second, place) in places.iter().enumerate() {
+        let index = usize::from(place.index);
+        if let Some(first) = seats[index] {
+            return Err(FolderFault::Twice { first, second });
+        }
+        seats[index] = Some(second);
+    }
+    Ok(seats)
+}
+
+/// The files of the seats, where none is empty.
+fn seated(
+    alloc: Global,
+    places: &[SegmentPlace],
+    seats: &[Option<usize>],
+    count: u8,
+) -> Result<Vec<usize>, FolderFault>
+    requires few { count ≤ MAX_COUNT }
+    requires seats { IsSeating places.now count (length places.now) seats.now }
+    ensures order { IfOk result (λ order. IsOrderOf places.now order.items) }
+    ensures size { IfOk result (λ order. length order.items ≡ count) }
+    ensures fault { IfErr result IsNameable }
+{
+    let mut order = Vec::with_capacity(alloc, seats.len())?;
+    for index in 0..count {
+        let Some(file) = seats[usize::from(index)] else {
+            return Err(FolderFault::Missing { index, count });
+        };
+        if order.push(file).is_err() {
+            return Err(FolderFault::NoMemory);
+        }
+    }
+    Ok(order)
+}

@@ -1,9 +1,0 @@
-use Rattle.std.proofs.Common.{◌≤◌, All, take}
-use Rattle.snap_history.specs.declared.limits.TheConstants.{MAX_COUNT}
-use Rattle.snap_folder.specs.Order.{IsOneOf}
-use Rattle.snap_folder.proofs.order.common_count.Given as goal
-
--- the files so far say segments of as many as the first
-abbrev pub invariant-loop-file : goal.invariant-loop-file
-invariant-loop-file l =
-    All (λ p. IsOneOf l.first.count p × (p.count ≤ MAX_COUNT)) (take l.file l.places)

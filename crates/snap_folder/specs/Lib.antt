@@ -1,3 +1,0 @@
-pub mod Name
-pub mod Order
-pub use Rattle.snap_history.specs.declared.limits

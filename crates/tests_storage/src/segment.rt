@@ -1,0 +1,4 @@
+//! The tests of `snap_segment`.
+mod damage;
+mod migrations;
+mod stores;

@@ -1,0 +1,153 @@
+//! An opening of all files, and the judgement of what came back.
+ghost use Rattle.std.specs.Prelude.{◌<◌};
+
+use crate::files::try_open_all;
+use crate::plug::device::Plugged;
+use crate::plug::pull::{Plug, Pull};
+use crate::plug::tally::Tally;
+use crate::plug::worker::Place;
+use crate::values::{Numbers, SEGMENTS, is_value_of};
+use snap_devices::MemDisk;
+use snap_disk::Refusal;
+use snap_restart::Store;
+use snap_writer::Writer;
+use std::alloc::{AllocError, Global};
+use std::io;
+
+pub(crate) const SCANNERS: usize = 2;
+
+/// What may come back after a crash.
+#[derive(Clone, Copy)]
+pub struct Past {
+    /// The greatest number of each segment that its client received or a scan showed.
+    pub least: Numbers,
+    /// One more where a call of a further store was done.
+    pub most: Numbers,
+    /// Where the pull found the writers.
+    pub places: [Place; SEGMENTS],
+}
+
+impl Past {
+    /// These numbers and no others.
+    pub(crate) fn at(numbers: Numbers) -> Past {
+        Past {
+            least: numbers,
+            most: numbers,
+            places: [Place::AtRest; SEGMENTS],
+        }
+    }
+}
+
+/// An open store, and its plug.
+#[derive(Drop)]
+pub struct Machine {
+    pub store: Store<Plugged>,
+    pub plug: Plug,
+    /// The same for each client, in order of the segments.
+    pub client_plugs: Vec<Plug>,
+}
+
+/// What came of an opening.
+#[derive(Drop)]
+pub enum Opened {
+    Whole(Machine),
+    /// The plug was pulled before all files were open.
+    Cut(Vec<Plugged>),
+}
+
+/// This plug for each of `devices` devices.
+fn plugs_of(alloc: Global, plug: &Plug, devices: usize) -> Result<Vec<Plug>, AllocError> {
+    let mut plugs = Vec::new(alloc);
+    for _ in 0..devices {
+        plugs.push(plug.for_device(alloc)?)?;
+    }
+    Ok(plugs)
+}
+
+/// Each device at its plug.
+fn plug_in(
+    alloc: Global,
+    devices: Vec<MemDisk>,
+    plugs: &Vec<Plug>,
+) -> Result<Vec<Plugged>, AllocError> {
+    let mut plugged = Vec::new(alloc);
+    let mut plugs = plugs.iter();
+    for disk in devices {
+        if let Some(plug) = plugs.next() {
+            plugged.push(Plugged::new(disk, plug.copied()?))?;
+        }
+    }
+    Ok(plugged)
+}
+
+/// Opens all files. Nothing else than the plug may stop that.
+pub(crate) fn open(alloc: Global, devices: Vec<MemDisk>, pull: Pull) -> io::Result<Opened> {
+    let plug = Plug::new(alloc, pull)?;
+    let client_plugs = plugs_of(alloc, &plug, devices.len())?;
+    let devices = plug_in(alloc, devices, &client_plugs)?;
+    match try_open_all(alloc, devices, SCANNERS)? {
+        Ok((store, _)) => Ok(Opened::Whole(Machine {
+            store,
+            plug,
+            client_plugs,
+        })),
+        Err(stopped) => {
+            if stopped.refusal != Refusal::DeviceFailed || !plug.is_pulled() {
+                return Err(io::Error::other("an opening was refused"));
+            }
+            Ok(Opened::Cut(stopped.devices))
+        }
+    }
+}
+
+/// Whether the past allows what came back: nothing is lost that was acknowledged or shown, and
+/// nothing is there that wasn't begun.
+fn is_allowed(writer: &Writer<Plugged>, segment: usize, past: &Past) -> bool
+    requires { segment < SEGMENTS }
+{
+    let number = writer.number();
+    past.least[segment] <= number
+        && number <= past.most[segment]
+        && is_value_of(segment, number, writer.value())
+}
+
+/// Says what came back, and what may, in the 80 characters that an error has room for.
+fn wrong(alloc: Global, writer: &Writer<Plugged>, segment: usize, past: &Past) -> io::Error
+    requires { segment < SEGMENTS }
+{
+    let (number, least, most) = (writer.number(), past.least[segment], past.most[segment]);
+    let is_right = is_value_of(segment, number, writer.value());
+    let said = format!(in alloc;
+        "segment {segment} came back at {number}, value right: {is_right}; {least} to {most} may"
+    );
+    match said {
+        Ok(said) => io::Error::other(said.as_str()),
+        Err(none) => none.into(),
+    }
+}
+
+/// Judges what came back, and counts it. From now on only that may come back.
+pub(crate) fn judge(
+    alloc: Global,
+    writers: &Vec<Writer<Plugged>>,
+    past: &mut Past,
+    tally: &mut Tally,
+) -> io::Result<()> {
+    let mut numbers = [0; SEGMENTS];
+    if writers.len() != SEGMENTS {
+        return Err(io::Error::other("a writer is missing"));
+    }
+    for (segment, writer) in writers.iter().enumerate() {
+        if segment >= SEGMENTS {
+            return Err(io::Error::other("there is a writer more"));
+        }
+        if !is_allowed(writer, segment, past) {
+            return Err(wrong(alloc, writer, segment, past));
+        }
+        let number = writer.number();
+        numbers[segment] = number;
+        tally.count_back(past.places[segment], number > past.least[segment]);
+    }
+    *past = Past::at(numbers);
+    Ok(())
+}
