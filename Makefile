@@ -49,8 +49,26 @@ bench:
 	python3 bench/server.py
 	python3 bench/seen.py
 
-# Installs bin/snapd as `make prove` or `make build` left it, its page of the manual, completions, headers for C, the unit
-# with its user and folder, and the documents. All go below DESTDIR with PREFIX, as packages want it. Nothing is started.
+# The client in C as libraries, and the one in Python as a wheel and an sdist. A change of a call or of the layout of
+# snapd_client gets the next SONAME.
+CLIENTS ?= out
+CFLAGS ?= -O2
+SONAME = libsnapd.so.0
+
+.PHONY: clients install-clients
+clients:
+	@sh verification/needs.sh python3
+	mkdir -p '$(CLIENTS)'
+	$(CC) $(CFLAGS) -std=c99 -fPIC -c -o '$(CLIENTS)/snapd.o' clients/c/snapd.c
+	$(CC) $(LDFLAGS) -shared -Wl,-soname,$(SONAME) -Wl,--version-script=clients/c/snapd.map \
+	    -o '$(CLIENTS)/$(SONAME)' '$(CLIENTS)/snapd.o'
+	ln -sf $(SONAME) '$(CLIENTS)/libsnapd.so'
+	$(AR) rcs '$(CLIENTS)/libsnapd.a' '$(CLIENTS)/snapd.o'
+	python3 clients/python/build_wheel.py '$(CLIENTS)'
+
+# Installs bin/snapd as `make prove` or `make build` left it, its page of the manual, completions, headers for C with the
+# libraries if they were built, the unit with its user and folder, and the documents. All go below DESTDIR with PREFIX, as
+# packages want it. Nothing is started.
 PREFIX ?= /usr/local
 DESTDIR ?=
 PROGRAM ?= bin/snapd
@@ -73,9 +91,20 @@ install:
 	@set -e; for it in $(FILES); do install -D -m 644 "$${it%%:*}" '$(TO)'/"$${it#*:}"; done
 	install -D -m 644 'packaging/systemd/snapd-board@.service' '$(TO)/$(UNIT)'
 	sed -i 's|/usr/local/bin/|$(PREFIX)/bin/|' '$(TO)/$(UNIT)'
+	@test ! -e '$(CLIENTS)/$(SONAME)' || $(MAKE) --no-print-directory install-clients
+
+LIBRARIES = lib/$(SONAME) lib/libsnapd.so lib/libsnapd.a lib/pkgconfig/snapd.pc
+
+install-clients:
+	install -d '$(TO)/lib/pkgconfig'
+	install -m 644 '$(CLIENTS)/$(SONAME)' '$(CLIENTS)/libsnapd.a' '$(TO)/lib'
+	ln -sf $(SONAME) '$(TO)/lib/libsnapd.so'
+	version=$$(sed -n 's/.*SNAPD_VERSION "\(.*\)"/\1/p' clients/c/snapd.h) && \
+	sed 's|@PREFIX@|$(PREFIX)|;s|@VERSION@|'"$$version"'|' clients/c/snapd.pc.in > '$(CLIENTS)/snapd.pc'
+	install -m 644 '$(CLIENTS)/snapd.pc' '$(TO)/lib/pkgconfig'
 
 uninstall:
-	@for it in $(FILES) :$(UNIT) :bin/snapd; do rm -f '$(TO)'/"$${it#*:}"; done
+	@for it in $(FILES) $(LIBRARIES:%=:%) :$(UNIT) :bin/snapd; do rm -f '$(TO)'/"$${it#*:}"; done
 	rm -rf '$(TO)/share/doc/snapd-board'
 
 # A package for Debian, and a tarball with a digest of each file and what it was made of, both in out/, of bin/snapd.

@@ -64,7 +64,7 @@ def proved(program):
 
 def installed(program, room, prefix):
     """Installs into this folder, with PROVED and the licences' texts, and gives the prefix's folder."""
-    words = ("make", "-s", "install", f"DESTDIR={room}", f"PREFIX={prefix}", f"PROGRAM={program}")
+    words = ("make", "-s", "install", f"DESTDIR={room}", f"PREFIX={prefix}", f"PROGRAM={program}", "CLIENTS=no/such")
     subprocess.run(words, cwd=TOP, check=True, stdout=subprocess.DEVNULL)
     root = room / prefix.strip("/")
     (root / DOC / "PROVED").write_text(proved(program), encoding="utf-8")

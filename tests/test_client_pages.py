@@ -69,18 +69,22 @@ def test_listings_of_the_clients_pages_run_on_the_server(snapd, _):
     all_run(snapd, is_real=True)
 
 
-def test_both_headers_are_taken_by_other_compilers(program, _):
+COMPILERS = {"gcc": ("c99", "c11", "c17"), "clang": ("c99", "c11"), "g++": ("c++11", "c++17"), "clang++": ("c++11",)}
+
+
+def test_both_headers_are_taken_by_all_compilers(program, _):
+    """With every function in the program, with none, and as the library itself."""
     source = '#define _POSIX_C_SOURCE 200809L\n#include "snapd.h"\n#include "snapd_segment.h"\nint main(void) { return 0; }\n'
     strict = [it for it in STRICT if it != "-std=c99"]
-    tried = 0
-    others = (("g++", "both.cc", ["-std=c++11"]), ("clang", "both.c", ["-std=c99"]), ("gcc", "both.c", ["-std=c17", "-O3"]))
-    for compiler, name, words in others:
-        if shutil.which(compiler):
-            (program.folder / name).write_text(source)
-            words = [compiler, *strict, *words, "-I", TOP / "clients" / "c", "-o", program.folder / "both", program.folder / name]
-            subprocess.run(words, check=True)
-            tried += 1
-    if not tried:
+    found = [it for it in COMPILERS if shutil.which(it)]
+    for compiler in found:
+        path = program.folder / ("both.cc" if "++" in compiler else "both.c")
+        path.write_text(source)
+        for standard in COMPILERS[compiler]:
+            for way in ("-O3", "-DSNAPD_LINKED", "-DSNAPD_IMPLEMENTATION"):
+                words = [compiler, *strict, f"-std={standard}", way, "-I", TOP / "clients" / "c", path]
+                subprocess.run([*words, "-o", program.folder / "both"], check=True)
+    if not found:
         raise Skipped("there is no compiler")
 
 

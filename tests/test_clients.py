@@ -1,19 +1,14 @@
 """The clients in Python and C: the messages that they make and read, and what they say of refusals."""
 
 import ast
-import os
-import pathlib
 import re
 import socket
-import subprocess
-import sys
 
 from clients import STORED_ONE, TOP, Client, Peer, ask, framed, oracle, raised, refused, says, vectors
 from serving import FRESH, Server, segments
 from waiting import PATIENCE
 
 import snapd_client
-from program import Skipped
 from snapd_client import messages
 
 
@@ -217,25 +212,6 @@ def test_the_python_client_is_of_python_3_8(_, __):
         ast.parse(file.read_text(), file.name, feature_version=(3, 8))
 
 
-def test_pip_installs_the_python_client_without_a_network_and_leaves_its_folder_as_it_is(snapd, _):
-    folder, room = TOP / "clients" / "python", snapd.folder / "environment"
-    made = subprocess.run([sys.executable, "-m", "venv", room], capture_output=True, text=True)
-    if made.returncode:
-        raise Skipped(f"no virtual environment can be made here: {(made.stdout + made.stderr).strip()[-200:]}")
-    # Neither an index nor a folder of packages of this machine.
-    plain = {name: text for name, text in os.environ.items() if not name.startswith(("PIP_", "PYTHON"))}
-    env = {**plain, "PIP_NO_INDEX": "1"}
-    before = sorted(folder.rglob("*"))
-    run = subprocess.run([room / "bin" / "pip", "install", folder], env=env, cwd=snapd.folder, capture_output=True, text=True)
-    assert run.returncode == 0, run
-    assert sorted(folder.rglob("*")) == before
-    says = "import snapd_client; print(snapd_client.__file__, snapd_client.__version__)"
-    run = subprocess.run([room / "bin" / "python", "-c", says], env=env, cwd=snapd.folder, capture_output=True, text=True)
-    path, version = run.stdout.split()
-    assert pathlib.Path(path).is_relative_to(room) and (pathlib.Path(path).parent / "py.typed").exists()
-    assert f'version = "{version}"' in (folder / "pyproject.toml").read_text()
-
-
 # ---- refusals ----
 
 def test_every_refusal_of_the_model(_, __):
@@ -299,7 +275,7 @@ def test_words_that_no_message_can_say(_, __):
                   lambda: Client("a:1", timeout=0), lambda: Client("a:1", tries=0), lambda: Client("a:99999"),
                   lambda: Client("a:0"), lambda: Client(("a", 65_536)), lambda: Client(("a", "b"))):
         assert isinstance(raised(call_), ValueError)
-    assert ask("127.0.0.1:0", "scan")[0] == 2 and ask("localhost:1", "scan")[0] == 2
+    assert ask("127.0.0.1:0", "scan") == ask(":1", "scan") == ask("localhost:65536", "scan") == (2, "", "bad call\n")
     assert ask("127.0.0.1:1", "update", 256, 1, "") == (2, "", "bad call\n")
     for mask in ("0", "0000", "10000", "10001"):
         assert ask("127.0.0.1:1", "part", mask) == (2, "", "bad call\n")

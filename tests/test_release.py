@@ -63,7 +63,7 @@ def make(*words):
 
 def test_installed_and_removed(snapd, _):
     folder = snapd.file("staged").resolve()
-    place = ["PREFIX=/usr", f"DESTDIR={folder}", f"PROGRAM={snapd.path}"]
+    place = ["PREFIX=/usr", f"DESTDIR={folder}", f"PROGRAM={snapd.path}", "CLIENTS=no/such"]
     assert make("install", *place) == (0, "")
     root = folder / "usr"
     files = dist.files_below(root)

@@ -1,4 +1,5 @@
-/* snapd.h: a client of the snapd server in one header. C99 and POSIX sockets; it allocates nothing.
+/* snapd.h: a client of the snapd server in one header. C99 and POSIX sockets; it allocates nothing. Only the system
+ * may, where snapd_open looks up a host name.
  *
  * It speaks with `snapd serve` in the frames of docs/FORMATS.md, "Frames and messages". snapd_segment.h beside it has calls on
  * one segment, and a wait for numbers.
@@ -6,7 +7,7 @@
  *     #define _POSIX_C_SOURCE 200809L     // before the first include of a file that is compiled with -std=c99
  *     #include "snapd.h"
  *
- *     static snapd_client client;         // about 66 KB: keep it off a small stack
+ *     static snapd_client client;         // about 67 KB: keep it off a small stack
  *     snapd_snapshot now;
  *     uint64_t stored;
  *     snapd_open(&client, "127.0.0.1", 7070, 5000, 3);
@@ -23,6 +24,9 @@
  * One thread at a time uses a client, and snapd_close is such a use. A process that is forked off makes a connection of its own,
  * and a program that is executed inherits none. Signals shorten no call and no rest, and it never raises SIGPIPE.
  *
+ * All functions are static and inline. With SNAPD_LINKED defined before the include they are only declared: link with
+ * libsnapd, or compile snapd.c with the program.
+ *
  * Its licence is the file LICENSE of the snapd repository. Where there is none, all rights are reserved.
  */
 #ifndef SNAPD_H
@@ -31,6 +35,7 @@
 #include <arpa/inet.h>
 #include <errno.h>
 #include <fcntl.h>
+#include <netdb.h>
 #include <netinet/in.h>
 #include <netinet/tcp.h>
 #include <poll.h>
@@ -44,6 +49,17 @@
 #include <time.h>
 #include <unistd.h>
 
+#if !defined AI_NUMERICHOST || !defined MSG_NOSIGNAL
+#error "snapd.h needs POSIX: define _POSIX_C_SOURCE 200809L before the first include"
+#endif
+
+/* SNAPD_IMPLEMENTATION is for snapd.c, which has the functions of the library. */
+#if defined SNAPD_IMPLEMENTATION || defined SNAPD_LINKED
+#define SNAPD_API
+#else
+#define SNAPD_API static inline
+#endif
+
 #ifdef __cplusplus
 extern "C" {
 #endif
@@ -53,9 +69,10 @@ extern "C" {
 
 enum {
     SNAPD_MAX_SEGMENTS = 16,
-    SNAPD_MAX_VALUE = 4080,                 /* a longer value is refused */
+    SNAPD_MAX_VALUE = 4080,                  /* a longer value is refused */
     SNAPD_MAX_PAYLOAD = 66000,
-    SNAPD_MAX_SENT = SNAPD_MAX_PAYLOAD - 10 /* a longer value can't be sent */
+    SNAPD_MAX_SENT = SNAPD_MAX_PAYLOAD - 10, /* a longer value can't be sent */
+    SNAPD_MAX_ADDRESSES = 4                  /* of a host name; others aren't used */
 };
 
 /* How a call ended. After anything but SNAPD_OK and SNAPD_REFUSED an update may have been stored all the same: send it
@@ -67,7 +84,8 @@ typedef enum {
     SNAPD_TIMED_OUT,    /* the last try had no whole answer within the timeout */
     SNAPD_BAD_REPLY,    /* what came isn't an answer to the request, or says that another number was stored than was
                          * sent, or has other segments than were named. It isn't tried again: check the address, and scan */
-    SNAPD_BAD_CALL      /* a value, a mask or an address that no message or socket can say; nothing was sent */
+    SNAPD_BAD_CALL,     /* a value, a mask or an address that no message or socket can say; nothing was sent */
+    SNAPD_NO_ADDRESS    /* snapd_open found no address of the host name; nothing was sent */
 } snapd_result;
 
 /* Why a request was refused. */
@@ -121,9 +139,15 @@ typedef struct {
 } snapd_status_list;
 
 typedef struct {
+    struct sockaddr_storage name;
+    socklen_t length;
+} snapd_address;
+
+/* Its layout is part of the library's soname. */
+typedef struct {
     /* set by snapd_open */
-    struct sockaddr_storage address;
-    socklen_t address_length;
+    int addresses;
+    snapd_address address[SNAPD_MAX_ADDRESSES];
     int timeout; /* milliseconds, for one try */
     int tries;
     int64_t until; /* by snapd_now: no call continues after it */
@@ -138,6 +162,46 @@ typedef struct {
     unsigned char values[SNAPD_MAX_PAYLOAD];
     unsigned char reply[2 + 9 * SNAPD_MAX_SEGMENTS];
 } snapd_client;
+
+/* ---- the calls ---- */
+
+/* Names the server: a numeric IPv4 or IPv6 address or a host name, and its port, or "unix:PATH" and 0 for a Unix
+ * socket; the milliseconds that one try may take, and how many connections one call may make. Nothing is sent to the
+ * server yet. SNAPD_BAD_CALL where a word is out of range.
+ *
+ * A host name is looked up here and nowhere else, by getaddrinfo, which may allocate and has no timeout.
+ * SNAPD_NO_ADDRESS where it finds none. Each connection is made to the first of the addresses that accepts it, and each
+ * address gets its share of the try's time. */
+SNAPD_API snapd_result snapd_open(snapd_client *client, const char *host, int port, int timeout, int tries);
+
+/* Ends the connection. A later call makes a new one. */
+SNAPD_API void snapd_close(snapd_client *client);
+
+/* Stores a value as this number of a segment. *stored is the number once it is on the server's disk, and 0 where it
+ * isn't said to be. The number is the segment's plus one; the segment's own number with its own value is answered
+ * again, so an update may be repeated. An answer that names another number is SNAPD_BAD_REPLY. */
+SNAPD_API snapd_result snapd_update(snapd_client *client, unsigned segment, uint64_t number, const void *value,
+                                    size_t length, uint64_t *stored);
+
+/* Number and value of every segment, all of one moment between the call and its return. */
+SNAPD_API snapd_result snapd_scan(snapd_client *client, snapd_snapshot *snapshot);
+
+/* Number and value of some segments alone, all of one moment between the call and its return: bit i of the mask names
+ * segment i, so 1u << 0 | 1u << 3 names the first and the fourth. It names one or more, and none above segment 15: else
+ * SNAPD_BAD_CALL. A segment that the server hasn't is refused as SNAPD_NO_SEGMENT. part->mask is the mask after
+ * SNAPD_OK, and else 0. A reply of other segments is SNAPD_BAD_REPLY. */
+SNAPD_API snapd_result snapd_scan_some(snapd_client *client, unsigned mask, snapd_part *part);
+
+/* Number and fence of every segment. */
+SNAPD_API snapd_result snapd_status(snapd_client *client, snapd_status_list *list);
+
+/* The name of a refusal, as snapd prints it. */
+SNAPD_API const char *snapd_refusal_name(int refusal);
+
+/* What a result is, in lower case, as "timed out". */
+SNAPD_API const char *snapd_result_name(snapd_result result);
+
+#if defined SNAPD_IMPLEMENTATION || !defined SNAPD_LINKED
 
 /* ---- numbers: the highest byte first ---- */
 
@@ -157,49 +221,82 @@ static inline uint64_t snapd_read_number(const unsigned char *at, int bytes)
 
 /* ---- connections ---- */
 
-static inline void snapd_name(snapd_client *client, const void *address, size_t length)
+static inline void snapd_add_address(snapd_client *client, const void *name, size_t length)
 {
-    memcpy(&client->address, address, length);
-    client->address_length = (socklen_t)length;
+    snapd_address *address = &client->address[client->addresses];
+    if (client->addresses == SNAPD_MAX_ADDRESSES || length > sizeof address->name)
+        return;
+    memset(&address->name, 0, sizeof address->name);
+    memcpy(&address->name, name, length);
+    address->length = (socklen_t)length;
+    client->addresses++;
 }
 
-/* The path after `unix:`, or a numeric address with a port. No name is looked up. */
+/* The addresses of a host name, in the system's order. */
+static inline snapd_result snapd_look_up(snapd_client *client, const char *host, in_port_t port)
+{
+    struct addrinfo wanted, *found = NULL;
+    int failed;
+    memset(&wanted, 0, sizeof wanted);
+    wanted.ai_socktype = SOCK_STREAM;
+    failed = getaddrinfo(host, NULL, &wanted, &found);
+    if (failed != 0) {
+        client->error = failed == EAI_SYSTEM ? errno : 0;
+        return SNAPD_NO_ADDRESS;
+    }
+    for (const struct addrinfo *it = found; it != NULL; it = it->ai_next) {
+        if (it->ai_family == AF_INET)
+            ((struct sockaddr_in *)(void *)it->ai_addr)->sin_port = port;
+        else if (it->ai_family == AF_INET6)
+            ((struct sockaddr_in6 *)(void *)it->ai_addr)->sin6_port = port;
+        else
+            continue;
+        snapd_add_address(client, it->ai_addr, it->ai_addrlen);
+    }
+    freeaddrinfo(found);
+    return client->addresses > 0 ? SNAPD_OK : SNAPD_NO_ADDRESS;
+}
+
+static inline snapd_result snapd_name_file(snapd_client *client, const char *path, int port)
+{
+    struct sockaddr_un file;
+    size_t length = strlen(path);
+    if (port != 0 || length < 1 || length >= sizeof file.sun_path)
+        return SNAPD_BAD_CALL;
+    memset(&file, 0, sizeof file);
+    file.sun_family = AF_UNIX;
+    memcpy(file.sun_path, path, length);
+    snapd_add_address(client, &file, sizeof file);
+    return SNAPD_OK;
+}
+
+/* The path after `unix:`, or a host with a port. A numeric one isn't looked up. */
 static inline snapd_result snapd_name_server(snapd_client *client, const char *host, int port)
 {
     struct sockaddr_in four;
     struct sockaddr_in6 six;
-    struct sockaddr_un file;
     memset(&four, 0, sizeof four);
     memset(&six, 0, sizeof six);
-    memset(&file, 0, sizeof file);
-    if (strncmp(host, "unix:", 5) == 0) {
-        size_t length = strlen(host + 5);
-        if (port != 0 || length < 1 || length >= sizeof file.sun_path)
-            return SNAPD_BAD_CALL;
-        file.sun_family = AF_UNIX;
-        memcpy(file.sun_path, host + 5, length);
-        snapd_name(client, &file, sizeof file);
-    } else if (port < 1 || port > 65535) {
+    if (strncmp(host, "unix:", 5) == 0)
+        return snapd_name_file(client, host + 5, port);
+    if (port < 1 || port > 65535 || host[0] == 0)
         return SNAPD_BAD_CALL;
-    } else if (inet_pton(AF_INET, host, &four.sin_addr) == 1) {
+    four.sin_port = six.sin6_port = htons((uint16_t)port);
+    if (inet_pton(AF_INET, host, &four.sin_addr) == 1) {
         four.sin_family = AF_INET;
-        four.sin_port = htons((uint16_t)port);
-        snapd_name(client, &four, sizeof four);
+        snapd_add_address(client, &four, sizeof four);
     } else if (inet_pton(AF_INET6, host, &six.sin6_addr) == 1) {
         six.sin6_family = AF_INET6;
-        six.sin6_port = htons((uint16_t)port);
-        snapd_name(client, &six, sizeof six);
+        snapd_add_address(client, &six, sizeof six);
+    } else {
+        return snapd_look_up(client, host, four.sin_port);
     }
-    return client->address_length ? SNAPD_OK : SNAPD_BAD_CALL;
+    return SNAPD_OK;
 }
 
-/* Names the server: a numeric IPv4 or IPv6 address (no name is looked up) and its port, or "unix:PATH" and 0 for a Unix
- * socket; the milliseconds that one try may take, and how many connections one call may make. Nothing is sent yet.
- * SNAPD_BAD_CALL where a word is out of range. */
-static inline snapd_result snapd_open(snapd_client *client, const char *host, int port, int timeout, int tries)
+SNAPD_API snapd_result snapd_open(snapd_client *client, const char *host, int port, int timeout, int tries)
 {
-    memset(&client->address, 0, sizeof client->address);
-    client->address_length = 0;
+    client->addresses = 0;
     client->timeout = timeout;
     client->tries = tries;
     client->until = INT64_MAX;
@@ -210,8 +307,7 @@ static inline snapd_result snapd_open(snapd_client *client, const char *host, in
     return timeout < 1 || tries < 1 ? SNAPD_BAD_CALL : snapd_name_server(client, host, port);
 }
 
-/* Ends the connection. A later call makes a new one. */
-static inline void snapd_close(snapd_client *client)
+SNAPD_API void snapd_close(snapd_client *client)
 {
     if (client->connection >= 0)
         close(client->connection);
@@ -268,12 +364,12 @@ static inline snapd_result snapd_failed(snapd_client *client)
 
 /* Connects, or begins to and waits for the result. If the queue of a Unix socket is full the system reports that at
  * once and doesn't wait. */
-static inline snapd_result snapd_join(snapd_client *client, int64_t end)
+static inline snapd_result snapd_join(snapd_client *client, const snapd_address *address, int64_t end)
 {
-    while (connect(client->connection, (struct sockaddr *)&client->address, client->address_length) != 0) {
+    while (connect(client->connection, (const struct sockaddr *)&address->name, address->length) != 0) {
         if (errno == EINPROGRESS || errno == EINTR)
             return snapd_poll(client, POLLOUT, end);
-        if (errno != EAGAIN || client->address.ss_family != AF_UNIX)
+        if (errno != EAGAIN || address->name.ss_family != AF_UNIX)
             return snapd_failed(client);
         if (snapd_now() >= end)
             return SNAPD_TIMED_OUT;
@@ -282,25 +378,39 @@ static inline snapd_result snapd_join(snapd_client *client, int64_t end)
     return SNAPD_OK;
 }
 
-/* A new connection. */
-static inline snapd_result snapd_connect(snapd_client *client, int64_t end)
+/* A new connection to this address. */
+static inline snapd_result snapd_connect_to(snapd_client *client, const snapd_address *address, int64_t end)
 {
     int on = 1, error = 0;
     socklen_t size = sizeof error;
     snapd_result result;
-    client->connection = socket(client->address.ss_family, SOCK_STREAM, 0);
+    client->connection = socket(address->name.ss_family, SOCK_STREAM, 0);
     client->process = getpid();
     if (client->connection < 0 || fcntl(client->connection, F_SETFL, O_NONBLOCK) < 0)
         return snapd_failed(client);
     fcntl(client->connection, F_SETFD, FD_CLOEXEC);
     setsockopt(client->connection, IPPROTO_TCP, TCP_NODELAY, &on, sizeof on);
-    result = snapd_join(client, end);
+    result = snapd_join(client, address, end);
     if (result != SNAPD_OK)
         return result;
     if (getsockopt(client->connection, SOL_SOCKET, SO_ERROR, &error, &size) < 0)
         return snapd_failed(client);
     client->error = error;
     return error ? SNAPD_NOT_ANSWERED : SNAPD_OK;
+}
+
+/* A new connection to the first address that accepts it. One that is silent leaves time for the next. */
+static inline snapd_result snapd_connect(snapd_client *client, int64_t end)
+{
+    snapd_result result = SNAPD_NOT_ANSWERED;
+    for (int i = 0; i < client->addresses; i++) {
+        int64_t now = snapd_now();
+        result = snapd_connect_to(client, &client->address[i], now + (end - now) / (client->addresses - i));
+        if (result == SNAPD_OK)
+            return result;
+        snapd_close(client);
+    }
+    return result;
 }
 
 /* The open connection, or a new one if there is none, the server has ended it, or the parent of a forked process made
@@ -456,11 +566,8 @@ static inline int snapd_is_count(unsigned count)
     return count >= 1 && count <= SNAPD_MAX_SEGMENTS;
 }
 
-/* Stores a value as this number of a segment. *stored is the number once it is on the server's disk, and 0 where it isn't
- * said to be. The number is the segment's plus one; the segment's own number with its own value is answered again, so an
- * update may be repeated. An answer that names another number is SNAPD_BAD_REPLY. */
-static inline snapd_result snapd_update(snapd_client *client, unsigned segment, uint64_t number, const void *value,
-                                        size_t length, uint64_t *stored)
+SNAPD_API snapd_result snapd_update(snapd_client *client, unsigned segment, uint64_t number, const void *value,
+                                    size_t length, uint64_t *stored)
 {
     snapd_request request;
     snapd_result result;
@@ -530,8 +637,7 @@ static inline int snapd_read_snapshot(const unsigned char *x, size_t length, sna
     return at == length;
 }
 
-/* Number and value of every segment, all of one moment between the call and its return. */
-static inline snapd_result snapd_scan(snapd_client *client, snapd_snapshot *snapshot)
+SNAPD_API snapd_result snapd_scan(snapd_client *client, snapd_snapshot *snapshot)
 {
     size_t length = 0;
     snapd_result result = snapd_ask_head(client, 0x02, 1, client->values, sizeof client->values, &length);
@@ -564,11 +670,7 @@ static inline int snapd_read_part(const unsigned char *x, size_t length, unsigne
     return left == 0 && at == length;
 }
 
-/* Number and value of some segments alone, all of one moment between the call and its return: bit i of the mask names
- * segment i, so 1u << 0 | 1u << 3 names the first and the fourth. It names one or more, and none above segment 15: else
- * SNAPD_BAD_CALL. A segment that the server hasn't is refused as SNAPD_NO_SEGMENT. part->mask is the mask after SNAPD_OK,
- * and else 0. A reply of other segments is SNAPD_BAD_REPLY. */
-static inline snapd_result snapd_scan_some(snapd_client *client, unsigned mask, snapd_part *part)
+SNAPD_API snapd_result snapd_scan_some(snapd_client *client, unsigned mask, snapd_part *part)
 {
     snapd_result result;
     size_t length = 0;
@@ -600,8 +702,7 @@ static inline int snapd_read_status(const unsigned char *x, size_t length, snapd
     return 1;
 }
 
-/* Number and fence of every segment. */
-static inline snapd_result snapd_status(snapd_client *client, snapd_status_list *list)
+SNAPD_API snapd_result snapd_status(snapd_client *client, snapd_status_list *list)
 {
     size_t length = 0;
     snapd_result result = snapd_ask_head(client, 0x03, 1, client->reply, sizeof client->reply, &length);
@@ -611,8 +712,7 @@ static inline snapd_result snapd_status(snapd_client *client, snapd_status_list 
     return snapd_read_status(client->reply, length, list) ? SNAPD_OK : snapd_other(client, client->reply, length);
 }
 
-/* The name of a refusal, as snapd prints it. */
-static inline const char *snapd_refusal_name(int refusal)
+SNAPD_API const char *snapd_refusal_name(int refusal)
 {
     static const char *const names[] = {
         "Malformed", "NoSegment", "TooLong", "Conflict", "OutOfStep", "Fenced", "Full", "NoMemory", "Exhausted",
@@ -620,6 +720,16 @@ static inline const char *snapd_refusal_name(int refusal)
     };
     return refusal >= SNAPD_MALFORMED && refusal <= SNAPD_WORN ? names[refusal - 1] : "Unknown";
 }
+
+SNAPD_API const char *snapd_result_name(snapd_result result)
+{
+    static const char *const names[] = {
+        "ok", "refused", "not answered", "timed out", "bad reply", "bad call", "no address",
+    };
+    return (unsigned)result <= SNAPD_NO_ADDRESS ? names[result] : "unknown";
+}
+
+#endif
 
 #ifdef __cplusplus
 }

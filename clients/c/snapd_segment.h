@@ -1,5 +1,5 @@
 /* snapd_segment.h: calls on one segment of a snapd server, and a wait for the numbers of some. It needs only snapd.h,
- * and like that it allocates nothing.
+ * and it allocates nothing.
  *
  *     snapd_entry mine;
  *     uint64_t number, wanted[SNAPD_MAX_SEGMENTS] = {18, 17};
@@ -19,7 +19,32 @@ extern "C" {
 
 /* Number and value of one segment, 0 to 15: else SNAPD_BAD_CALL. *entry is as a scan's: it is valid until the client's
  * next scan or get, and may be put or updated in between. It has number 0 and no byte if the result isn't SNAPD_OK. */
-static inline snapd_result snapd_get(snapd_client *client, unsigned segment, snapd_entry *entry)
+SNAPD_API snapd_result snapd_get(snapd_client *client, unsigned segment, snapd_entry *entry);
+
+/* Stores a value as the next one: asks for the segment's number by a status, and updates with the next number. *number
+ * is the one that was sent, or 0 if none was. A segment above 15 is SNAPD_BAD_CALL.
+ *
+ * A refusal isn't tried again. SNAPD_CONFLICT and SNAPD_OUT_OF_STEP say that another client stored a value between the
+ * two requests; a value that it stored before is overwritten unseen. So a job that has to notice another writer keeps
+ * its number, and calls snapd_update. If there was no answer the value may have been stored: send it again by
+ * snapd_update under *number, and it is stored once. Another snapd_put would store it a second time. */
+SNAPD_API snapd_result snapd_put(snapd_client *client, unsigned segment, const void *value, size_t length,
+                                 uint64_t *number);
+
+/* Waits until each segment in the mask has reached its number or passed it: if bit i of the mask is 1, segment i
+ * reaches numbers[i]. It asks for the status, rests for 1 ms, asks again, and rests twice as long each time, up to 100
+ * ms; near the end for half of the remaining time. *list is the last status.
+ *
+ * SNAPD_TIMED_OUT after `timeout` milliseconds: *list shows which segments are below their numbers; its count is 0 if
+ * no poll was answered in time. SNAPD_REFUSED with SNAPD_NO_SEGMENT at once if the server hasn't one of them,
+ * SNAPD_BAD_REPLY if a number falls, and SNAPD_NOT_ANSWERED if a poll has no answer after the client's tries. A mask
+ * that snapd_scan_some doesn't take, or a timeout below 1, is SNAPD_BAD_CALL. */
+SNAPD_API snapd_result snapd_wait(snapd_client *client, unsigned mask, const uint64_t *numbers, int timeout,
+                                  snapd_status_list *list);
+
+#if defined SNAPD_IMPLEMENTATION || !defined SNAPD_LINKED
+
+SNAPD_API snapd_result snapd_get(snapd_client *client, unsigned segment, snapd_entry *entry)
 {
     snapd_part part;
     snapd_result result;
@@ -40,14 +65,8 @@ static inline snapd_result snapd_no_segment(snapd_client *client, int count)
     return SNAPD_REFUSED;
 }
 
-/* Stores a value as the next one: asks for the segment's number by a status, and updates with the next number. *number
- * is the one that was sent, or 0 if none was. A segment above 15 is SNAPD_BAD_CALL.
- *
- * A refusal isn't tried again. SNAPD_CONFLICT and SNAPD_OUT_OF_STEP say that another client stored a value between the
- * two requests; a value that it stored before is overwritten unseen. So a job that has to notice another writer keeps
- * its number, and calls snapd_update. If there was no answer the value may have been stored: send it again by
- * snapd_update under *number, and it is stored once. Another snapd_put would store it a second time. */
-static inline snapd_result snapd_put(snapd_client *client, unsigned segment, const void *value, size_t length, uint64_t *number)
+SNAPD_API snapd_result snapd_put(snapd_client *client, unsigned segment, const void *value, size_t length,
+                                 uint64_t *number)
 {
     snapd_status_list list;
     snapd_result result;
@@ -73,8 +92,7 @@ static inline int snapd_lags(const snapd_status_list *list, unsigned mask, const
     return 0;
 }
 
-/* One poll of a wait: a status with all segments of the mask, none of them at a smaller number than at the last poll.
- * */
+/* One poll of a wait: a status with all segments of the mask, none of them at a smaller number than at the last one. */
 static inline snapd_result snapd_look(snapd_client *client, unsigned mask, snapd_status_list *list)
 {
     snapd_status_list now;
@@ -93,16 +111,8 @@ static inline snapd_result snapd_look(snapd_client *client, unsigned mask, snapd
     return SNAPD_OK;
 }
 
-/* Waits until each segment in the mask has reached its number or passed it: if bit i of the mask is 1, segment i
- * reaches numbers[i]. It asks for the status, rests for 1 ms, asks again, and rests twice as long each time, up to 100
- * ms; near the end for half of the remaining time. *list is the last status.
- *
- * SNAPD_TIMED_OUT after `timeout` milliseconds: *list shows which segments are below their numbers; its count is 0 if
- * no poll was answered in time. SNAPD_REFUSED with SNAPD_NO_SEGMENT at once if the server hasn't one of them,
- * SNAPD_BAD_REPLY if a number falls, and SNAPD_NOT_ANSWERED if a poll has no answer after the client's tries. A mask
- * that snapd_scan_some doesn't take, or a timeout below 1, is SNAPD_BAD_CALL. */
-static inline snapd_result snapd_wait(snapd_client *client, unsigned mask, const uint64_t *numbers, int timeout,
-                                      snapd_status_list *list)
+SNAPD_API snapd_result snapd_wait(snapd_client *client, unsigned mask, const uint64_t *numbers, int timeout,
+                                  snapd_status_list *list)
 {
     int64_t end = snapd_now() + timeout, pause = 1;
     snapd_result result;
@@ -125,6 +135,8 @@ static inline snapd_result snapd_wait(snapd_client *client, unsigned mask, const
         pause = pause < 50 ? 2 * pause : 100;
     }
 }
+
+#endif
 
 #ifdef __cplusplus
 }

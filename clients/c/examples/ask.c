@@ -117,24 +117,27 @@ static snapd_result wait_for(const char *timeout, int count, char **words)
 
 static int status_of(snapd_result result)
 {
-    static const char *const why[] = {"", "", "not answered", "timed out", "bad reply", "bad call"};
     if (result == SNAPD_OK)
         return 0;
     if (result == SNAPD_REFUSED) {
         fprintf(stderr, "refused %d %s %" PRIu64 "\n", client.refusal, snapd_refusal_name(client.refusal), client.detail);
         return 3;
     }
-    fprintf(stderr, "%s\n", why[result]);
+    fprintf(stderr, "%s\n", snapd_result_name(result));
     return result == SNAPD_BAD_CALL ? 2 : 1;
 }
 
 int main(int argc, char **argv)
 {
-    if (argc < 6 || snapd_open(&client, argv[1], atoi(argv[2]), atoi(argv[3]), atoi(argv[4])) != SNAPD_OK) {
+    snapd_result opened;
+    if (argc < 6) {
         fprintf(stderr, "usage: %s HOST PORT TIMEOUT TRIES update SEGMENT NUMBER TEXT | scan | part MASK | status | "
                 "put SEGMENT TEXT | get SEGMENT | wait MILLISECONDS SEGMENT NUMBER [SEGMENT NUMBER ..]\n", argv[0]);
         return 2;
     }
+    opened = snapd_open(&client, argv[1], atoi(argv[2]), atoi(argv[3]), atoi(argv[4]));
+    if (opened != SNAPD_OK)
+        return status_of(opened);
     if (argc == 6 && strcmp(argv[5], "scan") == 0)
         return status_of(scan());
     if (argc == 6 && strcmp(argv[5], "status") == 0)

@@ -21,7 +21,7 @@ static void fail(const char *call, snapd_result result)
         fprintf(stderr, "%s: refused %d %s %" PRIu64 "\n", call, client.refusal, snapd_refusal_name(client.refusal),
                 client.detail);
     else
-        fprintf(stderr, "%s: no answer (%d): %s\n", call, result, strerror(client.error));
+        fprintf(stderr, "%s: %s: %s\n", call, snapd_result_name(result), strerror(client.error));
     exit(1);
 }
 
@@ -38,8 +38,9 @@ int main(int argc, char **argv)
     }
     segment = (unsigned)strtoul(argv[3], NULL, 10);
     steps = strtoull(argv[4], NULL, 10);
-    if (snapd_open(&client, argv[1], atoi(argv[2]), 5000, 3) != SNAPD_OK) {
-        fprintf(stderr, "%s: not an address\n", argv[1]);
+    result = snapd_open(&client, argv[1], atoi(argv[2]), 5000, 3);
+    if (result != SNAPD_OK) {
+        fprintf(stderr, "%s: %s\n", argv[1], snapd_result_name(result));
         return 2;
     }
     result = snapd_get(&client, segment, &mine);

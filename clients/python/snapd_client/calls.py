@@ -10,15 +10,16 @@ import os
 import socket
 import time
 import weakref
-from typing import Any, Coroutine, Dict, Mapping, NoReturn, Optional, TypeVar
+from typing import Any, Coroutine, Dict, Iterable, Mapping, NoReturn, Optional, TypeVar
 
 from . import addresses, messages
 from .addresses import Address, OfFile, OfHost, Place, Places
-from .errors import BadReply, NotAnswered, Refused, TimedOut
+from .errors import BadReply, NotAnswered, Refused, SnapdError, TimedOut
 from .messages import Standing
 from .questions import Question
 
 Answer = TypeVar("Answer")
+Failure = TypeVar("Failure", bound=SnapdError)
 
 PIECE = 65_536
 # How long a call rests, in seconds, where a Unix socket's queue has no room for one more caller.
@@ -81,6 +82,9 @@ class Caller(abc.ABC):
         self._frames = messages.Frames()
         _callers.add(self)
 
+    def __repr__(self) -> str:
+        return f"{type(self).__module__}.{type(self).__qualname__}({str(self._address)!r})"
+
     # ---- what a client waits for; each end is a time of `time.monotonic`, after which `socket.timeout` is raised ----
 
     @abc.abstractmethod
@@ -110,13 +114,21 @@ class Caller(abc.ABC):
         """Asks, until this time at most."""
         try:
             answer = question.answer(await self._exchange(question.frame, until))
-        except BaseException:
+        except BaseException as error:
             # Whatever ended the call, an answer may still come: this connection isn't asked again.
             self._drop()
+            if isinstance(error, SnapdError):
+                self._named(error, question.segments)
             raise
         if isinstance(answer, Refused):
-            raise answer
+            raise self._named(answer, question.segments)
         return answer
+
+    def _named(self, error: Failure, segments: Iterable[int]) -> Failure:
+        """The error, which names the server from now on, and the segment if there is just one."""
+        names = tuple(segments)
+        error.address, error.segment = str(self._address), names[0] if len(names) == 1 else None
+        return error
 
     async def _exchange(self, frame: bytes, until: float) -> bytes:
         """Sends the frame and reads a payload, over as many connections as it may take."""

@@ -179,6 +179,9 @@ class Segment:
         self._client = client
         self._numbered = Numbered(client, segment)
 
+    def __repr__(self) -> str:
+        return f"{self._client!r}.segment({self._numbered.segment})"
+
     @property
     def number(self) -> int:
         """The number of the value that was stored or read last. The first use asks the server, by a status: `NoSegment` where it

@@ -1,10 +1,21 @@
 """Why a call gives no answer. Every exception of this package is a `SnapdError`."""
 
-from typing import Dict, Mapping, Tuple, Type
+from typing import Dict, Mapping, Optional, Tuple, Type
 
 
 class SnapdError(Exception):
-    """A call of the client gave no answer."""
+    """A call of the client gave no answer.
+
+    `address` is the server's, and `segment` the one that was asked for: `None` where there were several, or all.
+    """
+
+    address: Optional[str] = None
+    segment: Optional[int] = None
+
+    def __repr__(self) -> str:
+        named = {"address": self.address, "segment": self.segment}
+        words = [*map(repr, self.args), *(f"{name}={value!r}" for name, value in named.items() if value is not None)]
+        return f"{type(self).__name__}({', '.join(words)})"
 
 
 class NotAnswered(SnapdError):

@@ -13,11 +13,14 @@ NONE_KNOWN: Mapping[int, int] = {}
 
 
 class Question(Generic[Answer]):
-    """A request's frame, with what its reply comes to."""
+    """A request's frame, with what its reply comes to, and the segments that it is of, where it names any."""
 
-    def __init__(self, frame: bytes, read: Callable[[Reply], Union[Answer, Refused]]) -> None:
+    def __init__(
+        self, frame: bytes, read: Callable[[Reply], Union[Answer, Refused]], segments: Iterable[int] = ()
+    ) -> None:
         self.frame = frame
         self._read = read
+        self.segments = tuple(segments)
 
     def answer(self, payload: bytes) -> Union[Answer, Refused]:
         """What the payload of a reply answers, or by what it refuses. `BadReply` where it is no reply to this question."""
@@ -47,7 +50,7 @@ def update(segment: int, number: int, value: Bytes) -> Question[int]:
             raise BadReply(f"the reply says that number {stored} is stored, and asked was {number}")
         return stored
 
-    return Question(messages.update(segment, number, value), read)
+    return Question(messages.update(segment, number, value), read, [segment])
 
 
 def scan() -> Question[Tuple[Entry, ...]]:
@@ -66,7 +69,7 @@ def scan_some(segments: Iterable[int], least: Mapping[int, int] = NONE_KNOWN) ->
         _never_falls({segment: entry.number for segment, entry in entries.items()}, least)
         return entries
 
-    return Question(messages.scan_some(names), read)
+    return Question(messages.scan_some(names), read, names)
 
 
 def status() -> Question[Tuple[Standing, ...]]:
@@ -87,4 +90,4 @@ def standings(least: Mapping[int, int]) -> Question[Dict[int, Standing]]:
         _never_falls({segment: standing.number for segment, standing in named.items()}, least)
         return named
 
-    return Question(messages.status(), read)
+    return Question(messages.status(), read, least)

@@ -54,11 +54,11 @@ async def reached(caller: Caller, wanted: Mapping[int, int], timeout: float) -> 
         try:
             seen = await caller._look(least, end)
         except OutOfTime as error:
-            raise WaitTimedOut(timeout, wanted, seen) from error
+            raise caller._named(WaitTimedOut(timeout, wanted, seen), wanted) from error
         if all(standing.number >= wanted[segment] for segment, standing in seen.items()):
             return {segment: standing.number for segment, standing in seen.items()}
         left = end - time.monotonic()
         if left <= FIRST_PAUSE:
-            raise WaitTimedOut(timeout, wanted, seen)
+            raise caller._named(WaitTimedOut(timeout, wanted, seen), wanted)
         await caller._sleep(min(pause, left / 2))
         pause = min(2 * pause, LONGEST_PAUSE)
