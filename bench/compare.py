@@ -23,12 +23,18 @@ sys.dont_write_bytecode = True
 sys.path.insert(0, str(TOP / "tests"))
 
 from program import Program  # noqa: E402
-from server import SEGMENTS, Bench  # noqa: E402
+from server import SEGMENTS, SPAN, Bench  # noqa: E402
 from serving import Server  # noqa: E402
 
 LENGTH = 1_000
 # The puts of a round, of each program.
 PUTS = 20
+
+
+def processor_time(process):
+    """The processor time of all threads of a process, in microseconds."""
+    tasks = pathlib.Path(f"/proc/{process}/task").iterdir()
+    return sum(int((it / "schedstat").read_text().split()[0]) for it in tasks) / 1e3
 
 
 class Comparison:
@@ -69,6 +75,15 @@ class Comparison:
                 measure = lambda side: self.sides[side].load(servers[side], LENGTH, writers, readers)[kind][1]  # noqa: B023, E731
                 measure(0), measure(1)
                 self.show(label, "us", self.in_turn(measure))
+            for writers in (1, SEGMENTS):
+                measure = lambda side: self.spent(side, servers[side], writers)  # noqa: B023, E731
+                self.show(f"processor, an update of {writers}", "us", self.in_turn(measure))
+
+    def spent(self, side, server, writers):
+        """A server's processor time of one update, with so many writers."""
+        before = processor_time(server.process.pid)
+        updates = self.sides[side].load(server, LENGTH, writers, 0)[0][0] * SPAN / 1e3
+        return (processor_time(server.process.pid) - before) / updates
 
     def starts(self):
         """From the start of the process to its first reply: a program may have moved work from before its line
