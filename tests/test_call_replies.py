@@ -76,6 +76,7 @@ def test_replies_are_printed(snapd, _):
         snapd,
         ("call A update 0 1 6869", [stored(1)], 0, "stored 1\n", ""),
         ("call A scan", [SCANNED], 0, "segment 0 number 1 value 6869\nsegment 1 number 0 value -\n", ""),
+        ("call A scan", [snapshot((2**63 - 1, b"\x00\xff\n"))], 0, "segment 0 number 9223372036854775807 value 00ff0a\n", ""),
         ("call A part 1008", [PART], 0, "segment 3 number 1 value 6869\nsegment 12 number 258 value -\n", ""),
         ("call A status", [STATES], 0, "segment 0 number 1 fenced 0\nsegment 1 number 12 fenced 1\n", ""),
         ("call A get 3", [THIRD], 0, "hi", ""),
@@ -83,6 +84,7 @@ def test_replies_are_printed(snapd, _):
         ("call A health --timeout 86400 --text", [SOUND], 0, "healthy\n", ""),
         ("call A health", [FENCED], 3, "fenced 0\nfenced 2\n", ""),
         ("call A health --tries 2", [None, STATES], 3, "fenced 1\n", ""),
+        ("call A health --text", [STATES], 3, "fenced 1\n", ""),
     )
 
 
@@ -150,6 +152,9 @@ def test_refusals_are_said_and_not_tried_again(snapd, _):
         ("call A get 3", [NO_SEGMENT], 3, "", "refused 2 NoSegment 2"),
         ("call A put 0 --tries 10", [CONFLICT], 3, "", "refused 4 Conflict 258"),
         ("call A put 0 --tries 10", [STATES, CONFLICT], 3, "", "refused 4 Conflict 258"),
+        ("dump A", [refused(7, 0)], 3, "", "refused 7 Full 0"),
+        # The longest line.
+        ("call A status --json", [refused(12, 2**64 - 1)], 3, "", "refused 12 AlreadyFormatted 18446744073709551615"),
     )
 
 

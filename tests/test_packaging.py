@@ -34,7 +34,7 @@ def wanted(program):
 
 def ran(*words, **how):
     """What a command printed that ended well."""
-    run = subprocess.run(list(map(str, words)), capture_output=True, text=True, timeout=2 * PATIENCE, **how)
+    run = subprocess.run(list(map(str, words)), capture_output=True, text=True, timeout=10 * PATIENCE, **how)
     assert run.returncode == 0, run
     return run.stdout
 

@@ -241,5 +241,5 @@ def test_lintian_finds_no_error(snapd, _):
     lintian = wanted("lintian")
     made = packaged(snapd.path, "deb.py", snapd.file("out").resolve())
     words = [lintian, "--fail-on", "error,warning", str(made)]
-    run = subprocess.run(words, capture_output=True, text=True, timeout=2 * PATIENCE)
+    run = subprocess.run(words, capture_output=True, text=True, timeout=10 * PATIENCE)
     assert run.returncode == 0 and not re.search("^[EW]: ", run.stdout, re.M), run.stdout

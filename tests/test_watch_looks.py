@@ -2,12 +2,14 @@
 a peer that sends given replies."""
 
 import contextlib
+import os
 import re
 import shlex
 import socket
 
 from clients import Peer
-from serving import SCAN, STATUS, received, refused, snapshot, standings
+from preload import library
+from serving import SCAN, STATUS, Server, fresh, received, refused, snapshot, standings, stored, update
 from terminal import Terminal
 from test_call_replies import named
 from test_http import part
@@ -42,6 +44,11 @@ LOOKS = [
         "A", [NEW, HELD, NEW, standings((1, False), (258, False)), snapshot((1, b"hi"), (258, b"\x1b[2J"))],
         [STATUS, SCAN, STATUS, STATUS, SCAN], [*LINES, row(1, 258, "value 1b5b324a")],
     ),
+    # Another server's numbers may be lower.
+    (
+        "A", [NEW, HELD, standings((0, False), (0, False)), snapshot((0, b""), (0, b""))], [STATUS, SCAN, STATUS, SCAN],
+        [*LINES, row(0, 0, 'text ""')],
+    ),
     ("A 1 1", [FENCED, named((1, 2, b"ok"))], [STATUS, part(0x0002)], [row(1, 2, 'text "ok"', fenced=1)]),
     ("A 3 0 3", [MANY, named((0, 1, b""), (3, 1, b""))], [STATUS, part(0x0009)], [row(0, 1, 'text ""'), row(3, 1, 'text ""')]),
     ("A 15", [standings(*[(1, False)] * 16), named((15, 1, b"x"))], [STATUS, part(0x8000)], [row(15, 1, 'text "x"')]),
@@ -51,6 +58,16 @@ LOOKS = [
             '{"segment":0,"number":1,"fenced":false,"text":"hi"}',
             '{"segment":1,"number":1,"fenced":false,"text":""}',
             '{"segment":12,"number":9,"fenced":true,"base64":"/w=="}',
+        ],
+    ),
+    (
+        "A --json", [NEW, HELD, standings((1, True), (0, False)), standings((1, True), (2**63 - 1, True)), snapshot((1, b"hi"), (2**63 - 1, b'"\\\t\xc2\x80'))],
+        [STATUS, SCAN, STATUS, STATUS, SCAN],
+        [
+            '{"segment":0,"number":1,"fenced":false,"text":"hi"}',
+            '{"segment":1,"number":0,"fenced":false,"text":""}',
+            '{"segment":0,"number":1,"fenced":true,"text":"hi"}',
+            '{"segment":1,"number":9223372036854775807,"fenced":true,"text":"\\"\\\\\\t\x80"}',
         ],
     ),
 ]
@@ -108,3 +125,20 @@ def test_a_board_is_drawn_in_place(snapd, _):
             "segment      number   age    rate  state   value\x1b[K\r\x1b[B"
             f'      0           4{age:>6}{rate:>8}  fenced  "a\\tb"\x1b[K\r\x1b[B\x1b[J\x1b[?7h\x1b[?25h'
         ), terminal.told
+
+
+# By how many seconds the clock is ahead in all, and the age that a board has then: of a change that was seen before, a few seconds ago.
+AGES = [(0, r"\ds"), (50, r"5\ds"), (60, "1m"), (3_550, "59m"), (3_600, "1h"), (86_300, "23h"), (86_400, "1d"), (172_800, "2d")]
+
+
+def test_an_age_is_in_the_unit_that_fits_it(snapd, _):
+    """A poll in which the clock leaps is late. Then the next one connects again."""
+    ahead = snapd.file("ahead")
+    ahead.touch()
+    env = {"NO_COLOR": "1", "LD_PRELOAD": library("clock"), "CLOCK_AHEAD": str(ahead)}
+    with Server(snapd, *fresh(snapd, 1)) as server, Terminal() as terminal, Watch(snapd, server.address, output=terminal.side, env=env):
+        assert terminal.board()[2].split()[2] == "-"
+        server.ask(update(0, 1, b"a"), stored(1))
+        for seconds, age in AGES:
+            os.truncate(ahead, seconds)
+            terminal.comes_to(lambda it: re.fullmatch(age, it[2].split()[2]))

@@ -19,7 +19,7 @@ use Rattle.snap_order.specs.declared.status.Exit.{Exit}
 use Rattle.snap_order.specs.declared.status.Status.TheVariants as status
 use Rattle.snap_stream.specs.Streams.{AppendsBeginning, Complains, refused_line}
 use Rattle.snap_stream.specs.refusal.Refusal.TheVariants as refusal
-use Rattle.snap_call.specs.Text.{answer_text, detailed_line, is_any_fenced, stored_line}
+use Rattle.snap_call.specs.Text.{Shows, is_any_fenced, stored_line}
 
 -- it ends as refused, and standard error got a beginning of this line, and all of it if `is_told`
 pub record SaysRefused (text : List ℕ) (ended : Exit) (errs errs' : Option (List ℕ))
@@ -27,6 +27,10 @@ pub record SaysRefused (text : List ℕ) (ended : Exit) (errs errs' : Option (Li
   pub status : ended.status ≡ status.Refused
   pub beginning : AppendsBeginning errs errs' text
   pub whole : ended.is_told ≡ true → Appends errs errs' text
+
+-- the server refused, with a line on standard error
+abbrev pub IsRefused : Exit → (errs errs' : Option (List ℕ)) → Type 0
+IsRefused ended errs errs' = (text : List ℕ) × SaysRefused text ended errs errs'
 
 -- it ends as refused because memory ran out
 abbrev pub WantsMemory : Exit → (errs errs' : Option (List ℕ)) → Type 0
@@ -59,9 +63,10 @@ abbrev pub PrintsInPlace : (how : Status) → List ℕ → Exit → (out out' er
 PrintsInPlace how text ended out out' errs errs' =
     IsPrinted how text ended out out' errs errs' ⊎ IsCutShort text ended out out' errs errs'
 
--- the text was printed or cut short, or memory ran out before the first byte
-abbrev pub Prints : (how : Status) → List ℕ → Exit → (out out' errs errs' : Option (List ℕ)) → Type 0
-Prints how text ended out out' errs errs' = PrintsInPlace how text ended out out' errs errs'
+-- a text of the reply was printed or cut short, or memory ran out before the first byte
+unfoldable pub Prints : (how : Status) → Layout → Reply → Exit → (out out' errs errs' : Option (List ℕ)) → Type 0
+Prints how layout reply ended out out' errs errs' =
+    ((text : List ℕ) × Shows layout reply text × PrintsInPlace how text ended out out' errs errs')
     ⊎ (WantsMemory ended errs errs' × Keeps out out')
 
 -- there is no answer, with a complaint
@@ -87,8 +92,8 @@ abbrev pub EndsRead : Layout → Question → Reply → Exit → (out out' errs 
     → Type 0
 EndsRead layout (Get segment) (reply.Part values) ended out out' errs errs' =
     EndsGot segment values.items ended out out' errs errs'
-EndsRead layout question reply ended out out' errs errs' = Prints (answer_status question reply)
-    (answer_text layout question reply) ended out out' errs errs'
+EndsRead layout question reply ended out out' errs errs' =
+    Prints (answer_status question reply) layout reply ended out out' errs errs'
 
 -- the reply is one to a read
 abbrev pub IsRead : Reply → Type 0
@@ -104,7 +109,7 @@ IsRead reply = ⊥
 abbrev pub EndsAsked : Layout → Question → Result Reply ClientFault → Exit
     → (out out' errs errs' : Option (List ℕ)) → Type 0
 EndsAsked layout question (Ok (Refused why detail)) ended out out' errs errs' =
-    SaysRefused (detailed_line why detail) ended errs errs' × Keeps out out'
+    IsRefused ended errs errs' × Keeps out out'
 EndsAsked layout question (Ok (Stored number)) ended out out' errs errs' =
     PrintsInPlace status.Done (stored_line number) ended out out' errs errs'
 EndsAsked layout question (Ok reply) ended out out' errs errs' =

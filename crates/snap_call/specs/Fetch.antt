@@ -11,13 +11,11 @@ use Rattle.snap_frame.specs.declared.reply.Reply.{Reply}
 use Rattle.snap_frame.specs.declared.reply.Reply.TheVariants.{Refused, Snapshot}
 use Rattle.snap_order.specs.request.Request.TheVariants.{Scan}
 use Rattle.snap_order.specs.declared.status.Exit.{Exit}
-use Rattle.snap_call.specs.Ends.{GivesUp, SaysRefused, WantsMemory}
-use Rattle.snap_call.specs.Text.{detailed_line}
+use Rattle.snap_call.specs.Ends.{GivesUp, IsRefused, WantsMemory}
 
 -- how the program ends after an answer without values
 abbrev pub EndsWithout : Result Reply ClientFault → Exit → (errs errs' : Option (List ℕ)) → Type 0
-EndsWithout (Ok (Refused why detail)) ended errs errs' =
-    SaysRefused (detailed_line why detail) ended errs errs'
+EndsWithout (Ok (Refused why detail)) ended errs errs' = IsRefused ended errs errs'
 EndsWithout (Ok reply) ended errs errs' = GivesUp ended errs errs'
 EndsWithout (Err NoMemory) ended errs errs' = WantsMemory ended errs errs'
 EndsWithout (Err fault) ended errs errs' = GivesUp ended errs errs'

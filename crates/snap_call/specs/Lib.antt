@@ -1,5 +1,4 @@
 pub mod Text
 pub mod Ends
 pub mod Puts
-pub mod Lacks
 pub mod Fetch

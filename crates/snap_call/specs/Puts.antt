@@ -19,8 +19,9 @@ use Rattle.snap_order.specs.declared.order.Source.TheVariants as source
 use Rattle.snap_order.specs.declared.status.Exit.{Exit}
 use Rattle.snap_stream.specs.Streams.{Had, refused_line}
 use Rattle.snap_stream.specs.refusal.Refusal.TheVariants as refusal
-use Rattle.snap_call.specs.Ends.{Asks, EndsAsked, GivesUp, SaysRefused, WantsMemory}
-use Rattle.snap_call.specs.Text.{detailed_line}
+use Rattle.snap_call.specs.Ends.{Asks, EndsAsked, GivesUp, IsRefused, SaysRefused, WantsMemory}
+use Rattle.snap_call.specs.declared.put.NoValue.{NoValue}
+use Rattle.snap_call.specs.declared.put.NoValue.TheVariants.{TooLong, Failed, NoMemory}
 
 -- the value of a put: all bytes of standard input, if a value may have that many, or those of the
 -- argument
@@ -33,12 +34,18 @@ abbrev pub IsTooLong : Source → (known : Option (List ℕ)) → Type 0
 IsTooLong source.Input known = IfSome known (λ xs. MAX_VALUE_LEN < length xs)
 IsTooLong (source.Words bytes) known = ⊥
 
--- there is no value: it is too long, memory ran out, or standard input failed
-abbrev pub HasNoValue : Source → (known : Option (List ℕ)) → Exit → (errs errs' : Option (List ℕ))
-    → Type 0
-HasNoValue s known ended errs errs' =
-    (IsTooLong s known × SaysRefused (refused_line refusal.TooLong) ended errs errs')
-    ⊎ (WantsMemory ended errs errs' ⊎ ((s ≡ source.Input) × GivesUp ended errs errs'))
+-- the possible reasons of no value, if standard input has these bytes: only input that is read can be too
+-- long or fail
+abbrev pub MayLack : Source → (known : Option (List ℕ)) → NoValue → Type 0
+MayLack s known TooLong = IsTooLong s known
+MayLack s known (Failed error) = s ≡ source.Input
+MayLack s known NoMemory = Unit {0}
+
+-- how the call ends for this reason
+abbrev pub SaysLack : NoValue → Exit → (errs errs' : Option (List ℕ)) → Type 0
+SaysLack TooLong ended errs errs' = SaysRefused (refused_line refusal.TooLong) ended errs errs'
+SaysLack (Failed error) ended errs errs' = GivesUp ended errs errs'
+SaysLack NoMemory ended errs errs' = WantsMemory ended errs errs'
 
 -- the status has this number of the segment
 abbrev pub TellsNumber : List SegmentStatus → (segment number : ℕ) → Type 0
@@ -55,9 +62,7 @@ GoesOn tries connects remaining contents i v (Ok (reply.Status statuses)) mid en
     out out' errs errs' =
     ((k : ℕ) × TellsNumber statuses.items i k × Asks Lines tries connects remaining contents
     (question.Request (Update i (k + 1) v)) mid ended new out out' errs errs')
-    ⊎ ((length statuses.items ≤ i) × (new ≡ mid)
-    × SaysRefused (detailed_line refusal.NoSegment (length statuses.items)) ended errs errs'
-    × Keeps out out')
+    ⊎ ((length statuses.items ≤ i) × (new ≡ mid) × IsRefused ended errs errs' × Keeps out out')
 GoesOn tries connects remaining contents i v told mid ended new out out' errs errs' =
     (new ≡ mid) × EndsAsked Lines (question.Request Status) told ended out out' errs errs'
 
@@ -79,7 +84,7 @@ abbrev pub Puts : {F R C : Type 0} → (tries : Option ℕ) → (F → Option (R
     → (R → Option (List ℕ)) → (C → Option (List ℕ)) → Putting → (known : Option (List ℕ))
     → F → Exit → F → (out out' errs errs' : Option (List ℕ)) → Type 0
 Puts tries connects remaining contents p known old ended new out out' errs errs' =
-    (HasNoValue p.value known ended errs errs' × (new ≡ old) × Keeps out out')
+    ((lack : NoValue) × MayLack p.value known lack × SaysLack lack ended errs errs' × (new ≡ old) × Keeps out out')
     ⊎ ((v : List ℕ) × HasValue p.value known v × Stores tries connects remaining contents p.after
     p.segment v old ended new out out' errs errs')
 
@@ -87,10 +92,11 @@ Puts tries connects remaining contents p known old ended new out out' errs errs'
 abbrev pub Does : {F R C : Type 0} → Layout → (tries : Option ℕ) → (F → Option (R × C) → F → Type 0)
     → (R → Option (List ℕ)) → (C → Option (List ℕ)) → Question → (known : Option (List ℕ))
     → F → Exit → F → (out out' errs errs' : Option (List ℕ)) → Type 0
-Does layout tries connects remaining contents (question.Put p) known old ended new out out' errs errs' =
-    Puts tries connects remaining contents p known old ended new out out' errs errs'
 Does layout tries connects remaining contents asked known old ended new out out' errs errs' =
-    Asks layout tries connects remaining contents asked old ended new out out' errs errs'
+    ((p : Putting) × (asked ≡ question.Put p)
+    × Puts tries connects remaining contents p known old ended new out out' errs errs')
+    ⊎ (((p : Putting) → asked ≡ question.Put p → ⊥)
+    × Asks layout tries connects remaining contents asked old ended new out out' errs errs')
 
 -- it is a put of standard input
 abbrev pub ReadsInput : Question → Type 0

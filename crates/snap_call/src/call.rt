@@ -7,10 +7,10 @@ ghost use Rattle.snap_order.specs.Order.{IsCallable, IsWithin, request_of};
 ghost use Rattle.snap_order.specs.declared.status.Status.TheVariants as status;
 ghost use Rattle.snap_stream.specs.Streams.{refused_line};
 ghost use Rattle.snap_call.specs.Ends.{Asks, EndsAsked, EndsGot, EndsRead, GivesUp, IsOnlyValue};
-ghost use Rattle.snap_call.specs.Ends.{IsRead, Prints, PrintsInPlace, SaysRefused, WantsMemory};
-ghost use Rattle.snap_call.specs.Ends.{answer_status, tries_of};
+ghost use Rattle.snap_call.specs.Ends.{IsRead, IsRefused, Prints, PrintsInPlace, SaysRefused};
+ghost use Rattle.snap_call.specs.Ends.{WantsMemory, answer_status, tries_of};
 ghost use Rattle.snap_call.specs.Puts.{Does, ReadsInput};
-ghost use Rattle.snap_call.specs.Text.{answer_text, detailed_line, stored_line};
+ghost use Rattle.snap_call.specs.Text.{stored_line};
 
 use crate::line::{detailed_line, stored_line};
 use crate::print::{answer_of, is_any_fenced};
@@ -303,6 +303,7 @@ fn say_stored<W: Write, E: Write>(
 }
 
 /// Prints the reply to a read.
+#[tactic(auto, unfolding(crate::specs::Ends::Prints))]
 fn print<W: Write, E: Write>(
     alloc: Global,
     question: &Question,
@@ -312,9 +313,9 @@ fn print<W: Write, E: Write>(
     errors: &mut E,
 ) -> Exit
     requires { IsRead reply.now }
-    ensures { Prints (answer_status question.now reply.now)
-        (answer_text layout question.now reply.now) result (W.contents writer.old)
-        (W.contents writer.new) (E.contents errors.old) (E.contents errors.new) }
+    ensures { Prints (answer_status question.now reply.now) layout reply.now result
+        (W.contents writer.old) (W.contents writer.new) (E.contents errors.old)
+        (E.contents errors.new) }
 {
     let Ok(text) = answer_of(alloc, question, layout, reply) else {
         return stop(errors);
@@ -349,8 +350,7 @@ fn print_whole<W: Write, E: Write>(
 
 /// Complains that the server refused the request, with the refusal's detail. It takes no memory.
 pub(crate) fn refuse<E: Write>(why: Refusal, detail: u64, errors: &mut E) -> Exit
-    ensures { SaysRefused (detailed_line why detail) result (E.contents errors.old)
-        (E.contents errors.new) }
+    ensures { IsRefused result (E.contents errors.old) (E.contents errors.new) }
 {
     let line = detailed_line(why, detail);
     let is_told = match write_whole(errors, line.as_str().as_bytes()) {

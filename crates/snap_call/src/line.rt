@@ -1,7 +1,7 @@
 //! Lines that are built in a fixed buffer, so that memory can't run out for them.
 ghost use Rattle.std.specs.Prelude.{◌≡◌, ◌+◌, ◌<◌, ◌≤◌, ◌++◌, decimal, length};
 ghost use Rattle.std.specs.Fmt.InlineText.{inline_text};
-ghost use Rattle.snap_call.specs.Text.{detailed_line, stored_line};
+ghost use Rattle.snap_call.specs.Text.{stored_line};
 
 use itoa::Buffer;
 use snap_stream::Refusal;
@@ -42,14 +42,7 @@ pub(crate) fn stored_line(number: u64) -> Line
 }
 
 /// The line of a server's refusal, with its detail.
-pub(crate) fn detailed_line(why: Refusal, detail: u64) -> Line
-    ensures { inline_text result ≡ detailed_line why detail }
-{
-    let text = append(Line::new(), "snapd: refused ");
-    let text = append_number(text, u64::from(why.code()));
-    let text = append(text, " ");
-    let text = append(text, why.name());
-    let text = append(text, " ");
-    let text = append_number(text, detail);
-    append(text, "\n")
+pub(crate) fn detailed_line(why: Refusal, detail: u64) -> Line {
+    let (code, name) = (why.code(), why.name());
+    Line::of(&format_args!("snapd: refused {code} {name} {detail}\n"))
 }

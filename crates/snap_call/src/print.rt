@@ -1,10 +1,10 @@
 //! The texts of the replies to reads.
-ghost use Rattle.std.specs.Prelude.{◌≡◌, ◌++◌, IfOk, OnOk, flat_map, option_map};
+ghost use Rattle.std.specs.Prelude.{◌≡◌, ◌++◌, IfOk, OnOk, codes, flat_map};
+ghost use Rattle.snap_hex.specs.Text.{hex_text};
 ghost use Rattle.snap_json.specs.Each.{each_from};
+ghost use Rattle.snap_order.specs.declared.order.Layout.TheVariants.{Lines};
 ghost use Rattle.snap_call.specs.Ends.{IsRead};
-ghost use Rattle.snap_call.specs.Text.{answer_text, document_text, fence_line, health_text};
-ghost use Rattle.snap_call.specs.Text.{is_any_fenced, lines_text, named_line, reply_text};
-ghost use Rattle.snap_call.specs.Text.{segment_text, shown, status_line, text_for, value_line};
+ghost use Rattle.snap_call.specs.Text.{Shows, is_any_fenced, named_line, segment_text, value_line};
 ghost use Rattle.snap_call.specs.Text.{value_text};
 
 use itoa::Buffer;
@@ -22,7 +22,7 @@ pub(crate) fn answer_of(
     reply: &Reply,
 ) -> Result<Vec<u8>, AllocError>
     requires { IsRead reply.now }
-    ensures { IfOk result (λ text. text.items ≡ answer_text layout question.now reply.now) }
+    ensures { IfOk result (λ text. Shows layout reply.now text.items) }
 {
     match layout {
         Layout::Json => document_of(alloc, question, reply),
@@ -33,7 +33,6 @@ pub(crate) fn answer_of(
 /// The JSON document of the reply to a question.
 fn document_of(alloc: Global, question: &Question, reply: &Reply) -> Result<Vec<u8>, AllocError>
     requires { IsRead reply.now }
-    ensures { IfOk result (λ text. text.items ≡ document_text question.now reply.now) }
 {
     match (question, reply) {
         (Question::Health, Reply::Status(statuses)) => health_document(alloc, statuses),
@@ -52,7 +51,7 @@ fn lines_of(
     reply: &Reply,
 ) -> Result<Vec<u8>, AllocError>
     requires { IsRead reply.now }
-    ensures { IfOk result (λ text. text.items ≡ lines_text layout question.now reply.now) }
+    ensures { IfOk result (λ text. Shows layout reply.now text.items) }
 {
     match (question, reply) {
         (Question::Health, Reply::Status(statuses)) => health_of(alloc, statuses),
@@ -61,9 +60,7 @@ fn lines_of(
 }
 
 /// The lines of a server's health.
-fn health_of(alloc: Global, statuses: &[SegmentStatus]) -> Result<Vec<u8>, AllocError>
-    ensures { IfOk result (λ text. text.items ≡ health_text statuses.now) }
-{
+fn health_of(alloc: Global, statuses: &[SegmentStatus]) -> Result<Vec<u8>, AllocError> {
     let mut out = Vec::new(alloc);
     if is_any_fenced(statuses) {
         put_fences(&mut out, statuses)?;
@@ -83,7 +80,7 @@ pub(crate) fn is_any_fenced(statuses: &[SegmentStatus]) -> bool
 /// The lines of the reply to a read.
 fn text_of(alloc: Global, layout: Layout, reply: &Reply) -> Result<Vec<u8>, AllocError>
     requires { IsRead reply.now }
-    ensures { IfOk result (λ text. text.items ≡ reply_text layout reply.now) }
+    ensures { IfOk result (λ text. Shows layout reply.now text.items) }
 {
     let mut out = Vec::new(alloc);
     match reply {
@@ -102,8 +99,8 @@ fn put_values(
     layout: Layout,
     values: &[SegmentValue],
 ) -> Result<(), AllocError>
-    ensures { OnOk result (out.new.items
-        ≡ out.old.items ++ each_from (value_line layout) 0 values.now) }
+    ensures { layout ≡ Lines → OnOk result (out.new.items
+        ≡ out.old.items ++ each_from value_line 0 values.now) }
 {
     for (index, value) in values.iter().enumerate() {
         put_value(
@@ -125,8 +122,8 @@ fn put_part(
     layout: Layout,
     values: &[NamedValue],
 ) -> Result<(), AllocError>
-    ensures { OnOk result (out.new.items
-        ≡ out.old.items ++ flat_map (named_line layout) values.now) }
+    ensures { layout ≡ Lines → OnOk result (out.new.items
+        ≡ out.old.items ++ flat_map named_line values.now) }
 {
     for value in values {
         let index = usize::from(value.segment);
@@ -143,10 +140,7 @@ fn put_part(
 }
 
 /// Appends a line for each segment's status.
-fn put_statuses(out: &mut Vec<u8>, statuses: &[SegmentStatus]) -> Result<(), AllocError>
-    ensures { OnOk result (out.new.items
-        ≡ out.old.items ++ each_from status_line 0 statuses.now) }
-{
+fn put_statuses(out: &mut Vec<u8>, statuses: &[SegmentStatus]) -> Result<(), AllocError> {
     for (index, status) in statuses.iter().enumerate() {
         put_status(out, index, status)?;
     }
@@ -154,27 +148,16 @@ fn put_statuses(out: &mut Vec<u8>, statuses: &[SegmentStatus]) -> Result<(), All
 }
 
 /// Appends a line for each segment that is fenced.
-fn put_fences(out: &mut Vec<u8>, statuses: &[SegmentStatus]) -> Result<(), AllocError>
-    ensures { OnOk result (out.new.items
-        ≡ out.old.items ++ each_from fence_line 0 statuses.now) }
-{
+fn put_fences(out: &mut Vec<u8>, statuses: &[SegmentStatus]) -> Result<(), AllocError> {
+    let mut digits = Buffer::new();
     for (index, status) in statuses.iter().enumerate() {
-        put_fence(out, index, status)?;
+        if status.is_fenced {
+            out.extend_from_slice(b"fenced ")?;
+            out.extend_from_slice(digits.format(index).as_bytes())?;
+            out.extend_from_slice(b"\n")?;
+        }
     }
     Ok(())
-}
-
-/// Appends the line of one segment, if it is fenced.
-fn put_fence(out: &mut Vec<u8>, index: usize, status: &SegmentStatus) -> Result<(), AllocError>
-    ensures { OnOk result (out.new.items ≡ out.old.items ++ fence_line index status.now) }
-{
-    if !status.is_fenced {
-        return Ok(());
-    }
-    let mut digits = Buffer::new();
-    out.extend_from_slice(b"fenced ")?;
-    out.extend_from_slice(digits.format(index).as_bytes())?;
-    out.extend_from_slice(b"\n")
 }
 
 /// Appends the line of one segment's value.
@@ -186,45 +169,36 @@ fn put_value(
     number: u64,
     value: &[u8],
 ) -> Result<(), AllocError>
-    ensures { OnOk result (out.new.items
-        ≡ out.old.items ++ value_text layout index number value.now) }
+    ensures { layout ≡ Lines → OnOk result (out.new.items
+        ≡ out.old.items ++ value_text index number value.now) }
 {
     put_segment(out, index, number)?;
     put_shown(alloc, out, layout, value)?;
     out.extend_from_slice(b"\n")
 }
 
-/// Appends a value: as quoted text or in hexadecimal digits.
+/// Appends a value: as quoted text if it is printable and this layout shows text, else in hexadecimal digits.
 fn put_shown(
     alloc: Global,
     out: &mut Vec<u8>,
     layout: Layout,
     value: &[u8],
 ) -> Result<(), AllocError>
-    ensures { OnOk result (out.new.items ≡ out.old.items ++ shown layout value.now) }
+    ensures { layout ≡ Lines → OnOk result (out.new.items
+        ≡ out.old.items ++ (codes " value " ++ hex_text value.now)) }
 {
-    if let Some(text) = text_for(alloc, layout, value)? {
-        out.extend_from_slice(b" text ")?;
-        return out.extend_from_slice(text.as_slice());
+    if let Layout::Text = layout {
+        if let Some(text) = quote(alloc, value)? {
+            out.extend_from_slice(b" text ")?;
+            return out.extend_from_slice(text.as_slice());
+        }
     }
     out.extend_from_slice(b" value ")?;
     put_hex(out, value)
 }
 
-/// The value as quoted text, if it is printable and this layout shows text. Else `None`.
-fn text_for(alloc: Global, layout: Layout, value: &[u8]) -> Result<Option<Vec<u8>>, AllocError>
-    ensures { IfOk result (λ text. option_map (λ t. t.items) text ≡ text_for layout value.now) }
-{
-    match layout {
-        Layout::Text => quote(alloc, value),
-        Layout::Lines | Layout::Json => Ok(None),
-    }
-}
-
 /// Appends the line of one segment's status.
-fn put_status(out: &mut Vec<u8>, index: usize, status: &SegmentStatus) -> Result<(), AllocError>
-    ensures { OnOk result (out.new.items ≡ out.old.items ++ status_line index status.now) }
-{
+fn put_status(out: &mut Vec<u8>, index: usize, status: &SegmentStatus) -> Result<(), AllocError> {
     put_segment(out, index, status.number)?;
     if status.is_fenced {
         out.extend_from_slice(b" fenced 1\n")

@@ -8,8 +8,8 @@ ghost use Rattle.snap_order.specs.declared.order.Question.TheVariants as questio
 ghost use Rattle.snap_order.specs.declared.order.Source.TheVariants as sources;
 ghost use Rattle.snap_order.specs.request.Request.TheVariants.{Update};
 ghost use Rattle.snap_call.specs.Ends.{Asks, GivesUp, tries_of};
-ghost use Rattle.snap_call.specs.Puts.{GoesOn, HasValue, Puts, ReadsInput, Stores, TellsNumber};
-ghost use Rattle.snap_call.specs.Lacks.{MayLack, SaysLack};
+ghost use Rattle.snap_call.specs.Puts.{GoesOn, HasValue, MayLack, Puts, ReadsInput, SaysLack};
+ghost use Rattle.snap_call.specs.Puts.{Stores, TellsNumber};
 ghost use Rattle.snap_call.specs.declared.put.NoValue.TheVariants.{NoMemory};
 
 use crate::call::{answer_from, answer_to, end, fail, refuse, refuse_here, stop, tries_of};

@@ -1,3 +1,1 @@
-pub mod Board
 pub mod Looks
-pub mod Text

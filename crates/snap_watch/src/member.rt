@@ -1,7 +1,4 @@
 //! Rows as JSON objects.
-ghost use Rattle.std.specs.Prelude.{◌≡◌, ◌++◌, IfOk, OnOk};
-ghost use Rattle.snap_json.specs.Documents.{bytes_tokens, head_tokens, line_of};
-ghost use Rattle.snap_watch.specs.Text.{row_tokens};
 
 use crate::row::Row;
 use base64::engine::general_purpose::STANDARD;
@@ -9,10 +6,11 @@ use json::Writer;
 use std::alloc::{AllocError, Global};
 
 /// Appends the object of a row, and a line feed.
-pub(crate) fn append_object(alloc: Global, text: Vec<u8>, row: &Row) -> Result<Vec<u8>, AllocError>
-    ensures { IfOk result (λ whole.
-        whole.items ≡ text.items ++ line_of (row_tokens row.now)) }
-{
+pub(crate) fn append_object(
+    alloc: Global,
+    text: Vec<u8>,
+    row: &Row,
+) -> Result<Vec<u8>, AllocError> {
     let mut writer = Writer::new(text);
     put_row(alloc, &mut writer, row)?;
     let mut whole = writer.into_inner();
@@ -21,35 +19,20 @@ pub(crate) fn append_object(alloc: Global, text: Vec<u8>, row: &Row) -> Result<V
 }
 
 /// Writes the object of a row.
-fn put_row(alloc: Global, writer: &mut Writer, row: &Row) -> Result<(), AllocError>
-    ensures tokens { OnOk result (writer.new.tokens ≡ writer.old.tokens ++ row_tokens row.now) }
-    ensures before { writer.new.before ≡ writer.old.before }
-{
-    put_head(writer, row.segment, row.number)?;
+fn put_row(alloc: Global, writer: &mut Writer, row: &Row) -> Result<(), AllocError> {
+    writer.begin_object()?;
+    writer.key("segment")?;
+    writer.u64(row.segment as u64)?;
+    writer.key("number")?;
+    writer.u64(row.number)?;
     writer.key("fenced")?;
     writer.boolean(row.is_fenced)?;
     put_bytes(alloc, writer, row.value.as_slice())?;
     writer.end_object()
 }
 
-/// Begins the object of one segment.
-fn put_head(writer: &mut Writer, segment: usize, number: u64) -> Result<(), AllocError>
-    ensures tokens { OnOk result (writer.new.tokens
-        ≡ writer.old.tokens ++ head_tokens segment number) }
-    ensures before { writer.new.before ≡ writer.old.before }
-{
-    writer.begin_object()?;
-    writer.key("segment")?;
-    writer.u64(segment as u64)?;
-    writer.key("number")?;
-    writer.u64(number)
-}
-
 /// Writes bytes as text if they are UTF-8, and else in base64.
-fn put_bytes(alloc: Global, writer: &mut Writer, bytes: &[u8]) -> Result<(), AllocError>
-    ensures tokens { OnOk result (writer.new.tokens ≡ writer.old.tokens ++ bytes_tokens bytes.now) }
-    ensures before { writer.new.before ≡ writer.old.before }
-{
+fn put_bytes(alloc: Global, writer: &mut Writer, bytes: &[u8]) -> Result<(), AllocError> {
     match str::from_utf8(bytes) {
         Ok(text) => {
             writer.key("text")?;

@@ -1,6 +1,4 @@
 //! The board in a terminal.
-ghost use Rattle.std.specs.Prelude.{◌≡◌, IfOk};
-ghost use Rattle.snap_watch.specs.Text.{cell_text};
 
 use crate::row::Row;
 use crate::track::Track;
@@ -121,9 +119,7 @@ fn put_row(
 }
 
 /// A value as quoted text where it is printable, and else as hexadecimal digits.
-fn cell(alloc: Global, value: &[u8]) -> Result<Vec<u8>, AllocError>
-    ensures { IfOk result (λ cell. cell.items ≡ cell_text value.now) }
-{
+fn cell(alloc: Global, value: &[u8]) -> Result<Vec<u8>, AllocError> {
     if let Some(text) = quote(alloc, value)? {
         return Ok(text);
     }

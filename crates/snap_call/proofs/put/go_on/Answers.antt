@@ -16,6 +16,6 @@ returns-in-Err g c =
     rw (c.in-Ok-Status.is, c.in-Ok-Status.field-0-is) (inr (
       rw c.deref.ensures.value at c.in-Err.ensures.none,
       refl,
-      rw (← c.deref.ensures.value, c.in-Err.ensures.count) c.refuse.ensures,
+      c.refuse.ensures,
       Keeps-refl _,
     ))
