@@ -27,7 +27,7 @@ def board(snapd):
 
 def test_a_start_and_an_end_are_logged(snapd, _):
     """With the version, the process, what is served, and where it really listens: a line each."""
-    files, program = fresh(snapd, 2), snapd("--version").output.decode().strip()
+    files, program = fresh(snapd, 2), snapd("--version").output.decode().split("\n")[0]
     for words, what in ((board(snapd), "board"), (files, "S0 S1")):
         more = ("--listen", LOOPBACK, "--connections", 1, *words)
         with AtSocket(snapd, address="unix:here", more=more) as server:
