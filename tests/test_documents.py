@@ -318,6 +318,19 @@ def test_files_are_called_by_nouns(snapd, random):
 
 # ---- how long the documents are ----
 
+def test_figures_of_readme_are_those_of_performance(snapd, random):
+    """The registers' memory, by the formula of PERFORMANCE, and how long a proof of everything takes."""
+    readme, performance = ((TOP / it).read_text() for it in ("README.md", "docs/PERFORMANCE.md"))
+    assert "4,096 n(n + 1)(n + s + 2) bytes" in performance
+    figures = re.findall(r"([\d.]+) MB for (\d+)(?: segments)? and (\d+)", readme)
+    assert len(figures) == 2, figures
+    for megabytes, n, s in figures:
+        made = 4096 * int(n) * (int(n) + 1) * (int(n) + int(s) + 2) / 1e6
+        assert abs(float(megabytes) / made - 1) < 0.03, (megabytes, made)
+    [minutes] = re.findall(r"make prove .*: (some \d+ minutes)", readme)
+    assert f"| `make prove`, from nothing: reckoned | {minutes} |" in performance, minutes
+
+
 # The most words that a document may have, or several together: what one reads in an evening. What is added to one is cut in it.
 MOST_WORDS = {
     "README.md": 1_470, "SECURITY.md": 200, "docs/TOUR.md": 1_500, "docs/READING.md": 1_080, "docs/PROMISES.md": 3_920, "docs/UNPROVED.md": 3_670,

@@ -2,12 +2,12 @@
 use Rattle.std.specs.Prelude.{ℕ, Bool, false, List, []}
 
 pub record Story : Type 0 where
-  -- what it holds after so many calls
+  -- what it holds after this many calls
   pub held : ℕ → List ℕ
   -- which places were written before it was opened, and not synced
   pub open_at_first : ℕ → Bool
 
 -- The stories of all files, by their paths. It is no `abbrev` and not `unfoldable`, so no proof outside
--- of this file can know what it is, and nothing else stands here.
+-- of this file can know what it is, and nothing else is in it.
 pub untold : List ℕ → Story
 untold path = record { held = λ calls. []; open_at_first = λ p. false }

@@ -10,7 +10,7 @@ pub enum Call {
     ReadFailed,
     /// A write of these bytes that succeeded.
     Wrote { at: u64, bytes: Log<u8> },
-    /// A write of so many bytes that failed.
+    /// A write of `count` bytes that failed.
     WriteFailed { at: u64, count: u64 },
     /// A sync that succeeded.
     Synced,

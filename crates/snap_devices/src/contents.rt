@@ -1,6 +1,6 @@
-//! What a device left in its file, and whether that lies there still.
+//! What a device left in its file, and whether the file still has it.
 //!
-//! A lock binds only those who ask for it, so anybody may copy a file onto one in use, or cut it. The
+//! A lock excludes only programs that lock the file too, so any other may copy onto a file in use, or cut it. The
 //! file keeps its name then, and the next store would make a mixture of both. So the file is compared with a
 //! copy before the first byte of a store: its length, its header, the slot that was stored last, all but the
 //! value, and the gate of the next one. A copy of another segment has another header. One of another time has
@@ -116,7 +116,7 @@ impl Contents {
         }
     }
 
-    /// Looks at the file.
+    /// Compares the file with what was left in it.
     fn check(&self, file: &mut File) -> Result<(), CallFault> {
         match self.is_in(file) {
             Ok(true) => Ok(()),

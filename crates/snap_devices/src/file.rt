@@ -76,27 +76,27 @@ pub enum CallFault {
     /// The system's own reason.
     #[error("{call}: {reason}")]
     System { call: CallKind, reason: io::Error },
-    /// The path that it was opened by names another file now, or none. What is written goes to a
-    /// file that nobody finds again. Only a sync finds that.
+    /// The path that it was opened by names another file now, or none: a write would be lost with the old
+    /// file. Only a sync returns this.
     #[error("sync: its path doesn't name it any more: it was moved, removed or replaced")]
     Moved,
     /// The file's length, its header or its newest slot isn't what this device left in it: another
-    /// program wrote it or cut it, which no lock kept out. It is left as it is. Only a write finds that.
+    /// program wrote or cut it in spite of the lock. The file is left as it is. Only a write returns this.
     #[error("write: another program wrote it or cut it, and it is left so: never copy onto a file in use: snapd load makes a new folder of a dump")]
     Overwritten,
 }
 
 /// An open and locked file, with its length when it was opened.
 ///
-/// The lock is the system's own, on the whole file (`flock`). It binds only those who ask for it,
-/// and ends with the device, or with the process, however that ends.
+/// The lock is the system's own, on the whole file (`flock`). It excludes only programs that lock the file
+/// too, and ends with the device, or with the process, however that ends.
 ///
-/// Each method makes the call of the system that it is named for, and then notes it. A sync also
-/// asks whether the path still names the file, if the one before it didn't, and fails where it
-/// doesn't: so each store asks, which syncs twice. Once the file was read whole, the first write compares
-/// its length, its header and the gate, number and length of each slot with what was read. After every second
-/// sync the next write compares the length, the header, the slot whose gate was opened last and the gate of the
-/// next one: so each store does, before it writes anything. Where they differ the write fails, and isn't made.
+/// Each method makes the system's call that it is named for, and then notes it. A sync also checks
+/// whether the path still names the file, unless the sync before it did, and fails if it doesn't: so each
+/// store checks it, which syncs twice. Once the whole file was read, the first write compares its length,
+/// its header and the gate, number and length of each slot with what was read. After every second sync the
+/// next write compares the length, the header, the slot whose gate was opened last and the gate of the next
+/// one: so each store does, before it writes anything. If they differ, the write fails and isn't made.
 ///
 /// It is honest where every noted call did what the model of [`Disk`] says, after a sync that failed
 /// too, and nobody else writes the file. Which places are open at first no contract says: those that were
@@ -104,7 +104,7 @@ pub enum CallFault {
 /// open. A sync that succeeds closes them. So what is proved holds where each is open, and where a
 /// premise says that no more are than a crash left.
 ///
-/// Why a call failed is told to nobody, unless [`FileOf::telling`] says to whom.
+/// Why a call failed is dropped, unless [`FileOf::telling`] names a place for it.
 #[derive(Drop)]
 pub struct FileOf<'p, R, S: Stories> {
     rt: &'p R,
@@ -129,7 +129,7 @@ impl<'p, R: Files<File = fs::File> + Clock, S: Stories> FileOf<'p, R, S> {
     /// locks too: without its lock a file isn't safe to use.
     ///
     /// With a shared lock a file is opened for reading alone. So it may be on a file system that
-    /// takes no writes, and belong to somebody who lets others only read it: the system locks and
+    /// takes no writes, or belong to a user who lets others only read it: the system locks and
     /// syncs such a file as any other, and a write of it fails. What is no file is opened to be
     /// written too: a folder refuses that, and a pipe would let a reader wait for a writer.
     ///
@@ -185,8 +185,8 @@ impl<'p, R: Files<File = fs::File> + Clock, S: Stories> FileOf<'p, R, S> {
         self.name.id()
     }
 
-    /// The same device, which tells `to` why a call of it failed: the first one that does, since
-    /// what comes behind it may be its consequence. Where `to` has a fault already it keeps that.
+    /// The same device, which puts into `to` why a call of it failed: the first failed call, since later
+    /// ones may be its consequence. If `to` has a fault already, it keeps that.
     pub fn telling(mut self, to: &'p OnceLock<CallFault>) -> FileOf<'p, R, S>
         ensures uncalled { IsUncalled self.entry → IsUncalled result }
         ensures path { file_path result ≡ file_path self.entry }
@@ -218,7 +218,7 @@ impl<'p, R: Files<File = fs::File> + Clock, S: Stories> FileOf<'p, R, S> {
     }
 }
 
-/// Syncs a file, and asks whether this is still a name of it, if it didn't behind the last sync.
+/// Syncs a file, and checks whether this is still a name of it, unless the last sync did.
 fn sync_named<R: Files<File = fs::File> + Clock>(
     rt: &R,
     file: &fs::File,
@@ -241,7 +241,7 @@ fn fault_of_sync(reason: io::Error) -> CallFault {
     }
 }
 
-/// Tells why a call failed, where that is to be told and nothing was before.
+/// Puts the reason of a failed call into `told`, if there is such a place and it is empty.
 fn tell(told: Option<&OnceLock<CallFault>>, fault: CallFault) {
     if let Some(told) = told {
         let _ = told.try_set(fault);

@@ -1,4 +1,4 @@
-//! A device whose first write is held up: the device of tests that ask who waits for whom.
+//! A device whose first write waits for a flag, for tests of what a blocked store delays.
 ghost use Rattle.std.specs.Prelude.{◌≡◌, ◌+◌, ◌-◌, ◌^◌, ◌<◌, ◌≤◌, ◌↔◌, length, None, Some};
 ghost use Rattle.std.specs.Prelude.{IsErr, IsSome, OnOk};
 ghost use Rattle.snap_devices.specs.Held.{IsWait};
@@ -16,12 +16,12 @@ use std::thread::yield_now;
 pub struct Waited {
     /// For how many turns of yielding.
     pub turns: u64,
-    /// What its flag was when it was looked at last; 0 where it never was.
+    /// The flag as it was last read; 0 if it never was.
     pub flag: u64,
 }
 
 /// A [`MemDisk`] whose first write waits until a flag isn't 0, for at most a given number of turns
-/// of yielding, and then goes on. All else it does as the `MemDisk` does.
+/// of yielding, and then continues. In all else it is the `MemDisk`.
 #[derive(Drop)]
 pub struct Held {
     disk: MemDisk,
@@ -70,7 +70,7 @@ impl Held {
     }
 }
 
-// Yields until the flag isn't 0, for at most so many turns.
+// Yields until the flag isn't 0, for at most `turns` turns.
 fn wait_for(flag: &AtomicU64, turns: u64) -> Waited
     ensures { IsWait turns result }
 {

@@ -1,7 +1,7 @@
 //! The devices: a file of the operating system, and for tests one in memory whose calls fail by a
-//! plan, one that waits where it is told to, and one whose bytes are noise.
+//! plan, one whose first write waits for a flag, and one whose bytes are noise.
 //!
-//! What a device is and does says `snap_disk`. [`MemDisk`] and [`Held`] do that by proof. [`Noise`]
+//! The model of a device is in `snap_disk`. [`MemDisk`] and [`Held`] do that by proof. [`Noise`]
 //! keeps nothing, and is never honest. Of a real file, [`FileDisk`], honesty is a premise that no code
 //! can test, so no safety rests on it.
 #![tactic(auto)]

@@ -61,7 +61,7 @@ impl MemDisk {
         Ok(MemDisk::new(alloc, image))
     }
 
-    /// From now on its calls fail by this plan, which goes on counting from the calls made so far.
+    /// From now on its calls fail by this plan, which continues counting from the calls made so far.
     pub fn set_plan(&mut self, plan: FaultPlan)
         ensures plan { memory_plan self.new ≡ plan }
         ensures device { memory_device self.new ≡ memory_device self.old }

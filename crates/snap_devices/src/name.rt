@@ -1,9 +1,9 @@
 //! Whether a path still names an open file.
 //!
-//! A look at the file itself costs its next write: from version 6.13 on Linux gives a write that comes
-//! behind a question for a file's times a finer time than the clock's last tick, so that its inode
-//! changes and has to be stored with it. So the folder is asked, whose times change with each name in
-//! it that is made, removed or moved, and the file only where that can't tell, and once a second.
+//! Asking for the file's own times costs its next write: from version 6.13 on, Linux gives a write that
+//! follows such a question a finer time than the clock's last tick, so its inode changes and has to be
+//! stored with it. So the folder's times are read, which change whenever a name in it is made, removed or
+//! moved. The file itself is checked only if they can't decide, and once a second.
 
 ghost use Rattle.std.specs.Prelude.{◌≡◌};
 
@@ -14,9 +14,9 @@ use std::path::Path;
 use std::rt::{Clock, Files};
 use std::time::Instant;
 
-/// How long a check of the name counts while its folder stays as it was, in seconds. Where a file system
-/// doesn't tell that a folder has changed, or another one was put over it, that is how late it is
-/// found.
+/// How long a check of the name is valid while its folder is unchanged, in seconds. If a file system
+/// doesn't report a change of the folder, or another folder was mounted over it, a moved file is found
+/// this much later.
 const CHECK_COUNTS: u64 = 1;
 
 /// How long a folder has to have had its time before each later change gives it another one, in
@@ -63,7 +63,7 @@ struct FolderReading {
     at: Instant,
 }
 
-/// A reading of a folder, and a check behind it that found the file under its name.
+/// A reading of a folder, and a later check that found the file under its name.
 #[derive(Clone, Copy)]
 struct NameCheck {
     reading: FolderReading,
@@ -72,7 +72,7 @@ struct NameCheck {
 }
 
 impl NameCheck {
-    /// A check behind this reading, and behind an earlier check where there was one.
+    /// The check after this reading; `earlier` is the check before it, if there was one.
     fn behind(reading: FolderReading, earlier: Option<NameCheck>) -> NameCheck {
         let since = match earlier {
             Some(earlier) if earlier.reading.folder == reading.folder => earlier.since,
@@ -96,7 +96,7 @@ pub struct Name<'p> {
     id: FileId,
     /// The last check that found the file under its own name, and not under that of a link to it.
     last: Option<NameCheck>,
-    /// Whether it was asked for behind the last sync, and held.
+    /// Whether the name was checked after the last sync, and still named the file.
     is_fresh: bool,
 }
 
@@ -118,9 +118,8 @@ impl<'p> Name<'p> {
         self.id
     }
 
-    /// Whether it still names that file, behind a sync. Of two syncs in a row it is asked for behind
-    /// one at least, and so within each store, which makes two. Where the system can't tell, that is its
-    /// own reason.
+    /// Whether the path still names that file, after a sync. Of two syncs in a row at least one checks it,
+    /// so each store does, which syncs twice. If the check fails, the error is the system's own.
     pub fn holds_synced<R: Files<File = fs::File> + Clock>(&mut self, rt: &R) -> io::Result<bool>
         ensures path { self.new.path ≡ self.old.path }
     {

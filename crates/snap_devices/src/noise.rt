@@ -6,8 +6,7 @@ use crate::Log;
 use snap_disk::{DeviceFault, Disk};
 
 /// A device of fixed length whose reads give bytes drawn from a seed, other ones each time. What is
-/// written to it is lost. No call of it fails, and it isn't honest: it stands for a disk of which
-/// nothing is known.
+/// written to it is lost. No call of it fails, and it isn't honest: a disk of which nothing is known.
 #[derive(Drop)]
 pub struct Noise {
     len: u64,

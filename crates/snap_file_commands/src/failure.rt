@@ -79,7 +79,7 @@ impl CommandFailure {
 
     /// Reports the failure of a command on the order's file, which has `len` bytes. After the line of a
     /// refusal of the file (10 to 14) one more line names the file and says what to do, and after 13 what
-    /// the system said of the device. Without memory for it the first line stands alone, and `is_told` is
+    /// the system said of the device. Without memory for it there is only the first line, and `is_told` is
     /// false.
     pub fn report_of<C: Cause, E: Write>(
         &self,

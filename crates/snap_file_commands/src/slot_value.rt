@@ -97,7 +97,7 @@ fn open_gate() -> [u8; BLOCK_LEN]
     block
 }
 
-/// The value of so many bytes in a body block.
+/// The value of `count` bytes in a body block.
 #[tactic(auto, unfolding(snap_disk::specs::Device::part))]
 fn value_of(body: &[u8], count: u16) -> &[u8]
     requires size { length body.now ≡ BLOCK_LEN }
