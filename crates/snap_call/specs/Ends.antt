@@ -64,10 +64,9 @@ PrintsInPlace how text ended out out' errs errs' =
     IsPrinted how text ended out out' errs errs' ⊎ IsCutShort text ended out out' errs errs'
 
 -- a text of the reply was printed or cut short, or memory ran out before the first byte
-unfoldable pub Prints : (how : Status) → Layout → Question → Reply → Exit
-    → (out out' errs errs' : Option (List ℕ)) → Type 0
-Prints how layout question reply ended out out' errs errs' =
-    ((text : List ℕ) × Shows layout question reply text × PrintsInPlace how text ended out out' errs errs')
+unfoldable pub Prints : (how : Status) → Layout → Reply → Exit → (out out' errs errs' : Option (List ℕ)) → Type 0
+Prints how layout reply ended out out' errs errs' =
+    ((text : List ℕ) × Shows layout reply text × PrintsInPlace how text ended out out' errs errs')
     ⊎ (WantsMemory ended errs errs' × Keeps out out')
 
 -- there is no answer, with a complaint
@@ -94,7 +93,7 @@ abbrev pub EndsRead : Layout → Question → Reply → Exit → (out out' errs 
 EndsRead layout (Get segment) (reply.Part values) ended out out' errs errs' =
     EndsGot segment values.items ended out out' errs errs'
 EndsRead layout question reply ended out out' errs errs' =
-    Prints (answer_status question reply) layout question reply ended out out' errs errs'
+    Prints (answer_status question reply) layout reply ended out out' errs errs'
 
 -- the reply is one to a read
 abbrev pub IsRead : Reply → Type 0

@@ -1,9 +1,9 @@
--- The lines of a stored number and of the values and statuses of a reply (docs/FORMATS.md).
-use Rattle.std.specs.Prelude.{◌≡◌, ℕ, Bool, true, false, List, [], ◌∷◌, ◌++◌, codes, flat_map}
+-- The lines of a stored number and of the values of a reply (docs/FORMATS.md).
+use Rattle.std.specs.Prelude.{◌≡◌, ℕ, Bool, List, [], ◌∷◌, ◌++◌, codes, flat_map}
 use Rattle.std.specs.List.{list_any}
 use Rattle.std.specs.Fmt.{decimal}
 use Rattle.snap_frame.specs.declared.reply.Reply.{Reply}
-use Rattle.snap_frame.specs.declared.reply.Reply.TheVariants.{Snapshot, Part, Status}
+use Rattle.snap_frame.specs.declared.reply.Reply.TheVariants.{Snapshot, Part}
 use Rattle.snap_frame.specs.segment_value.SegmentValue.{SegmentValue}
 use Rattle.snap_frame.specs.declared.entries.SegmentStatus.{SegmentStatus}
 use Rattle.snap_frame.specs.declared.named.NamedValue.{NamedValue}
@@ -11,8 +11,6 @@ use Rattle.snap_hex.specs.Text.{hex_text}
 use Rattle.snap_json.specs.Each.{each_from}
 use Rattle.snap_order.specs.declared.order.Layout.{Layout}
 use Rattle.snap_order.specs.declared.order.Layout.TheVariants.{Lines}
-use Rattle.snap_order.specs.declared.order.Question.{Question}
-use Rattle.snap_order.specs.declared.order.Question.TheVariants.{Health}
 
 -- a text with a line feed at its end
 abbrev pub line : List ℕ → List ℕ
@@ -37,29 +35,15 @@ value_line i v = value_text i v.number v.value
 abbrev pub named_line : NamedValue → List ℕ
 named_line v = value_text v.segment v.number v.value
 
-abbrev pub fence_text : Bool → List ℕ
-fence_text true = codes "1"
-fence_text false = codes "0"
-
--- the line of segment i's number and fence
-abbrev pub status_line : ℕ → SegmentStatus → List ℕ
-status_line i s = line (segment_text i s.number ++ (codes " fenced " ++ fence_text s.is_fenced))
-
--- the text has each value or status of the reply under its own segment and number, in order
-abbrev pub ShowsEach : Reply → List ℕ → Type 0
-ShowsEach (Snapshot values) text = text ≡ each_from value_line 0 values.items
-ShowsEach (Part values) text = text ≡ flat_map named_line values.items
-ShowsEach (Status statuses) text = text ≡ each_from status_line 0 statuses.items
-ShowsEach reply text = Unit {0}
-
--- the same of the answer to a question; only tests say what a health call prints
-abbrev pub ShowsValues : Question → Reply → List ℕ → Type 0
-ShowsValues Health (Status statuses) text = Unit {0}
-ShowsValues question reply text = ShowsEach reply text
+-- the text has each value of the reply under its own segment and number, in order
+abbrev pub ShowsValues : Reply → List ℕ → Type 0
+ShowsValues (Snapshot values) text = text ≡ each_from value_line 0 values.items
+ShowsValues (Part values) text = text ≡ flat_map named_line values.items
+ShowsValues reply text = Unit {0}
 
 -- it does if the layout is lines; only tests say what other texts have
-abbrev pub Shows : Layout → Question → Reply → List ℕ → Type 0
-Shows layout question reply text = layout ≡ Lines → ShowsValues question reply text
+abbrev pub Shows : Layout → Reply → List ℕ → Type 0
+Shows layout reply text = layout ≡ Lines → ShowsValues reply text
 
 abbrev pub is_any_fenced : List SegmentStatus → Bool
 is_any_fenced statuses = list_any (λ s. s.is_fenced) statuses

@@ -313,8 +313,8 @@ fn print<W: Write, E: Write>(
     errors: &mut E,
 ) -> Exit
     requires { IsRead reply.now }
-    ensures { Prints (answer_status question.now reply.now) layout question.now reply.now
-        result (W.contents writer.old) (W.contents writer.new) (E.contents errors.old)
+    ensures { Prints (answer_status question.now reply.now) layout reply.now result
+        (W.contents writer.old) (W.contents writer.new) (E.contents errors.old)
         (E.contents errors.new) }
 {
     let Ok(text) = answer_of(alloc, question, layout, reply) else {

@@ -4,8 +4,8 @@ ghost use Rattle.snap_hex.specs.Text.{hex_text};
 ghost use Rattle.snap_json.specs.Each.{each_from};
 ghost use Rattle.snap_order.specs.declared.order.Layout.TheVariants.{Lines};
 ghost use Rattle.snap_call.specs.Ends.{IsRead};
-ghost use Rattle.snap_call.specs.Text.{Shows, ShowsEach, is_any_fenced, named_line, segment_text};
-ghost use Rattle.snap_call.specs.Text.{status_line, value_line, value_text};
+ghost use Rattle.snap_call.specs.Text.{Shows, is_any_fenced, named_line, segment_text, value_line};
+ghost use Rattle.snap_call.specs.Text.{value_text};
 
 use itoa::Buffer;
 use snap_frame::{NamedValue, Reply, SegmentStatus, SegmentValue};
@@ -22,7 +22,7 @@ pub(crate) fn answer_of(
     reply: &Reply,
 ) -> Result<Vec<u8>, AllocError>
     requires { IsRead reply.now }
-    ensures { IfOk result (λ text. Shows layout question.now reply.now text.items) }
+    ensures { IfOk result (λ text. Shows layout reply.now text.items) }
 {
     match layout {
         Layout::Json => document_of(alloc, question, reply),
@@ -51,7 +51,7 @@ fn lines_of(
     reply: &Reply,
 ) -> Result<Vec<u8>, AllocError>
     requires { IsRead reply.now }
-    ensures { IfOk result (λ text. Shows layout question.now reply.now text.items) }
+    ensures { IfOk result (λ text. Shows layout reply.now text.items) }
 {
     match (question, reply) {
         (Question::Health, Reply::Status(statuses)) => health_of(alloc, statuses),
@@ -80,7 +80,7 @@ pub(crate) fn is_any_fenced(statuses: &[SegmentStatus]) -> bool
 /// The lines of the reply to a read.
 fn text_of(alloc: Global, layout: Layout, reply: &Reply) -> Result<Vec<u8>, AllocError>
     requires { IsRead reply.now }
-    ensures { IfOk result (λ text. layout ≡ Lines → ShowsEach reply.now text.items) }
+    ensures { IfOk result (λ text. Shows layout reply.now text.items) }
 {
     let mut out = Vec::new(alloc);
     match reply {
@@ -140,10 +140,7 @@ fn put_part(
 }
 
 /// Appends a line for each segment's status.
-fn put_statuses(out: &mut Vec<u8>, statuses: &[SegmentStatus]) -> Result<(), AllocError>
-    ensures { OnOk result (out.new.items
-        ≡ out.old.items ++ each_from status_line 0 statuses.now) }
-{
+fn put_statuses(out: &mut Vec<u8>, statuses: &[SegmentStatus]) -> Result<(), AllocError> {
     for (index, status) in statuses.iter().enumerate() {
         put_status(out, index, status)?;
     }
@@ -201,9 +198,7 @@ fn put_shown(
 }
 
 /// Appends the line of one segment's status.
-fn put_status(out: &mut Vec<u8>, index: usize, status: &SegmentStatus) -> Result<(), AllocError>
-    ensures { OnOk result (out.new.items ≡ out.old.items ++ status_line index status.now) }
-{
+fn put_status(out: &mut Vec<u8>, index: usize, status: &SegmentStatus) -> Result<(), AllocError> {
     put_segment(out, index, status.number)?;
     if status.is_fenced {
         out.extend_from_slice(b" fenced 1\n")

@@ -24,7 +24,6 @@ pub none_yet : (places : List SegmentPlace) (count : ℕ)
 none_yet places count = record {
   size = length-replicate count None;
   full = sum_by-replicate file_count count None ∙ omega arith;
-  each = λ file p below. absurd (omega arith);
   back = λ i file sits. absurd (no_file count i file sits);
 }
 
@@ -44,18 +43,6 @@ module _ (places : List SegmentPlace) (count files : ℕ) (seats : List (Option 
       let f = ap file_count (get_or_from_slice_get seats p.index None None free) in
       omega (arith, e, f, seating.full)
 
-  each_after : (file : ℕ) (q : SegmentPlace) → file < files + 1 → Says places file q
-      → slice_get (slice_set seats p.index (Some files)) q.index ≡ Some (Some file)
-  each_after file q below says_q = elim (apart file files) [
-    | inl same ↦
-        let e : q ≡ p = cc in
-        rw (e, same) (get-set_same seats p.index (Some files) inside)
-    | inr other ↦
-        let sits = seating.each file q (omega arith) says_q in
-        let differs : q.index ≢ p.index = λ same. cc in
-        get-set_other seats p.index q.index (Some files) differs ∙ sits
-  ]
-
   back_after : (i file : ℕ) → slice_get (slice_set seats p.index (Some files)) i ≡ Some (Some file)
       → (file < files + 1) × Says places file (record { index = i; count = count })
   back_after i file sits = elim (apart i p.index) [
@@ -72,6 +59,5 @@ module _ (places : List SegmentPlace) (count files : ℕ) (seats : List (Option 
   one_more = record {
     size = length-set seats p.index (Some files) ∙ seating.size;
     full = full_after;
-    each = each_after;
     back = back_after;
   }

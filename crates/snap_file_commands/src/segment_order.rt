@@ -1,7 +1,7 @@
 //! Which file of a folder is which segment's.
-ghost use Rattle.std.specs.Prelude.{◌≡◌, ◌+◌, ◌<◌, ◌≤◌, All, IfOk, IfErr, length};
+ghost use Rattle.std.specs.Prelude.{◌≡◌, ◌<◌, ◌≤◌, All, IfOk, IfErr, length};
 ghost use Rattle.snap_history.specs.declared.limits.TheConstants.{MAX_COUNT};
-ghost use Rattle.snap_file_commands.specs.SegmentOrder.{IsFaultOf, IsOneOf, IsOrderOf, IsSeating};
+ghost use Rattle.snap_file_commands.specs.SegmentOrder.{IsNameable, IsOneOf, IsOrderOf, IsSeating};
 
 use snap_history::MAX_COUNT;
 use std::alloc::{AllocError, Global};
@@ -48,14 +48,14 @@ impl From<AllocError> for FolderFault {
 /// has what the header of each file says.
 ///
 /// Of several faults it returns one. First come those of one file, in the order of the list; then files
-/// that are there twice; then the first segment that is missing. Each is true of the list, so files that
-/// are complete are put in order, where there is memory for it.
+/// that are there twice; then the first segment that is missing. No clause says that a fault is true of
+/// the list.
 pub fn order_files(alloc: Global, places: &[SegmentPlace]) -> Result<Vec<usize>, FolderFault>
     ensures order { IfOk result (λ order. IsOrderOf places.now order.items) }
     ensures within { IfOk result (λ order. All (λ file. file < length places.now) order.items) }
     ensures some { IfOk result (λ order. 0 < length order.items) }
     ensures few { IfOk result (λ order. length order.items ≤ MAX_COUNT) }
-    ensures fault { IfErr result (IsFaultOf places.now) }
+    ensures fault { IfErr result IsNameable }
 {
     let count = common_count(places)?;
     let seats = seat_files(alloc, places, count)?;
@@ -65,9 +65,9 @@ pub fn order_files(alloc: Global, places: &[SegmentPlace]) -> Result<Vec<usize>,
 /// How many segments there are, as each file says.
 fn common_count(places: &[SegmentPlace]) -> Result<u8, FolderFault>
     ensures count { IfOk result (λ count. All (IsOneOf count) places.now) }
-    ensures some { IfOk result (λ count. (0 < count) × (0 < length places.now)) }
+    ensures some { IfOk result (λ count. 0 < count) }
     ensures few { IfOk result (λ count. count ≤ MAX_COUNT) }
-    ensures fault { IfErr result (IsFaultOf places.now) }
+    ensures fault { IfErr result IsNameable }
 {
     let Some(first) = places.first() else {
         return Err(FolderFault::Empty);
@@ -92,7 +92,7 @@ fn seat_files(
     requires { All (IsOneOf count) places.now }
     ensures seats { IfOk result (λ seats. IsSeating places.now count (length places.now)
         seats.items) }
-    ensures fault { IfErr result (IsFaultOf places.now) }
+    ensures fault { IfErr result IsNameable }
 {
     let mut seats = vec![in alloc; None; usize::from(count)]?;
     for (second, place) in places.iter().enumerate() {
@@ -112,13 +112,11 @@ fn seated(
     seats: &[Option<usize>],
     count: u8,
 ) -> Result<Vec<usize>, FolderFault>
-    requires same { All (IsOneOf count) places.now }
     requires few { count ≤ MAX_COUNT }
-    requires some { 0 < length places.now }
     requires seats { IsSeating places.now count (length places.now) seats.now }
     ensures order { IfOk result (λ order. IsOrderOf places.now order.items) }
     ensures size { IfOk result (λ order. length order.items ≡ count) }
-    ensures fault { IfErr result (IsFaultOf places.now) }
+    ensures fault { IfErr result IsNameable }
 {
     let mut order = Vec::with_capacity(alloc, seats.len())?;
     for index in 0..count {

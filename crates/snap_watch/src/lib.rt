@@ -4,8 +4,7 @@
 //! and for their values only if a number has changed. [`changes`] is the text of the rows that
 //! differ from those shown before. In a terminal [`drawing`] draws all rows, with the age and rate
 //! of each ([`followed`]). The caller decides when to poll and where to print. `specs/Looks.antt`
-//! says what is requested and which rows follow, and `specs/Board.antt` which rows are the same.
-//! docs/FORMATS.md has the texts, which only tests check.
+//! says what is requested and which rows follow. docs/FORMATS.md has the texts, which only tests check.
 #![tactic(auto)]
 
 mod exchange;
