@@ -1,7 +1,7 @@
-# For a stranger: `make demo` builds the program in minutes and runs its first job, `make test` runs every test, `make prove` proves
-# everything. They want the kit (`rt` on the PATH), python3 and gcc.
+# For a stranger: `make demo` builds the program in minutes and runs its first job, `make test` runs every test,
+# `make prove` proves everything. They want the kit (`rt` on the PATH), python3 and gcc.
 
-.PHONY: demo build prove test edits libraries programs tests bench replicated install uninstall deb dist clean
+.PHONY: demo build prove test edits libraries programs tests bench figures replicated install uninstall deb dist clean
 
 # The program without its proofs, as bin/snapd.
 demo:
@@ -12,18 +12,21 @@ build:
 	@sh verification/needs.sh rt python3
 	@python3 verification/demo.py --build
 
-# Every proof of the program, from nothing or from this machine's archive of such runs (with FRESH=1 from nothing), the program by
-# two compilers, the edits that must-fail.lock lacks, and the end-to-end tests on the proved program. It writes proofs.lock.
+# Every proof of the program, from nothing or from this machine's archive of such runs (with FRESH=1 from nothing), the
+# program by two compilers, the edits that must-fail.lock lacks, and the end-to-end tests on the proved program. It
+# writes proofs.lock.
 prove:
 	@sh verification/needs.sh rt python3 gcc
 	@python3 verification/prove.py $(if $(FRESH),--fresh)
 
-# Every test; proofs and edits where the locks lack them, and a sample of the others. With PROVE=all every crate is proved.
+# Every test; proofs and edits where the locks lack them, and a sample of the others.
+# With PROVE=all every crate is proved.
 test:
 	@sh verification/needs.sh rt python3 gcc
 	@python3 verification/test.py $(if $(filter all,$(PROVE)),--all) $(if $(FRESH),--fresh)
 
-# Tries the edits that must-fail.lock doesn't have as they are now, with CRATES="NAME .." those of these crates, and records them.
+# Tries the edits that must-fail.lock doesn't have as they are now, with CRATES="NAME .." those of these crates,
+# and records them.
 edits:
 	@sh verification/needs.sh rt python3
 	@python3 verification/edits.py $(CRATES)
@@ -47,7 +50,13 @@ bench:
 	python3 verification/prove.py snapd try_parts
 	python3 bench/run.py
 	python3 bench/server.py
+	python3 bench/others.py
 	python3 bench/seen.py
+
+# Draws docs/figures/*.svg from the figures beside them.
+figures:
+	@sh verification/needs.sh python3
+	@python3 bench/plots.py
 
 # The client in C as libraries, and the one in Python as a wheel and an sdist. A change of a call or of the layout of
 # snapd_client gets the next SONAME.
@@ -55,26 +64,28 @@ CLIENTS ?= out
 CFLAGS ?= -O2
 SONAME = libsnapd.so.0
 
-.PHONY: clients install-clients
-clients:
+.PHONY: clients c-client install-clients
+clients: c-client
 	@sh verification/needs.sh python3
+	python3 clients/python/build_wheel.py '$(CLIENTS)'
+
+c-client:
 	mkdir -p '$(CLIENTS)'
 	$(CC) $(CFLAGS) -std=c99 -fPIC -c -o '$(CLIENTS)/snapd.o' clients/c/snapd.c
 	$(CC) $(LDFLAGS) -shared -Wl,-soname,$(SONAME) -Wl,--version-script=clients/c/snapd.map \
 	    -o '$(CLIENTS)/$(SONAME)' '$(CLIENTS)/snapd.o'
 	ln -sf $(SONAME) '$(CLIENTS)/libsnapd.so'
 	$(AR) rcs '$(CLIENTS)/libsnapd.a' '$(CLIENTS)/snapd.o'
-	python3 clients/python/build_wheel.py '$(CLIENTS)'
 
-# Installs bin/snapd as `make prove` or `make build` left it, its page of the manual, completions, headers for C with the
-# libraries if they were built, the unit with its user and folder, and the documents. All go below DESTDIR with PREFIX, as
-# packages want it. Nothing is started.
+# Installs bin/snapd as `make prove` or `make build` left it, its page of the manual, completions, headers for C with
+# the libraries if they were built, the unit with its user and folder, and the documents. All go below DESTDIR with
+# PREFIX, as packages want it. Nothing is started.
 PREFIX ?= /usr/local
 DESTDIR ?=
 PROGRAM ?= bin/snapd
 TO = $(DESTDIR)$(PREFIX)
 UNIT = lib/systemd/system/snapd-board@.service
-DOCUMENTS = LICENSE README.md CHANGELOG.md SECURITY.md docs/*.md docs/board.png packaging/NOTICES \
+DOCUMENTS = LICENSE README.md CHANGELOG.md SECURITY.md docs/*.md docs/board.png docs/figures/*.svg packaging/NOTICES \
 	$(foreach it,systemd/socket.conf prometheus/* grafana/* kubernetes/*,packaging/$(it))
 # Each file as it lies here and as it lies below PREFIX.
 FILES = $(foreach it,snapd.h snapd_segment.h,clients/c/$(it):include/$(it)) \
@@ -93,31 +104,36 @@ install:
 	sed -i 's|/usr/local/bin/|$(PREFIX)/bin/|' '$(TO)/$(UNIT)'
 	@test ! -e '$(CLIENTS)/$(SONAME)' || $(MAKE) --no-print-directory install-clients
 
-LIBRARIES = lib/$(SONAME) lib/libsnapd.so lib/libsnapd.a lib/pkgconfig/snapd.pc
+# Where the libraries go, below PREFIX.
+LIBDIR ?= lib
+LIBRARIES = $(foreach it,$(SONAME) libsnapd.so libsnapd.a pkgconfig/snapd.pc,$(LIBDIR)/$(it))
 
 install-clients:
-	install -d '$(TO)/lib/pkgconfig'
-	install -m 644 '$(CLIENTS)/$(SONAME)' '$(CLIENTS)/libsnapd.a' '$(TO)/lib'
-	ln -sf $(SONAME) '$(TO)/lib/libsnapd.so'
+	install -d '$(TO)/$(LIBDIR)/pkgconfig'
+	install -m 644 '$(CLIENTS)/$(SONAME)' '$(CLIENTS)/libsnapd.a' '$(TO)/$(LIBDIR)'
+	ln -sf $(SONAME) '$(TO)/$(LIBDIR)/libsnapd.so'
 	version=$$(sed -n 's/.*SNAPD_VERSION "\(.*\)"/\1/p' clients/c/snapd.h) && \
-	sed 's|@PREFIX@|$(PREFIX)|;s|@VERSION@|'"$$version"'|' clients/c/snapd.pc.in > '$(CLIENTS)/snapd.pc'
-	install -m 644 '$(CLIENTS)/snapd.pc' '$(TO)/lib/pkgconfig'
+	sed 's|@PREFIX@|$(PREFIX)|;s|/lib$$|/$(LIBDIR)|;s|@VERSION@|'"$$version"'|' clients/c/snapd.pc.in \
+	    > '$(CLIENTS)/snapd.pc'
+	install -m 644 '$(CLIENTS)/snapd.pc' '$(TO)/$(LIBDIR)/pkgconfig'
 
 uninstall:
 	@for it in $(FILES) $(LIBRARIES:%=:%) :$(UNIT) :bin/snapd; do rm -f '$(TO)'/"$${it#*:}"; done
 	rm -rf '$(TO)/share/doc/snapd-board'
 
-# A package for Debian, and a tarball with a digest of each file and what it was made of, both in out/, of bin/snapd.
+# A package for Debian, and a tarball with a digest of each file and what it was made of, both in out/, of bin/snapd and
+# the client in C.
 deb:
-	@sh verification/needs.sh rt python3 dpkg-deb
+	@sh verification/needs.sh rt python3 gcc dpkg-deb
 	@python3 packaging/deb.py
 
 dist:
-	@sh verification/needs.sh rt python3
+	@sh verification/needs.sh rt python3 gcc
 	@python3 packaging/dist.py
 
-# Fails hosts under a server whose files have three copies, 50 times in each of four ways, for half an hour. It wants bin/snapd, root,
-# FUSE and some packages of Debian's, says so in one line where something is missing, and is no part of `make test`.
+# Fails hosts under a server whose files have three copies, 50 times in each of four ways, for half an hour. It wants
+# bin/snapd, root, FUSE and some packages of Debian's, says so in one line where something is missing, and is no part of
+# `make test`.
 replicated:
 	python3 bench/replicated.py
 

@@ -2,7 +2,8 @@
  *
  *     baseline put FILE          as `snapd put FILE`: stores standard input
  *     baseline get FILE          as `snapd get FILE`
- *     baseline store FILE COUNT  as `bench-store FILE COUNT` of try_parts: makes and formats FILE and stores COUNT values
+ *     baseline store FILE COUNT  as `bench-store FILE COUNT` of try_parts: makes and formats FILE and stores
+ *                                COUNT values
  *     baseline old FILE COUNT    the same in the old format, with its two slots and its three syncs a store
  *
  * It checks what it must to find the slots, and not whether the file is well-formed.
@@ -40,7 +41,8 @@ static void put_number(unsigned char *bytes, unsigned long long number, int coun
 /* The offset of the gate for a number, with this many slots. Its body follows it. */
 static off_t gate_of(unsigned long long number, int slots) { return BLOCK + 2 * BLOCK * (off_t)(number % slots); }
 
-static void store(int file, int slots, unsigned long long number, int spare_open, const unsigned char *value, size_t length) {
+static void store(int file, int slots, unsigned long long number, int spare_open, const unsigned char *value,
+                  size_t length) {
     off_t gate = gate_of(number, slots);
     unsigned char body[BLOCK] = {0}, opens = OPEN, closes = 0;
     put_number(body, number, 8);

@@ -1,6 +1,6 @@
 """Times two builds of `snapd` in turn, in one run: what a change cost.
 
-    python3 bench/compare.py BEFORE [AFTER] [--folder FOLDER] [--rounds N]
+    python3 bench/compare.py BEFORE [AFTER] [--folder FOLDER] [--rounds N] [--json FILE]
 
 BEFORE and AFTER are programs; AFTER is by default bin/snapd. In a round each does the same half second of work on files
 of its own, or starts once, or does as many puts, and the order changes from round to round. A line has both medians,
@@ -12,7 +12,6 @@ those of the machine alone.
 
 import argparse
 import pathlib
-import statistics
 import subprocess
 import sys
 import tempfile
@@ -22,7 +21,7 @@ TOP = pathlib.Path(__file__).resolve().parent.parent
 sys.dont_write_bytecode = True
 sys.path.insert(0, str(TOP / "tests"))
 
-from program import Program  # noqa: E402
+import figures  # noqa: E402
 from server import SEGMENTS, SPAN, Bench  # noqa: E402
 from serving import Server  # noqa: E402
 
@@ -41,17 +40,15 @@ class Comparison:
     """Two programs, each with a bench of its own in a folder of its own: the same load, other files."""
 
     def __init__(self, folder, before, after, rounds):
-        self.rounds = rounds
+        self.rounds, self.figures = rounds, figures.Figures()
         self.sides = []
         for name, program in (("before", before), ("after", after)):
             (folder / name).mkdir()
             self.sides.append(Bench(folder / name, program, rounds))
 
     def show(self, label, unit, pairs):
-        ratios = sorted(after / before for before, after in pairs)
-        low, middle, high = statistics.quantiles(ratios, n=4, method="inclusive")
-        before, after = (statistics.median(each) for each in zip(*pairs))
-        print(f"{label:<34} {before:>9,.1f} {unit} {after:>9,.1f} {unit}   {middle:.3f}   ({low:.3f} to {high:.3f})", flush=True)
+        """Prints and keeps the medians and the ratio of what was measured in pairs."""
+        self.figures.show_pairs(f"{label:<34}", ("before", "after"), unit, pairs)
 
     def in_turn(self, measure):
         """The figures of each round, of one side and of the other."""
@@ -64,7 +61,10 @@ class Comparison:
     def requests(self):
         """Updates and scans of servers that stay."""
         files = [bench.files("files", LENGTH) for bench in self.sides]
-        with Server(self.sides[0].snapd, *files[0], scanners=4) as first, Server(self.sides[1].snapd, *files[1], scanners=4) as second:
+        with (
+            Server(self.sides[0].snapd, *files[0], scanners=4) as first,
+            Server(self.sides[1].snapd, *files[1], scanners=4) as second,
+        ):
             servers = (first, second)
             for kind, label, writers, readers in (
                 (0, "update, 1 writer", 1, 0),
@@ -72,7 +72,9 @@ class Comparison:
                 (1, "scan of 16 values", 0, 1),
                 (1, "scan of 16, beside 16 writers", SEGMENTS, 1),
             ):
-                measure = lambda side: self.sides[side].load(servers[side], LENGTH, writers, readers)[kind][1]  # noqa: B023, E731
+                measure = lambda side: (  # noqa: E731
+                    self.sides[side].load(servers[side], LENGTH, writers, readers)[kind][1]  # noqa: B023
+                )
                 measure(0), measure(1)
                 self.show(label, "us", self.in_turn(measure))
             for writers in (1, SEGMENTS):
@@ -109,7 +111,7 @@ class Comparison:
         def pair(first, second):
             line = [timer, PUTS, value, start.with_name("F"), start, *words[first], "--", *words[second]]
             run = subprocess.run(list(map(str, line)), check=True, stdout=subprocess.PIPE, text=True)
-            return [int(it) / 1e3 for it in run.stdout.split()[:2]]
+            return [int(it) / 1e3 for it in run.stdout.split()[1:5:3]]
 
         pair(0, 1)
         pairs = [pair(0, 1) if turn % 2 else pair(1, 0)[::-1] for turn in range(self.rounds)]
@@ -117,7 +119,7 @@ class Comparison:
 
 
 def main():
-    words = argparse.ArgumentParser(description="Times two builds of snapd in turn.")
+    words = figures.arguments(argparse.ArgumentParser(description="Times two builds of snapd in turn."))
     words.add_argument("before")
     words.add_argument("after", nargs="?", default=str(TOP / "bin" / "snapd"))
     words.add_argument("--folder")
@@ -134,6 +136,7 @@ def main():
         comparison.requests()
         comparison.starts()
         comparison.puts()
+        comparison.figures.write(words.json, folder, words.after)
 
 
 if __name__ == "__main__":

@@ -1,8 +1,8 @@
-"""Hosts that are namespaces of this machine: each has a network, a disk, mounts and processes of its own, and loses them as a
-host does.
+"""Hosts that are namespaces of this machine: each has a network, a disk, mounts and processes of its own, and loses
+them as a host does.
 
-The process that makes them has to run in mount, network and process namespaces of its own (`unshare`), as its first process:
-then all that was made here ends with it, however it ends, and nothing of the machine itself is touched.
+The process that makes them has to run in mount, network and process namespaces of its own (`unshare`), as its first
+process: then all that was made here ends with it, however it ends, and nothing of the machine itself is touched.
 """
 
 import contextlib
@@ -33,8 +33,8 @@ class Failed(Exception):
 def command(*words, patience=PATIENCE):
     """What it printed, errors too."""
     with contextlib.suppress(subprocess.TimeoutExpired):
-        run = subprocess.run(words, stdin=subprocess.DEVNULL, stdout=subprocess.PIPE, stderr=subprocess.STDOUT, text=True,
-                             timeout=patience)
+        run = subprocess.run(words, stdin=subprocess.DEVNULL, stdout=subprocess.PIPE, stderr=subprocess.STDOUT,
+                             text=True, timeout=patience)
         if run.returncode == 0:
             return run.stdout
         raise Failed(f"{' '.join(words)}\n{run.stdout.strip()}")
@@ -56,8 +56,8 @@ def comes_true(what, has_come, patience=PATIENCE, pause=0.1):
 
 
 def kill_inside(process):
-    """Kills what runs on a host by this `nsenter`, which then buries it and ends. As an orphan of ours it would keep its host from
-    ending."""
+    """Kills what runs on a host by this `nsenter`, which then buries it and ends. As an orphan of ours it would keep
+    its host from ending."""
     for child in reversed(below(process.pid)):
         with contextlib.suppress(ProcessLookupError):
             os.kill(child, 9)
@@ -78,7 +78,8 @@ def make_network():
     command("mount", "--make-rprivate", "/")
     command("mount", "-t", "tmpfs", "none", "/run")
     os.mkdir("/run/netns")
-    for words in ("link set lo up", "link add switch type bridge", f"address add {CLIENTS}/24 dev switch", "link set switch up"):
+    for words in ("link set lo up", "link add switch type bridge", f"address add {CLIENTS}/24 dev switch",
+                  "link set switch up"):
         command("ip", *words.split())
 
 
@@ -111,13 +112,15 @@ class Host:
 
     def boot(self):
         """Starts it with what its disk holds. Its first process ends with this one."""
-        words = f"nsenter --net=/run/netns/{self.name} unshare --mount --uts --pid --fork --kill-child --mount-proc sh -c"
+        words = (f"nsenter --net=/run/netns/{self.name}"
+                 " unshare --mount --uts --pid --fork --kill-child --mount-proc sh -c")
         self.box = subprocess.Popen([*words.split(), INIT], stdin=subprocess.DEVNULL)
         comes_true("the first process", self._has_first, pause=0.01)
         # Nothing is made on the machine's own disk: what a host needs is mounted over folders that are there.
         self.run(f"hostname {self.name}; mount -t tmpfs none /run; mount -t tmpfs none /srv;"
                  " mkdir -p /run/gluster /srv/brick /srv/snapd;"
-                 f" mount --bind {self.disk}/glusterd /var/lib/glusterd; mount --bind {self.disk}/log /var/log/glusterfs;"
+                 f" mount --bind {self.disk}/glusterd /var/lib/glusterd;"
+                 f" mount --bind {self.disk}/log /var/log/glusterfs;"
                  f" mount --bind {self.disk}/brick /srv/brick")
 
     def _has_first(self):
@@ -165,7 +168,8 @@ class Host:
         self.box = self.first = None
 
     def cut_power(self):
-        """What was written and not synced is lost: the file system ends without a word to its disk, and is mounted anew."""
+        """What was written and not synced is lost: the file system ends without a word to its disk, and is mounted
+        anew."""
         folder = os.open(self.disk, os.O_RDONLY)
         fcntl.ioctl(folder, EXT4_IOC_SHUTDOWN, WITHOUT_ITS_LOG)
         os.close(folder)
@@ -191,8 +195,8 @@ class Unit:
         """Starts it where its time has come, and reads what it says."""
         if self.process is None:
             if time.monotonic() >= self.again:
-                self.process = subprocess.Popen(self.host.inside(*self.words), stdin=subprocess.DEVNULL, stdout=subprocess.PIPE,
-                                                stderr=self.log)
+                self.process = subprocess.Popen(self.host.inside(*self.words), stdin=subprocess.DEVNULL,
+                                                stdout=subprocess.PIPE, stderr=self.log)
                 os.set_blocking(self.process.stdout.fileno(), False)
             return
         ended = self.process.poll() is not None

@@ -2,11 +2,12 @@
  *
  *     load PORT KIND SEGMENTS LENGTH WRITERS READERS MILLISECONDS [COMERS RATE]
  *
- * KIND is `snapd` or `redis`. Each writer updates its own segment, or key, by values of LENGTH bytes, and each reader scans all
- * of them, or those that the environment's PART names, by four hexadecimal digits. Each comer, of whom there are none by default,
- * connects, asks nothing, leaves, and comes again, all of them RATE times a second, or with RATE 0 as fast as they can. It prints
- * three lines, `updates`, `scans` and `connections`, each with how many there were a second, and the median and the 99th
- * percentile of their times in nanoseconds. The first tenth of the time counts for nothing.
+ * KIND is `snapd`, `redis`, or without readers `etcd`, `postgres` or `sqlite`, whose PORT is the path of a file that
+ * this process opens. Each writer updates its own segment, or key, by values of LENGTH bytes, and each reader scans all
+ * of them, or those that the environment's PART names, by four hexadecimal digits. Each comer, of whom there are none
+ * by default, connects, asks nothing, leaves, and comes again, all of them RATE times a second, or with RATE 0 as fast
+ * as they can. It prints three lines, `updates`, `scans` and `connections`, each with how many there were a second, and
+ * the median and the 99th percentile of their times in nanoseconds. The first tenth of the time counts for nothing.
  */
 #define _GNU_SOURCE
 #include <arpa/inet.h>
@@ -22,6 +23,7 @@
 enum { MOST_CONNECTIONS = 64, MOST_TIMES = 1 << 22, LONGEST = 1 << 17, KINDS = 3 };
 
 static int port, is_redis, segments, length, comers, rate, part;
+static const char *kind_of_server;
 static long long begin, end;
 static atomic_llong counts[KINDS];
 static long long *times[KINDS];
@@ -39,7 +41,9 @@ static long long now(void) {
 }
 
 static int connected(void) {
-    struct sockaddr_in place = {.sin_family = AF_INET, .sin_port = htons(port), .sin_addr.s_addr = htonl(INADDR_LOOPBACK)};
+    struct sockaddr_in place = {
+        .sin_family = AF_INET, .sin_port = htons(port), .sin_addr.s_addr = htonl(INADDR_LOOPBACK)
+    };
     int stream = socket(AF_INET, SOCK_STREAM, 0), on = 1;
     must(stream >= 0 && connect(stream, (struct sockaddr *)&place, sizeof place) == 0, "connect");
     setsockopt(stream, IPPROTO_TCP, TCP_NODELAY, &on, sizeof on);
@@ -65,6 +69,8 @@ static void receive(int stream, unsigned char *bytes, size_t count) {
         held += came;
     }
 }
+
+#include "others.h"
 
 /* A frame's payload; its length. */
 static size_t receive_frame(int stream, unsigned char *bytes) {
@@ -142,6 +148,28 @@ static void *write_on(void *of) {
     return NULL;
 }
 
+/* As `write_on`, for etcd, PostgreSQL and SQLite. Each value is another one: SQLite writes none that is as before. */
+static void *keep_on(void *of) {
+    int segment = (int)(long)of, kind = kind_of_server[0], stream = kind == 's' ? -1 : connected();
+    unsigned char *request = calloc(1, LONGEST), *reply = malloc(LONGEST), *value = request;
+    size_t count = 0, data = 0;
+    long long since;
+    if (kind == 'e') etcd_begin(stream), count = etcd_put(request, segment, &data), value += count - length;
+    if (kind == 'p') postgres_begin(stream, request, segment), count = postgres_update(request), value += 18;
+    for (unsigned number = 1;; number += 2) {
+        put_number(value, number, 4);
+        since = now();
+        if (kind == 'e') put_number(request + 5, number, 4), put_number(request + data + 5, number, 4);
+        if (kind == 's') {
+            sqlite_update(request, segment);
+        } else {
+            send_all(stream, request, count);
+            kind == 'e' ? etcd_answer(stream, reply) : postgres_answer(stream, reply, "UPDATE 1");
+        }
+        if (!timed(0, since)) return NULL;
+    }
+}
+
 static void *scan_on(void *of) {
     int stream = connected();
     unsigned char *request = malloc(LONGEST), *reply = malloc(LONGEST);
@@ -199,15 +227,20 @@ static void print(const char *name, int kind) {
 int main(int words, char **word) {
     pthread_t threads[MOST_CONNECTIONS];
     must(words == 8 || words == 10, "load PORT KIND SEGMENTS LENGTH WRITERS READERS MILLISECONDS [COMERS RATE]");
-    port = atoi(word[1]), is_redis = strcmp(word[2], "redis") == 0, segments = atoi(word[3]), length = atoi(word[4]);
+    kind_of_server = word[2], port = atoi(word[1]), is_redis = strcmp(word[2], "redis") == 0;
+    segments = atoi(word[3]), length = atoi(word[4]);
     int writers = atoi(word[5]), readers = atoi(word[6]), all = 0;
     if (getenv("PART")) part = strtol(getenv("PART"), NULL, 16);
     if (words == 10) comers = atoi(word[8]), rate = atoi(word[9]);
     must(writers <= segments && writers + readers + comers <= MOST_CONNECTIONS, "connections");
-    long long span = atoll(word[7]) * 1000000LL, start = now();
-    begin = start + span / 10, end = start + span;
+    long long span = atoll(word[7]) * 1000000LL;
     for (int kind = 0; kind < KINDS; kind++) times[kind] = malloc(MOST_TIMES * sizeof(long long));
-    for (long i = 0; i < writers; i++) must(pthread_create(&threads[all++], NULL, write_on, (void *)i) == 0, "thread");
+    int is_known = is_redis || strcmp(word[2], "snapd") == 0;
+    void *(*write)(void *) = is_known ? write_on : keep_on;
+    must(is_known || readers == 0, "no scans of this one");
+    if (word[2][0] == 's' && !is_known) sqlite_begin(word[1]);
+    begin = now() + span / 10, end = begin + span - span / 10;
+    for (long i = 0; i < writers; i++) must(pthread_create(&threads[all++], NULL, write, (void *)i) == 0, "thread");
     for (long i = 0; i < readers; i++) must(pthread_create(&threads[all++], NULL, scan_on, NULL) == 0, "thread");
     for (long i = 0; i < comers; i++) must(pthread_create(&threads[all++], NULL, come_and_go, NULL) == 0, "thread");
     for (int i = 0; i < all; i++) pthread_join(threads[i], NULL);

@@ -1,7 +1,8 @@
 """Writers and scanners that continue over faults of hosts, as clients of a job do, and the record of all replies.
 
-They are one thread on connections of their own. A client whose connection breaks, or that hears nothing for a while, asks the
-same again on a new one. An update keeps its number and its value until it is acknowledged, so the record has it once.
+They are one thread on connections of their own. A client whose connection breaks, or that hears nothing for a while,
+asks the same again on a new one. An update keeps its number and its value until it is acknowledged, so the record has
+it once.
 """
 
 import contextlib
@@ -23,7 +24,8 @@ from serving import SCAN, entries_of, update  # noqa: E402
 from snapd_client import Client as PythonClient  # noqa: E402
 from snapd_client import Refused, SnapdError  # noqa: E402
 
-# How long a client waits for a reply, and rests before it tries anew; and the rest of a scanner between two scans. In seconds.
+# How long a client waits for a reply, and rests before it tries anew; and the rest of a scanner between two scans.
+# In seconds.
 TIMEOUT, PAUSE, BETWEEN_SCANS = 2.0, 0.05, 0.02
 LENGTHS = (0, 8, 100, 1_000, 4_080)
 # The refusals after which the same update is sent again: the server is about to be started anew, or is short of memory.

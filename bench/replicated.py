@@ -1,7 +1,7 @@
 """Tries `docs/REPLICATION.md` by its own listings: a server on a volume with three copies, while hosts fail.
 
-    python3 bench/replicated.py [--rounds N] [--minutes M] [--only KIND].. [--program bin/snapd] [--seed N] [--folder FOLDER]
-        [--without PART]..
+    python3 bench/replicated.py [--rounds N] [--minutes M] [--only KIND].. [--program bin/snapd] [--seed N]
+        [--folder FOLDER] [--without PART].. [--json FILE]
 
 Three hosts are namespaces of this machine, each with a disk of its own (ext4 in a file), a GlusterFS server, the volume
 mounted by FUSE, and the recipe's unit. Writers and scanners continue beside them; if the serving host is cut off, one
@@ -16,9 +16,9 @@ The replies of all clients are judged by tests/oracle/histories.py, each kind as
 lost, and nothing shown is taken back. Status 1 if that failed. `--without` leaves a part out of the recipe
 (strict-locks, sync, direct-io, settle, silence), to see what it is there for.
 
-It wants root, /dev/fuse and Debian's packages glusterfs-server, glusterfs-client, iproute2, iputils-arping and e2fsprogs; where
-something is missing it says so in one line, and ends with status 4. All that it makes, but for the files in FOLDER, lies in
-namespaces of its own and ends with it, however it ends.
+It wants root, /dev/fuse and Debian's packages glusterfs-server, glusterfs-client, iproute2, iputils-arping and
+e2fsprogs; where something is missing it says so in one line, and ends with status 4. All that it makes, but for the
+files in FOLDER, lies in namespaces of its own and ends with it, however it ends.
 """
 
 import argparse
@@ -64,6 +64,8 @@ def words():
     parser.add_argument("--seed", type=int, default=20261126)
     parser.add_argument("--folder", type=pathlib.Path)
     parser.add_argument("--without", choices=PART_NAMES, action="append", default=[])
+    parser.add_argument("--json", metavar="FILE", type=pathlib.Path,
+                        help="write the figures of all ways to this file, too")
     parser.add_argument("--inside", type=pathlib.Path, help=argparse.SUPPRESS)
     return parser.parse_args()
 
@@ -71,11 +73,12 @@ def words():
 def show_round(kind, number, rounds, record, began):
     if number % 10 == 0 or number == rounds:
         print(f"{kind}: {number} rounds in {time.monotonic() - began:.0f} s, "
-              f"{sum(map(len, record.acknowledged.values()))} updates acknowledged, {len(record.scans)} scans", flush=True)
+              f"{sum(map(len, record.acknowledged.values()))} updates acknowledged, {len(record.scans)} scans",
+              flush=True)
 
 
-def tried(cluster, kind, words):
-    """Whether all rounds of this kind passed."""
+def tried(cluster, kind, words, noted):
+    """Whether all rounds of this kind passed. What was measured is kept in `noted`."""
     from histories import Wrong
     from hosts import Failed
     from rounds import KINDS, Figures
@@ -102,10 +105,15 @@ def tried(cluster, kind, words):
         figures.count("refused with 6, 8 or 13 and sent again", cluster.record.refusals)
         figures.count("calls of the Python client that no try answered", cluster.record.given_up)
         figures.show()
+        for what, seconds in figures.times.items():
+            noted.note(f"{kind}: {what}", "snapd on three hosts", seconds, "s")
+        for what, count in figures.counts.items():
+            noted.note(f"{kind}: {what}", "snapd on three hosts", [count], "count")
 
 
 def inside(words):
     """In namespaces of its own, as their first process."""
+    import figures
     from cluster import Cluster
     from hosts import Failed
 
@@ -115,7 +123,10 @@ def inside(words):
         began = time.monotonic()
         cluster.make()
         print(f"three hosts, their volume and a server after {time.monotonic() - began:.0f} s", flush=True)
-        return 0 if all(tried(cluster, kind, words) for kind in words.only or KIND_NAMES) else 1
+        noted = figures.Figures()
+        passed = all(tried(cluster, kind, words, noted) for kind in words.only or KIND_NAMES)
+        noted.write(words.json, words.inside, str(words.program.resolve()))
+        return 0 if passed else 1
     except Failed as fault:
         print(f"a host failed: {fault}")
         return 1

@@ -9,8 +9,9 @@ from cluster import brick_of, start_brick
 from hosts import kill_inside
 from onlookers import Wrong
 
-# A program that holds a file's lock and writes it, by the system's calls alone, for as long as it lives. It tries its lock as
-# snapd does, and ends by itself never: so what keeps it from writing is the volume, and not the recipe's script.
+# A program that holds a file's lock and writes it, by the system's calls alone, for as long as it lives. It tries its
+# lock as snapd does, and ends by itself never: so what keeps it from writing is the volume, and not the recipe's
+# script.
 WITNESS = """
 import fcntl, os, time
 os.chdir("/srv/snapd")
@@ -186,7 +187,8 @@ def judge_witnesses(cluster, figures, holder, rival, began):
 
 
 def every(cluster, figures):
-    """All processes of all hosts are killed, host by host within a moment, and what their disks had not synced is lost."""
+    """All processes of all hosts are killed, host by host within a moment, and what their disks had not synced is
+    lost."""
     cluster.rest(1.5, 0.2)
     began = time.monotonic()
     for host in cluster.hosts:

@@ -1,31 +1,34 @@
 """Times `snapd` against a C program that makes the same system calls in the same order, in one run, as ratios.
 
-    python3 bench/run.py [--folder FOLDER] [--runs N]
+    python3 bench/run.py [--folder FOLDER] [--runs N] [--json FILE]
 
 The files lie in FOLDER, by default a fresh folder beside this repository's own files, so that they are on a disk and
-not in memory. The runs of the two programs alternate; printed are both medians and the median of the ratios of each pair.
-A whole process is to cost at most 1.3 times the C program's, and a store inside a process at most 1.05 times. The same stores are
-timed against those of the old format, which synced three times a store, in C: where syncs are most of the time, two thirds of it.
+not in memory. The runs of the two programs alternate; printed are both medians and the median of the ratios of each
+pair. A whole process is to cost at most 1.3 times the C program's, and a store inside a process at most 1.05 times. The
+same stores are timed against those of the old format, which synced three times a store, in C: where syncs are most of
+the time, two thirds of it.
 
-Then it counts events a second of a world and lines a second of a script, each also ten times as long: the cost of an event
-is not to grow with their number. A script of 200 MB is to run with less than 10 MB resident. It counts the looks of a scan, alone and beside writers.
+Then it counts events a second of a world and lines a second of a script, each also ten times as long: the cost of an
+event is not to grow with their number. A script of 200 MB is to run with less than 10 MB resident. It counts the looks
+of a scan, alone and beside writers.
 
-Then it times looks, scans and updates of the memory that threads share against a C program with the same atomic steps and copies, by the
-time of the processor, and counts scans a second beside writers. The largest memory is to have at most 45 MB resident.
+Then it times looks, scans and updates of the memory that threads share against a C program with the same atomic steps
+and copies, by the time of the processor, and counts scans a second beside writers. The largest memory is to have at
+most 45 MB resident.
 
-Last it times durable updates beside bare stores of the same segment's code, in one process, in turn, each on a file or a device in memory
-of its own: the medians, and the median of the ratios of each pair. On a file an update is to cost at most 1.05 times a store. An opening
-of 16 files for 16 scanners is to take at most 10 ms more than their bare syncs and reads.
+Last it times durable updates beside bare stores of the same segment's code, in one process, in turn, each on a file or
+a device in memory of its own: the medians, and the median of the ratios of each pair. On a file an update is to cost at
+most 1.05 times a store. An opening of 16 files for 16 scanners is to take at most 10 ms more than their bare syncs and
+reads.
 
-The very last are requests to a node over files in memory, by the time of the processor: how many a second, and a scan of 16 segments of
-4,080 bytes beside a plain copy of its bytes, which it is to take at most 2.5 times. Nothing is updated between these scans, so only the
-first one reads values out of the registers.
+The very last are requests to a node over files in memory, by the time of the processor: how many a second, and a scan
+of 16 segments of 4,080 bytes beside a plain copy of its bytes, which it is to take at most 2.5 times. Nothing is
+updated between these scans, so only the first one reads values out of the registers.
 """
 
 import argparse
 import pathlib
 import resource
-import statistics
 import subprocess
 import sys
 import tempfile
@@ -35,11 +38,13 @@ TOP = pathlib.Path(__file__).resolve().parent.parent
 sys.dont_write_bytecode = True
 sys.path.insert(0, str(TOP / "tests"))
 
+import figures  # noqa: E402
 import segment_file as layout  # noqa: E402
 from preload import library  # noqa: E402
 from trials import trial  # noqa: E402
 
 STORES = 200
+NOTED = figures.Figures()
 
 
 def compiled(folder, name):
@@ -52,8 +57,11 @@ def ratio(label, limit, timer, runs, start, program, baseline, file, value):
     """Times both on the same file, which has the bytes of `start` before each run."""
     line = [timer, str(runs), value, file, start, *program, "--", *baseline]
     run = subprocess.run(line, check=True, stdout=subprocess.PIPE, text=True)
-    mine, bare, thousandths = map(int, run.stdout.split())
-    print(f"{label:<44} {mine / 1000:>9.1f} us {bare / 1000:>9.1f} us   {thousandths / 1000:.3f}   (aim {limit})")
+    quarters = [int(it) / 1000 for it in run.stdout.split()]
+    for of, unit, at in (("snapd", "us", 0), ("C", "us", 3), ("snapd, divided by C", "ratio", 6)):
+        NOTED.keep(label, of, quarters[at : at + 3], unit, runs)
+    _, mine, _, _, bare, _, _, middle, _ = quarters
+    print(f"{label:<44} {mine:>9.1f} us {bare:>9.1f} us   {middle:.3f}   (aim {limit})")
 
 
 def allocations(program, folder, stores):
@@ -78,7 +86,10 @@ def seconds(*line, stdin=b"", tries=5):
 def worlds():
     """Events a second of the world, devices included, and how much of the time copies of the longest values take."""
     program = trial("bench-world")
-    print(f"\n{'events of a world, values of 8 bytes':<44} {'a second':>12} {'10 x more':>12}   of 4,080 bytes: a second, in copying")
+    print(
+        f"\n{'events of a world, values of 8 bytes':<44} {'a second':>12} {'10 x more':>12}"
+        "   of 4,080 bytes: a second, in copying"
+    )
     for segments, rounds in ((1, 20_000), (4, 4_000), (16, 500)):
         idle, _ = seconds(*program, str(segments), "0", "8")
         rates, times = [], []
@@ -87,13 +98,17 @@ def worlds():
             times.append(took - idle)
             rates.append(int(printed) / (took - idle))
         share = 1 - times[1] / times[2]
+        for what, rate in zip(("8 bytes", "8 bytes, ten times as many", "4,080 bytes"), rates):
+            NOTED.note(f"events of a world of {segments}, values of {what}", "snapd", [rate], "/s")
         print(f"  {segments:>2} segments{'':<31} {rates[0]:>12,.0f} {rates[1]:>12,.0f} {rates[2]:>16,.0f} {share:.0%}")
 
 
 def scripts():
     """Lines a second of `snapd script` on a megabyte of short lines, and on a tenth of that."""
     snapd = str(TOP / "bin" / "snapd")
-    update = b"begin 0 61\nlook w0\nlook w0\n" + b"call 0\n" * 5 + b"show 0\nack 0\nscan 0\nlook s0\nlook s0\nanswer 0\n"
+    update = (
+        b"begin 0 61\nlook w0\nlook w0\n" + b"call 0\n" * 5 + b"show 0\nack 0\nscan 0\nlook s0\nlook s0\nanswer 0\n"
+    )
     head = b"world 1 1\n"
     idle, _ = seconds(snapd, "script", stdin=head)
     rates = []
@@ -101,6 +116,7 @@ def scripts():
         text = head + update * (size // len(update))
         took, _ = seconds(snapd, "script", stdin=text)
         rates.append(text.count(b"\n") / (took - idle))
+        NOTED.note(f"lines of a script of {size:,} bytes", "snapd", rates[-1:], "/s")
     print(f"\n{'lines of a script':<44} {rates[0]:>12,.0f} {rates[1]:>12,.0f}   a second, at 100 kB and at 1 MB")
 
 
@@ -122,6 +138,8 @@ def endless():
     run.stdin.close()
     status = run.wait()
     rate = 10_000 * pieces / (time.monotonic() - began)
+    NOTED.note("lines of a script of 200 MB", "snapd", [rate], "/s")
+    NOTED.note("a script of 200 MB, resident", "snapd", [most], "kB")
     print(f"{'a script of 200 MB of short lines':<44} {rate:>12,.0f} {most:>12,}   lines a second, and kB resident")
     return status == 0 and most < 10_000
 
@@ -129,7 +147,12 @@ def endless():
 def update(writer, segments):
     """The lines of one update without other writers. A store whose spare gate is closed answers the last call `not
     now`."""
-    return [f"begin {writer} 61"] + [f"look w{writer}"] * (2 * segments) + [f"call {writer}"] * 5 + [f"show {writer}", f"ack {writer}"]
+    return (
+        [f"begin {writer} 61"]
+        + [f"look w{writer}"] * (2 * segments)
+        + [f"call {writer}"] * 5
+        + [f"show {writer}", f"ack {writer}"]
+    )
 
 
 def looks_beside(segments, writer_before):
@@ -143,26 +166,35 @@ def looks_beside(segments, writer_before):
         at.append(len(lines))
         lines.append("look s0")
     script = "\n".join([*lines, "answer 0", ""])
-    printed = subprocess.run([snapd, "script"], input=script, check=True, stdout=subprocess.PIPE, text=True).stdout.splitlines()
+    printed = subprocess.run(
+        [snapd, "script"], input=script, check=True, stdout=subprocess.PIPE, text=True
+    ).stdout.splitlines()
     assert printed[-1].startswith("memory "), printed[-1]
     return sum(printed[place].startswith("number ") for place in at)
 
 
 def looks():
-    """Looks of a scan alone, beside a writer that moves between all looks, and beside writers each of which moves once."""
+    """Looks of a scan alone, beside a writer that moves between all looks, and beside writers each of which moves
+    once."""
     names = ("alone", "one writer between all looks", "one in each collect", "one in each second collect")
     print(f"\n{'looks of a scan':<20}" + "".join(f"{name:>30}" for name in names))
     for segments in (1, 2, 4, 16):
-        # In collect m a writer that hasn't moved yet moves just before it is looked at, so the collect differs from the last.
+        # In collect m a writer that hasn't moved yet moves just before it is looked at,
+        # so the collect differs from the last.
         each = {m * segments + m - 1: m - 1 for m in range(1, segments + 1)}
         second = {(2 * m + 1) * segments + m: m for m in range(segments)}
         schedules = (lambda look: None, lambda look: 0 if look else None, each.get, second.get)
-        print(f"  {segments:>2} segments{'':<7}" + "".join(f"{looks_beside(segments, it):>30}" for it in schedules))
+        counts = [looks_beside(segments, it) for it in schedules]
+        for name, count in zip(names, counts):
+            NOTED.note(f"looks of a scan of {segments}", name, [count], "count")
+        print(f"  {segments:>2} segments{'':<7}" + "".join(f"{it:>30}" for it in counts))
 
 
 def pairs(work, folder, rounds):
     """The nanoseconds of both things that a round times."""
-    run = subprocess.run([*trial("bench-restart", work), folder, str(rounds)], check=True, stdout=subprocess.PIPE, text=True)
+    run = subprocess.run(
+        [*trial("bench-restart", work), folder, str(rounds)], check=True, stdout=subprocess.PIPE, text=True
+    )
     return [tuple(map(int, line.split())) for line in run.stdout.splitlines()]
 
 
@@ -173,15 +205,19 @@ def durable(folder):
         place = folder / work
         place.mkdir()
         found = pairs(work, place, rounds)
-        bare, whole = (statistics.median(each) / 1000 for each in zip(*found))
-        ratio = statistics.median(update / store for store, update in found)
         label = f"store and update, in a {work}" if work == "file" else "store and update, in memory"
+        bare, whole = (it / 1000 for it in NOTED.note_all(label, dict(zip(("store", "update"), zip(*found))), "ns"))
+        ratio = NOTED.note(label, "update, divided by store", [update / store for store, update in found], "ratio")
         print(f"{label:<44} {bare:>9,.1f} us {whole:>9,.1f} us   {ratio:.3f}   ({aim.format(more=whole - bare)})")
     place = folder / "open"
     place.mkdir()
-    whole, bare = (statistics.median(each) / 1e6 for each in zip(*pairs("open", place, 200)))
+    found = dict(zip(("open_all", "sync and read"), zip(*pairs("open", place, 200))))
+    whole, bare = (it / 1e6 for it in NOTED.note_all("16 files", found, "ns"))
     more = whole - bare
-    print(f"{'16 files: sync and read, and open_all':<44} {bare:>9,.2f} ms {whole:>9,.2f} ms   {more:.2f} ms more   (aim 10)")
+    print(
+        f"{'16 files: sync and read, and open_all':<44} {bare:>9,.2f} ms {whole:>9,.2f} ms"
+        f"   {more:.2f} ms more   (aim 10)"
+    )
 
 
 def worked(*line):
@@ -203,6 +239,7 @@ def memory_ratio(label, limit, baseline, work, segments, rounds, length, tries=7
                 least[program, count] = min(took, least.get((program, count), took))
     mine, bare = ((least[it, rounds] - least[it, 0]) / rounds * 1e9 for it in (memory, (baseline,)))
     label = f"{label}, {segments} x {length:,} bytes"
+    NOTED.note_all(label, {"snapd": [mine], "C": [bare]}, "ns")
     print(f"{label:<44} {mine:>9,.1f} ns {bare:>9,.1f} ns   {mine / bare:.3f}   (aim {limit})")
 
 
@@ -226,12 +263,14 @@ def memories(folder):
     for writers in ("0", "1", "15"):
         idle, _ = seconds(*trial("bench-memory", "scan"), "16", writers, "0", "8")
         took, _ = seconds(*trial("bench-memory", "scan"), "16", writers, "30000", "8")
+        NOTED.note(f"scans beside {writers} writers", "snapd", [30_000 / (took - idle)], "/s")
         rates.append(f"{30_000 / (took - idle):>12,.0f}")
     print(f"{'scans a second beside 0, 1 and 15 writers':<44} {' '.join(rates)}")
 
 
 def largest_memory():
-    """The kB resident of a memory for 16 segments and 16 scanners. Whether they are within the aim once its buffers were used."""
+    """The kB resident of a memory for 16 segments and 16 scanners. Whether they are within the aim once its buffers
+    were used."""
     run = subprocess.Popen(trial("bench-memory", "fill", 16, 0, 0, 4080), stdin=subprocess.PIPE, stdout=subprocess.PIPE)
     run.stdout.readline()
     before, most = resident(run), resident(run, "VmHWM:")
@@ -240,7 +279,11 @@ def largest_memory():
     run.stdout.readline()
     used = resident(run)
     run.communicate(b"\n")
-    print(f"{'the largest memory, kB resident':<44} opened {before:,} (while opening {most:,}), all used {used:,}   (aim 45,000)")
+    NOTED.note_all("the largest memory", {"opened": [before], "while opening": [most], "all used": [used]}, "kB")
+    print(
+        f"{'the largest memory, kB resident':<44} opened {before:,} (while opening {most:,}), all used {used:,}"
+        "   (aim 45,000)"
+    )
     return run.returncode == 0 and used <= 45_000
 
 
@@ -263,14 +306,19 @@ def services():
         ("repeat of an update, 8 bytes", "update", 1, 1_000_000),
         ("status of 16 segments", "status", 16, 300_000),
     ):
-        print(f"  {label:<42} {1 / service_round(work, segments, rounds, 8):>18,.0f}")
+        rate = NOTED.note(f"a node: {label}", "snapd", [1 / service_round(work, segments, rounds, 8)], "/s")
+        print(f"  {label:<42} {rate:>18,.0f}")
     scan, copy = (service_round(work, 16, 20_000, 4_080) * 1e6 for work in ("scan", "copy"))
     label = "  scan of 16 x 4,080 bytes, and a plain copy"
-    print(f"{label:<44} {scan:>9,.2f} us {copy:>9,.2f} us   {scan / copy:.3f}   (aim 2.5; of the scan's time one copy is {copy / scan:.0%})")
+    NOTED.note_all(label.strip(), {"snapd": [scan], "copy": [copy]})
+    print(
+        f"{label:<44} {scan:>9,.2f} us {copy:>9,.2f} us   {scan / copy:.3f}"
+        f"   (aim 2.5; of the scan's time one copy is {copy / scan:.0%})"
+    )
 
 
 def main():
-    words = argparse.ArgumentParser()
+    words = figures.arguments(argparse.ArgumentParser())
     words.add_argument("--folder")
     words.add_argument("--runs", type=int, default=300)
     words = words.parse_args()
@@ -308,6 +356,7 @@ def main():
         ]:
             ratio(label, limit, timer, max(5, words.runs // 5), empty, program, old, file, value)
         few, more = allocations(many, folder, 1), allocations(many, folder, STORES)
+        NOTED.note_all("allocations", {"1 store": [few], f"{STORES} stores": [more]}, "count")
         print(f"allocations with 1 store and with {STORES}: {few} and {more}")
         worlds()
         scripts()
@@ -317,6 +366,7 @@ def main():
         small = largest_memory()
         durable(folder)
         services()
+        NOTED.write(words.json, folder, snapd)
         return 0 if few == more and fits and small else 1
 
 

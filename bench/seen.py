@@ -1,6 +1,6 @@
 """Times requests of a server with HTTP clients against those of one without, in turn, in one run.
 
-    python3 bench/seen.py [--folder FOLDER] [--rounds N] [--program bin/snapd]
+    python3 bench/seen.py [--folder FOLDER] [--rounds N] [--program bin/snapd] [--json FILE]
 
 Each line has both medians, and the median of the rounds' ratios with their quartiles. In a round each server does the
 same half second of work on files of its own, and the order changes from round to round. First `/metrics` is read once a
@@ -14,7 +14,6 @@ import contextlib
 import pathlib
 import selectors
 import socket
-import statistics
 import sys
 import tempfile
 import threading
@@ -24,6 +23,7 @@ TOP = pathlib.Path(__file__).resolve().parent.parent
 sys.dont_write_bytecode = True
 sys.path.insert(0, str(TOP / "tests"))
 
+import figures  # noqa: E402
 from http_place import SeenServer  # noqa: E402
 from server import SEGMENTS, Bench  # noqa: E402
 from serving import Server  # noqa: E402
@@ -103,12 +103,6 @@ class Seen:
         self.rounds = rounds
         self.bench = Bench(folder, program, rounds)
 
-    def show(self, label, pairs):
-        ratios = sorted(after / before for before, after in pairs)
-        low, middle, high = statistics.quantiles(ratios, n=4, method="inclusive")
-        before, after = (statistics.median(each) for each in zip(*pairs))
-        print(f"{label:<52} {before:>9,.1f} us {after:>9,.1f} us   {middle:.3f}   ({low:.3f} to {high:.3f})", flush=True)
-
     def times(self, label, unseen, seen, work=WORK):
         """Each kind of work on the one and on the other."""
         for kind, name, writers, readers in work:
@@ -118,7 +112,7 @@ class Seen:
             for turn in range(self.rounds):
                 found = {it: measure(it) for it in ((unseen, seen) if turn % 2 else (seen, unseen))}
                 pairs.append((found[unseen], found[seen]))
-            self.show(f"{label}: {name}", pairs)
+            self.bench.figures.show_pairs(f"{f'{label}: {name}':<52}", ("nobody", "somebody"), "us", pairs)
 
     def run(self):
         files = [self.bench.files(place, LENGTH) for place in ("unseen", "alike", "seen")]
@@ -134,7 +128,7 @@ class Seen:
 
 
 def main():
-    words = argparse.ArgumentParser(description="Times a server that somebody looks at by HTTP.")
+    words = figures.arguments(argparse.ArgumentParser(description="Times a server that somebody looks at by HTTP."))
     words.add_argument("--folder")
     words.add_argument("--rounds", type=int, default=16)
     words.add_argument("--program", default=str(TOP / "bin" / "snapd"))
@@ -145,7 +139,9 @@ def main():
         sys.exit(f"there is no program {words.program}: run make build first")
     with tempfile.TemporaryDirectory(prefix="bench-", dir=words.folder or TOP) as folder:
         print(f"{'':<52} {'nobody':>12} {'somebody':>12}   ratio   (quartiles)")
-        Seen(pathlib.Path(folder).resolve(), words.program, words.rounds).run()
+        seen = Seen(pathlib.Path(folder).resolve(), words.program, words.rounds)
+        seen.run()
+        seen.bench.figures.write(words.json, folder, words.program)
 
 
 if __name__ == "__main__":

@@ -1,11 +1,12 @@
 """Times `snapd serve` beside as little of a server as does the same work (`echo.c`), as ratios, in one run.
 
-    python3 bench/server.py [--folder FOLDER] [--rounds N] [--program bin/snapd] [--only PART]
+    python3 bench/server.py [--folder FOLDER] [--rounds N] [--program bin/snapd] [--only PART] [--json FILE]
 
-PART is one of `updates`, `scans`, `parts`, `starts`, `told`, `comers`, `memory`, `held` and `redis`, by default all of them in this order.
-Each figure is the median of the ratios of some rounds; in a round all that is compared runs in turn, for half a second each.
-The files lie in FOLDER, by default a fresh folder beside this repository's own files, so that they are on a disk and not in
-memory.
+PART is one of `updates`, `scans`, `parts`, `starts`, `told`, `comers`, `memory`, `held`, `beside`, `stages` and
+`openings`, by default all of them in this order.
+Each figure is the median of the ratios of some rounds; in a round all that is compared runs in turn, for half a second
+each. The files lie in FOLDER, by default a fresh folder beside this repository's own files, so that they are on a disk
+and not in memory.
 
 An update is compared with its device calls alone (aim 1.1), and with the yardstick, which makes the same calls for a
 client on a socket (aim 1.3); updates a second of 1 and 16 writers with bare calls (aim 0.8); a scan with the
@@ -14,20 +15,20 @@ stored last; a scan of 1, 4 and 16 named segments of 16 with a whole one of a se
 time to the line `listening` with 16 files, with their bare opening (aim 20 ms more), beside the time to write as much
 memory and to copy it, and the same with the C library's settings of docs/RECIPES.md.
 
-An update of one writer beside connections that come and go, 12,600 a second and as fast as a thread can make them, is compared
-with the same while it is quiet (aim 300 us).
+An update of one writer beside connections that come and go, 12,600 a second and as fast as a thread can make them, is
+compared with the same while it is quiet (aim 300 us).
 
 Then come the memory resident, with 2,000 idle connections too, and a scan on one worker beside stores that are held 2
-ms at each sync, which is to take as long as without them; the yardstick's scans have a thread of their own. If
-`redis-server` is installed, it is measured with its log synced at every write.
+ms at each sync, which is to take as long as without them; the yardstick's scans have a thread of their own. The last
+three are what docs/figures shows: scans beside 0 to 16 writers, where an update's time goes, and starts of 1 to 16
+files.
 """
 
 import argparse
 import os
 import pathlib
-import shutil
-import socket
 import statistics
+import struct
 import subprocess
 import sys
 import tempfile
@@ -37,27 +38,33 @@ TOP = pathlib.Path(__file__).resolve().parent.parent
 sys.dont_write_bytecode = True
 sys.path.insert(0, str(TOP / "tests"))
 
+import figures  # noqa: E402
 import segment_file as layout  # noqa: E402
+from figures import Figures  # noqa: E402
 from preload import library  # noqa: E402
 from program import Program  # noqa: E402
 from serving import SCAN, Server, entries_of, reply, segments  # noqa: E402
 
-PARTS = ("updates", "scans", "parts", "starts", "told", "comers", "memory", "held", "redis")
+PARTS = ("updates", "scans", "parts", "starts", "told", "comers", "memory", "held", "beside", "stages", "openings")
 SEGMENTS, SPAN = 16, 500
 # Connections a second that come and go, beside which a median update was once 4 ms.
 FLOOD = 12_600
+# What the numbers that `stages.c` notes are of, and last what a client waits beyond them.
+STAGES = ("scan, wake-up, check of the file", "writes", "flushes", "check of the path, wake-up", "sending the reply",
+          "to the server and back")
 # The C library's settings in the unit of docs/RECIPES.md, each alone and both together.
 PAGES, ARENAS = {"GLIBC_TUNABLES": "glibc.malloc.hugetlb=1"}, {"MALLOC_ARENA_MAX": "1"}
 TOLD = {"nothing": {}, "large pages": PAGES, "one arena": ARENAS, "both": {**PAGES, **ARENAS}}
 
 
-def show(label, mine, other, unit, more):
-    print(f"{label:<48} {mine:>9,.1f} {unit} {other:>9,.1f} {unit}   {more}")
-
-
 def page_faults(process):
     """How many pages the system has given it so far."""
     return int(pathlib.Path(f"/proc/{process}/stat").read_text().rpartition(")")[2].split()[7])
+
+
+def ratio(mine, other):
+    """The median of the rounds' ratios."""
+    return statistics.median(a / b for a, b in zip(mine, other))
 
 
 class Yardstick:
@@ -78,14 +85,29 @@ class Yardstick:
 
 class Bench:
     def __init__(self, folder, program, rounds):
-        self.folder, self.rounds = folder, rounds
+        self.folder, self.rounds, self.figures = folder, rounds, Figures()
         self.snapd = Program(program, folder)
         self.echo, self.client = self.compiled("echo"), self.compiled("load")
 
+    def show(self, label, rows, unit, more):
+        """Prints and keeps what was measured of two in the same rounds, and the rounds' ratios."""
+        (_, mine), (of, other) = rows.items()
+        whole, part = self.figures.note_all(label, rows, unit)
+        self.figures.note(label, f"snapd, divided by {of}", [a / b for a, b in zip(mine, other)], "ratio")
+        print(f"{label:<48} {whole:>9,.1f} {unit} {part:>9,.1f} {unit}   {more}", flush=True)
+
     def compiled(self, name):
         target = self.folder / name
-        subprocess.run(["gcc", "-O2", "-Wall", "-pthread", "-o", target, TOP / "bench" / f"{name}.c"], check=True)
+        words = ["gcc", "-O2", "-Wall", "-pthread", "-o", target, TOP / "bench" / f"{name}.c", "-ldl"]
+        subprocess.run(words, check=True)
         return target
+
+    def preloaded(self, name):
+        """The library of `NAME.c` for LD_PRELOAD."""
+        target = self.folder / f"{name}.so"
+        words = ["gcc", "-shared", "-fPIC", "-O2", "-Wall", "-o", target, TOP / "bench" / f"{name}.c", "-ldl"]
+        subprocess.run(words, check=True)
+        return str(target)
 
     def files(self, place, length, count=SEGMENTS):
         """Files of `count` segments whose values have `length` bytes, in a folder of their own."""
@@ -93,12 +115,12 @@ class Bench:
         held = [(1, b"v" * length), (2, b"v" * length)]
         return segments(self.snapd, *[held] * count, folder=place)
 
-    def load(self, server, length, writers, readers, kind="snapd", count=SEGMENTS, comers=(0, 0), part=0):
+    def load(self, server, length, writers, readers, kind="snapd", count=SEGMENTS, comers=(0, 0), part=0, env=None):
         """Updates a second, their median and 99th percentile in microseconds, and the same of scans, and of connections
         that come and go. `comers` is how many at once, and how many a second. With a part the scans are of the segments
         in it."""
         words = [self.client, server.place[1], kind, count, length, writers, readers, SPAN, *comers]
-        env = {**os.environ, "PART": f"{part:04x}"} if part else None
+        env = {**os.environ, **({"PART": f"{part:04x}"} if part else {}), **(env or {})}
         run = subprocess.run(list(map(str, words)), check=True, stdout=subprocess.PIPE, text=True, env=env)
         lines = [line.split()[1:] for line in run.stdout.splitlines()]
         return [(float(rate), int(median) / 1e3, int(most) / 1e3) for rate, median, most in lines]
@@ -126,29 +148,35 @@ class Bench:
                     bare = self.calls("bare", writers)
                     behind, mine = (self.load(it, length, writers, 0)[0] for it in (echo, server))
                     found.append((*bare, *behind[:2], *mine[:2]))
-                ratio = lambda top, bottom: statistics.median(it[top] / it[bottom] for it in found)  # noqa: E731
-                bare_rate, bare, echo_rate, behind, rate, mine = (statistics.median(each) for each in zip(*found))
+                bare_rate, bare, echo_rate, behind, rate, mine = zip(*found)
                 if writers == 1:
-                    show("update, and its device calls alone", mine, bare, "us", f"{ratio(5, 1):.3f}   (aim 1.1)")
-                    show("update, and the yardstick with the same calls", mine, behind, "us", f"{ratio(5, 3):.3f}   (aim 1.3)")
+                    for label, other, of, aim in (
+                        ("update, and its device calls alone", bare, "calls", 1.1),
+                        ("update, and the yardstick with the same calls", behind, "yardstick", 1.3),
+                    ):
+                        self.show(label, {"snapd": mine, of: other}, "us", f"{ratio(mine, other):.3f}   (aim {aim})")
                 name = f"updates a second, {writers} writer{'s' * (writers > 1)}, and bare calls"
-                show(name, rate, bare_rate, "/s", f"{ratio(4, 0):.3f}   (aim 0.8; the yardstick's {echo_rate:,.0f})")
+                more = f"{ratio(rate, bare_rate):.3f}   (aim 0.8; the yardstick's {statistics.median(echo_rate):,.0f})"
+                self.show(name, {"snapd": rate, "calls": bare_rate}, "/s", more)
 
     def scans(self):
         """A scan beside the yardstick's reply of the same size, alone and beside writers."""
         for length in (8, 1_000, layout.MAX_VALUE):
             for place in ("yardstick", "files"):
                 files = self.files(place, length)
-            with Server(self.snapd, *files, scanners=4) as server, self.yardstick(length) as echo, self.yardstick(length, "live") as live:
+            with (
+                Server(self.snapd, *files, scanners=4) as server,
+                self.yardstick(length) as echo,
+                self.yardstick(length, "live") as live,
+            ):
                 for writers in (0, SEGMENTS):
                     found = []
                     for _ in range(self.rounds):
                         found.append([self.load(it, length, writers, 1)[1][1] for it in (server, echo, live)])
-                    mine, bare, _ = (statistics.median(each) for each in zip(*found))
-                    beside_echo, beside_live = (statistics.median(it[0] / it[at] for it in found) for at in (1, 2))
+                    mine, bare, lively = zip(*found)
                     name = f"scan of 16 x {length:,} bytes" + (", beside 16 writers" if writers else "")
-                    more = f"aim 1.5; with live values {beside_live:.3f}"
-                    show(name, mine, bare, "us", f"{beside_echo:.3f}   ({more})")
+                    more = f"{ratio(mine, bare):.3f}   (aim 1.5; with live values {ratio(mine, lively):.3f})"
+                    self.show(name, {"snapd": mine, "yardstick": bare}, "us", more)
 
     def parts(self):
         """A scan of some segments of 16 beside a whole one of a server with as many, alone and beside writers."""
@@ -163,9 +191,10 @@ class Bench:
                         part = self.load(server, length, writers, 1, part=(1 << named) - 1)[1][1]
                         whole = self.load(small, length, min(writers, named), 1, count=named)[1][1]
                         found.append((part, whole))
-                    mine, whole = (statistics.median(each) for each in zip(*found))
+                    mine, whole = zip(*found)
                     name = f"scan of {named} of 16, and of {named} of {named}" + (", beside writers" if writers else "")
-                    show(name, mine, whole, "us", f"{statistics.median(a / b for a, b in found):.3f}   (aim 1.15)")
+                    more = f"{ratio(mine, whole):.3f}   (aim 1.15)"
+                    self.show(name, {"snapd": mine, "of as many": whole}, "us", more)
 
     def comers(self):
         """An update of one writer beside connections that come and go."""
@@ -182,11 +211,11 @@ class Bench:
                         beside, _, came = self.load(it, length, 1, 0, comers=comers)
                         times += [quiet, beside[1], came[0]]
                     found.append(times)
-                quiet, beside, came, *_ = (statistics.median(each) for each in zip(*found))
-                mine, its = (statistics.median(it[at + 1] / it[at] for it in found) for at in (0, 3))
-                rate = statistics.median(it[5] for it in found)
-                name = f"update beside {came:,.0f} connections a second, quiet"
-                show(name, beside, quiet, "us", f"{mine:.3f}   (aim 300 us; the yardstick's {its:.3f} beside {rate:,.0f})")
+                quiet, beside, came, its_quiet, its_beside, its_rate = zip(*found)
+                name = f"update beside {statistics.median(came):,.0f} connections a second, quiet"
+                its = f"the yardstick's {ratio(its_beside, its_quiet):.3f} beside {statistics.median(its_rate):,.0f}"
+                more = f"{ratio(beside, quiet):.3f}   (aim 300 us; {its})"
+                self.show(name, {"snapd": beside, "quiet": quiet}, "us", more)
 
     def told(self):
         """A start with each of the C library's settings, in multiples of one without."""
@@ -198,14 +227,17 @@ class Bench:
                 with Server(self.snapd, *files, scanners=4, env=env) as server:
                     took = (time.perf_counter() - began) * 1e3
                     found[name].append((took, page_faults(server.process.pid), server.memory()))
-        bare, bare_faults, _ = (statistics.median(each) for each in zip(*found["nothing"]))
+        bare, bare_faults, _ = zip(*found["nothing"])
         for name, rows in found.items():
             if name == "nothing":
                 continue
-            took, faults, kilobytes = (statistics.median(each) for each in zip(*rows))
-            ratio = statistics.median(mine[0] / its[0] for mine, its in zip(rows, found["nothing"]))
-            more = f"{ratio:.3f}   ({faults:,.0f} page faults, and {bare_faults:,.0f}; {kilobytes:,.0f} kB resident)"
-            show(f"start of 16 files by {name}, and by nothing", took, bare, "ms", more)
+            took, *others = zip(*rows)
+            faults, kilobytes, its = map(statistics.median, (*others, bare_faults))
+            more = (
+                f"{ratio(took, bare):.3f}"
+                f"   ({faults:,.0f} page faults, and {its:,.0f}; {kilobytes:,.0f} kB resident)"
+            )
+            self.show(f"start of 16 files by {name}, and by nothing", {"snapd": took, "nothing": bare}, "ms", more)
 
     def starts(self):
         """From the start of the process to its line `listening`."""
@@ -220,12 +252,14 @@ class Bench:
             began = time.perf_counter()
             subprocess.run(bare_words, check=True, stdout=subprocess.PIPE)
             bare = time.perf_counter() - began
-            touched = subprocess.run([self.echo, "touch", str(kilobytes)], check=True, stdout=subprocess.PIPE, text=True)
+            touched = subprocess.run(
+                [self.echo, "touch", str(kilobytes)], check=True, stdout=subprocess.PIPE, text=True
+            )
             found.append((mine * 1e3, bare * 1e3, int(touched.stdout.split()[0]) / 1e6))
-        mine, bare, touch = (statistics.median(each) for each in zip(*found))
+        mine, bare, touch = zip(*found)
         more = statistics.median(it[0] - it[1] for it in found)
-        more = f"{more:.2f} ms more   (aim 20; as much memory is written and copied in {touch:.1f})"
-        show("start of 16 files to its line, and bare opening", mine, bare, "ms", more)
+        more = f"{more:.2f} ms more   (aim 20; as much memory is written and copied in {statistics.median(touch):.1f})"
+        self.show("start of 16 files to its line, and bare opening", {"snapd": mine, "opening": bare}, "ms", more)
 
     def memory(self):
         """kB resident, with the longest values, and with idle connections."""
@@ -245,6 +279,8 @@ class Bench:
                 for stream in idle:
                     stream.close()
             name = f"kB resident with {scanners} scanner{'s' * (scanners > 1)}"
+            for of, kilobytes in (("opened", opened), ("after a load", used), ("with 2,000 idle connections", many)):
+                self.figures.note(name, of, [kilobytes], "kB")
             print(f"{name:<48} opened {opened:,}, after a load {used:,}, with 2,000 idle connections {many:,}")
 
     def held(self):
@@ -266,52 +302,66 @@ class Bench:
                     control.write_text("")
                     times += [*alone[1:], *beside[1:], updates[1]]
                 found.append(times)
-        alone, alone99, beside, beside99, update, *echo = (statistics.median(each) for each in zip(*found))
-        more = f"aim 1; the yardstick's {echo[2] / echo[0]:.3f}"
-        show("scan beside stores held 2 ms at each sync, alone", beside, alone, "us", f"{beside / alone:.3f}   ({more})")
-        more = f"aim 1; the yardstick's {echo[3] / echo[1]:.3f}; an update takes {update:,.0f} us"
-        show("  the 99th percentiles", beside99, alone99, "us", f"{beside99 / alone99:.3f}   ({more})")
+        alone, alone99, beside, beside99, update, *echo = zip(*found)
+        more = f"{ratio(beside, alone):.3f}   (aim 1; the yardstick's {ratio(echo[2], echo[0]):.3f})"
+        self.show("scan beside stores held 2 ms at each sync, alone", {"snapd": beside, "alone": alone}, "us", more)
+        more = f"{ratio(beside99, alone99):.3f}   (aim 1; the yardstick's {ratio(echo[3], echo[1]):.3f}; "
+        more += f"an update takes {statistics.median(update):,.0f} us)"
+        self.show("  the 99th percentiles", {"snapd": beside99, "alone": alone99}, "us", more)
 
-    def redis(self):
-        """The same beside a redis whose log is synced at every write."""
-        if shutil.which("redis-server") is None:
-            print("beside redis: skipped, redis-server isn't installed (apt-get install redis-server)")
-            return
+    def beside(self):
+        """Scans beside 0 to 16 writers: the server's, and the yardstick's of live values."""
         length = 1_000
-        with socket.create_server(("127.0.0.1", 0)) as listener:
-            port = listener.getsockname()[1]
-        place = self.folder / "redis"
-        place.mkdir()
-        words = ["redis-server", "--bind", "127.0.0.1", "--port", port, "--dir", place, "--save", ""]
-        words += ["--appendonly", "yes", "--appendfsync", "always"]
-        process = subprocess.Popen(list(map(str, words)), stdout=subprocess.DEVNULL)
-        try:
-            redis = argparse.Namespace(place=("127.0.0.1", port))
-            for _ in range(500):
-                try:
-                    socket.create_connection(redis.place).close()
-                    break
-                except OSError:
-                    time.sleep(0.01)
-            self.load(redis, length, SEGMENTS, 0, "redis")
-            with Server(self.snapd, *self.files("files", length), scanners=4) as server:
-                for kind, writers, readers in ((0, 1, 0), (0, SEGMENTS, 0), (1, 0, 1), (1, SEGMENTS, 1)):
-                    found = []
-                    for _ in range(self.rounds):
-                        mine = self.load(server, length, writers, readers)[kind]
-                        other = self.load(redis, length, writers, readers, "redis")[kind]
-                        found.append((mine[0], mine[1], other[0], other[1]))
-                    rate, mine, other_rate, other = (statistics.median(each) for each in zip(*found))
-                    label = f"{('update', 'scan')[kind]}, {writers} writers: snapd, and redis"
-                    more = f"{mine / other:.3f}   (a second {rate:,.0f} and {other_rate:,.0f})"
-                    show(label, mine, other, "us", more)
-        finally:
-            process.kill()
-            process.wait()
+        for place in ("yardstick", "files"):
+            files = self.files(place, length)
+        with Server(self.snapd, *files, scanners=4) as server, self.yardstick(length, "live") as live:
+            for writers in (0, 1, 2, 4, 8, SEGMENTS):
+                found = []
+                for _ in range(self.rounds):
+                    found.append([it for at in (server, live) for it in self.load(at, length, writers, 1)[1][1:]])
+                mine, mine99, its, its99 = zip(*found)
+                name = f"scan beside {writers} writer{'s' * (writers != 1)}"
+                self.show(name, {"snapd": mine, "yardstick": its}, "us", f"{ratio(mine, its):.3f}")
+                name, more = f"  its 99th percentile, beside {writers}", f"{ratio(mine99, its99):.3f}"
+                self.show(name, {"snapd": mine99, "yardstick": its99}, "us", more)
+
+    def stages(self):
+        """Where an update's time goes, in means. What a client waits beyond the server's time is the way to it and
+        back."""
+        length, noted = 1_000, self.folder / "stages"
+        env = {"LD_PRELOAD": self.preloaded("stages"), "STAGES": str(noted)}
+        with Server(self.snapd, *self.files("files", length), scanners=4, env=env) as server:
+            rounds = []
+            for _ in range(self.rounds):
+                before = struct.unpack("6q", noted.read_bytes())
+                whole = 1e6 / self.load(server, length, 1, 0)[0][0]
+                count, *spent = (b - a for a, b in zip(before, struct.unpack("6q", noted.read_bytes())))
+                spent = [it / count / 1e3 for it in spent]
+                rounds.append((*spent, whole - sum(spent)))
+        for name, values in zip(STAGES, zip(*rounds)):
+            median = self.figures.note("where an update's time goes", name, values)
+            print(f"{f'an update: {name}':<48} {median:>9,.1f} us", flush=True)
+
+    def openings(self):
+        """From the start of the process to its first reply, by the number of files, with a scanner each."""
+        for count in (1, 2, 4, 8, SEGMENTS):
+            files = self.files("files", 1_000, count)
+            words, found = [self.echo, "start", *[self.folder / file for file in files]], []
+            for _ in range(4 * self.rounds):
+                began = time.perf_counter()
+                with Server(self.snapd, *files, scanners=count) as server:
+                    server.scan()
+                    mine = time.perf_counter() - began
+                began = time.perf_counter()
+                subprocess.run(words, check=True, stdout=subprocess.PIPE)
+                found.append((mine * 1e3, (time.perf_counter() - began) * 1e3))
+            mine, bare = zip(*found)
+            name = f"start of {count} file{'s' * (count > 1)} to a reply, and bare opening"
+            self.show(name, {"snapd": mine, "opening": bare}, "ms", f"{ratio(mine, bare):.3f}")
 
 
 def main():
-    words = argparse.ArgumentParser()
+    words = figures.arguments(argparse.ArgumentParser())
     words.add_argument("--folder")
     words.add_argument("--rounds", type=int, default=5)
     words.add_argument("--program", default=str(TOP / "bin" / "snapd"))
@@ -322,6 +372,7 @@ def main():
         print(f"{'the server':<48} {'snapd':>12} {'yardstick':>12}   ratio")
         for part in PARTS if words.only is None else (words.only,):
             getattr(bench, part)()
+        bench.figures.write(words.json, folder, words.program)
 
 
 if __name__ == "__main__":

@@ -3,8 +3,9 @@
  *     timer RUNS INPUT FILE START PROGRAM-A WORD.. -- PROGRAM-B WORD..
  *
  * INPUT is the standard input of each run, and its output is discarded. Before each run FILE gets the bytes of START,
- * outside the time. It prints the two medians in nanoseconds, and the median of the ratios of each pair of runs, in
- * thousandths: what else the machine does drifts, and the two runs of a pair are near each other.
+ * outside the time. It prints the first quartile, the median and the third one of the nanoseconds of the one and of the
+ * other, and those of the ratios of each pair of runs, in thousandths: what else the machine does drifts, and the two
+ * runs of a pair are near each other.
  */
 #define _GNU_SOURCE
 #include <fcntl.h>
@@ -73,7 +74,7 @@ int main(int words, char **word) {
     for (int i = 0; i < runs; i++) times[2][i] = 1000 * times[0][i] / times[1][i];
     for (int i = 0; i < 3; i++) {
         qsort(times[i], runs, sizeof(long long), order);
-        printf("%lld ", times[i][runs / 2]);
+        for (int quarter = 1; quarter < 4; quarter++) printf("%lld ", times[i][runs * quarter / 4]);
     }
     printf("\n");
     return 0;

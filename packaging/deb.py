@@ -1,10 +1,11 @@
-"""Makes a package for Debian of what `make install` leaves: out/snapd-board_VERSION_ARCHITECTURE.deb.
+"""Makes a package for Debian of what `make c-client install` leaves: out/snapd-board_VERSION_ARCHITECTURE.deb.
 
     python3 packaging/deb.py [--program bin/snapd] [--to out]
 
 It is called snapd-board, since Ubuntu's snap daemon has the package name snapd, and none of its files is one of that
-daemon's. Installing it makes the user, the group and the folder of all boards, and starts nothing. Removing it stops
-the boards and keeps their folders and the user, also when it is purged.
+daemon's. One package has the program and its client in C, since both are small. Installing it makes the user, the group
+and the folder of all boards, and starts nothing. Removing it stops the boards and keeps their folders and the user,
+also when it is purged.
 """
 
 import datetime
@@ -80,11 +81,15 @@ fi
 """,
 }
 # The program is the very file that was proved and tested, so its names stay in it. No helper of Debian's stops all
-# instances of a unit.
+# instances of a unit. The library is in one package with its headers, and with the program.
 OVERRIDES = f"""\
 {NAME}: unstripped-binary-or-object [usr/bin/snapd]
 {NAME}: maintainer-script-calls-systemctl [prerm:*]
+{NAME}: link-to-shared-library-in-wrong-package usr/lib/*/libsnapd.so.0 [usr/lib/*/libsnapd.so]
+{NAME}: package-name-doesnt-match-sonames libsnapd0
 """
+# What makes the library known to the system, and to packages that are built with it.
+LIBRARY = {"triggers": "activate-noawait ldconfig\n", "shlibs": f"libsnapd 0 {NAME} (>= {version.version()})\n"}
 
 
 def packed(path):
@@ -114,17 +119,19 @@ def arranged(root, maintainer, seconds):
     (overrides / NAME).write_text(OVERRIDES, encoding="utf-8")
 
 
-def described(room, program, maintainer):
+def described(room, maintainer):
     """Writes the folder that describes the package: its control file, its digests and its scripts."""
     files = dist.files_below(room)
-    needed = max(tuple(map(int, it)) for it in re.findall(rb"\bGLIBC_(\d+)\.(\d+)", program.read_bytes()))
+    linked = b"".join(it.read_bytes() for name, it in files.items() if name.endswith(("bin/snapd", ".so.0")))
+    needed = max(tuple(map(int, it)) for it in re.findall(rb"\bGLIBC_(\d+)\.(\d+)", linked))
     control = CONTROL.format(
         name=NAME, version=version.version(), architecture=dist.said("dpkg", "--print-architecture"),
         maintainer=maintainer, size=sum(-(-it.stat().st_size // 1024) for it in files.values()),
         libc="{}.{}".format(*needed))
-    sums = "".join(f"{hashlib.md5(it.read_bytes()).hexdigest()}  {name}\n" for name, it in files.items())
+    whole = {name: it for name, it in files.items() if not it.is_symlink()}
+    sums = "".join(f"{hashlib.md5(it.read_bytes()).hexdigest()}  {name}\n" for name, it in whole.items())
     scripts = {name: f"#!/bin/sh\nset -e\n{text}" for name, text in SCRIPTS.items()}
-    texts = {"control": control, "md5sums": sums, **scripts}
+    texts = {"control": control, "md5sums": sums, **LIBRARY, **scripts}
     (room / "DEBIAN").mkdir()
     for name, text in texts.items():
         (room / "DEBIAN" / name).write_text(text, encoding="utf-8")
@@ -137,8 +144,9 @@ def main():
     os.umask(0o022)
     with tempfile.TemporaryDirectory(prefix="snapd-deb-") as room:
         room = pathlib.Path(room) / "root"
-        arranged(dist.installed(program, room, "/usr"), maintainer, seconds)
-        described(room, program, maintainer)
+        libraries = f"lib/{dist.said('gcc', '-print-multiarch')}"
+        arranged(dist.installed(program, room, "/usr", libraries), maintainer, seconds)
+        described(room, maintainer)
         words = ["dpkg-deb", "--root-owner-group", "-Zgzip", "--build", room, to]
         subprocess.run(words, env={**os.environ, "SOURCE_DATE_EPOCH": str(seconds)}, check=True)
 

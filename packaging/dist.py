@@ -1,4 +1,4 @@
-"""Makes a tarball of what `make install` leaves, with a digest of each file and what the program was made of.
+"""Makes a tarball of what `make c-client install` leaves, with a digest of each file and what the program was made of.
 
     python3 packaging/dist.py [--program bin/snapd] [--to out]
 
@@ -28,6 +28,9 @@ import record  # noqa: E402
 import version  # noqa: E402
 
 DOC = "share/doc/snapd-board"
+# How the client in C is compiled: as Debian does it, whatever the environment says.
+FLAGS = ("CC=gcc", "AR=ar", "CFLAGS=-O2 -fstack-protector-strong -D_FORTIFY_SOURCE=2",
+         "LDFLAGS=-Wl,-z,relro,-z,now -Wl,-s")
 
 
 def said(*words):
@@ -62,10 +65,13 @@ def proved(program):
     return "".join(f"{name}: {text}\n" for name, text in lines.items())
 
 
-def installed(program, room, prefix):
-    """Installs into this folder, with PROVED and the licences' texts, and gives the prefix's folder."""
-    words = ("make", "-s", "install", f"DESTDIR={room}", f"PREFIX={prefix}", f"PROGRAM={program}", "CLIENTS=no/such")
-    subprocess.run(words, cwd=TOP, check=True, stdout=subprocess.DEVNULL)
+def installed(program, room, prefix, libraries="lib"):
+    """Installs into this folder, with the client in C, PROVED and the licences, and gives the prefix's folder."""
+    with tempfile.TemporaryDirectory(prefix="snapd-clients-") as clients:
+        places = (f"DESTDIR={room}", f"PREFIX={prefix}", f"LIBDIR={libraries}")
+        words = (f"CLIENTS={clients}", *places, f"PROGRAM={program}", *FLAGS)
+        for target in ("c-client", "install"):
+            subprocess.run(["make", "-s", target, *words], cwd=TOP, check=True, stdout=subprocess.DEVNULL)
     root = room / prefix.strip("/")
     (root / DOC / "PROVED").write_text(proved(program), encoding="utf-8")
     (root / DOC / "packaging" / "NOTICES").write_text(notices.with_texts(notices.licences()), encoding="utf-8")
@@ -85,6 +91,8 @@ def tarball(root, name, seconds):
             entry = tarfile.TarInfo(f"{name}/{path}")
             entry.size, entry.mtime, entry.uname, entry.gname = file.stat().st_size, seconds, "root", "root"
             entry.mode = 0o755 if os.access(file, os.X_OK) else 0o644
+            if file.is_symlink():
+                entry.type, entry.size, entry.linkname = tarfile.SYMTYPE, 0, os.readlink(file)
             with file.open("rb") as data:
                 tar.addfile(entry, data)
     return made.getvalue()

@@ -139,6 +139,35 @@ def read_program(program):
 
 # ---- the page, in roff
 
+# What the page has besides the program's help: how what is installed beside the program serves a folder.
+SERVICE = """\
+The package snapd\-board and `make install` bring a unit of systemd, a user and a group, all called
+snapd-board, and the folder /var/lib/snapd-board. Nothing is started. As root, once for a board that
+is called sim here:
+
+  systemctl enable snapd-board@sim
+  install -d -o snapd-board -g snapd-board -m 700 /var/lib/snapd-board/sim
+  runuser -u snapd-board -- snapd init /var/lib/snapd-board/sim --count 4
+  systemctl start snapd-board@sim
+
+From then on it is served at 127.0.0.1:7070, also after each boot. The unit makes no files, so that an
+empty disk that was mounted there by mistake isn't served: without files it ends with status 3.
+
+`systemctl edit snapd-board@sim` changes address and options. A second board needs a port of its own:
+
+  [Service]
+  Environment=ADDRESS=127.0.0.1:7071
+  Environment="OPTIONS=--scanners 8 --http 127.0.0.1:7081"
+
+`journalctl -u snapd-board@sim` prints its log, and `snapd call 127.0.0.1:7070 health` whether all is
+well. `systemctl stop` ends it at once, and loses nothing. After an upgrade of the program restart it.
+Removing the package stops all boards, and keeps their folders and the user."""
+PATHS = """\
+  /var/lib/snapd-board/NAME                      the files of the board NAME
+  /usr/lib/systemd/system/snapd-board@.service   the unit, with its own comments
+  /usr/share/doc/snapd-board/docs/RECIPES.md     backups, upgrades, what to do on each message
+  /usr/share/doc/snapd-board/packaging           files for Prometheus, Grafana and Kubernetes"""
+
 ROFF = str.maketrans({"\\": r"\e", "-": r"\-", "'": r"\(aq", "`": r"\(ga", '"': r"\(dq", "^": r"\(ha", "~": r"\(ti"})
 
 
@@ -176,7 +205,8 @@ def page(program):
     lines += [heading("SH", "DESCRIPTION"), *block(program.text)]
     lines += [heading("SH", "OPTIONS"), ".PP", line("The program and each command take:"), *terms(program.options)]
     lines += [heading("SH", "COMMANDS"), *(it for command in program.commands for it in section(command))]
-    lines += [heading("SH", "EXIT STATUS"), *block(program.statuses)]
+    for name, text in (("EXIT STATUS", program.statuses), ("A SERVICE OF THE SYSTEM", SERVICE), ("FILES", PATHS)):
+        lines += [heading("SH", name), *block(text)]
     return "".join(f"{it}\n" for it in lines)
 
 

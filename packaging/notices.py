@@ -15,8 +15,9 @@ import kit  # noqa: E402
 
 FILE = TOP / "packaging" / "NOTICES"
 HEAD = """\
-Crates of the Rattle kit that are linked into snapd, each with the files of its licence in the kit. Those without one
-are the kit's own, and their licence is the kit's. `python3 packaging/notices.py` writes this list.
+Crates of the Rattle kit that are linked into snapd, each with the files of its licence in the kit. {none} of these
+{all} have none there, nor has the kit as a whole: under which licence they may be passed on, its makers have to say.
+`python3 packaging/notices.py` writes this list.
 
 """
 
@@ -33,7 +34,8 @@ def licences():
 
 
 def listed(found):
-    return HEAD + "".join(" ".join([name, *(it.name for it in files)]) + "\n" for name, files in found.items())
+    head = HEAD.format(none=sum(not files for files in found.values()), all=len(found))
+    return head + "".join(" ".join([name, *(it.name for it in files)]) + "\n" for name, files in found.items())
 
 
 def with_texts(found):

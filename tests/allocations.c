@@ -1,8 +1,8 @@
 /* A library for LD_PRELOAD: counts the allocations, and refuses one of them.
  *
- * ALLOCATIONS_REFUSE is the number of the one that is refused, counted from 1, or `all`. ALLOCATIONS_COUNT is a file that gets
- * the count at the program's end. With ALLOCATIONS_WHILE, a file, only those are counted and refused that come while it is
- * there, and it is removed with the refusal of the one.
+ * ALLOCATIONS_REFUSE is the number of the one that is refused, counted from 1, or `all`. ALLOCATIONS_COUNT is a file
+ * that gets the count at the program's end. With ALLOCATIONS_WHILE, a file, only those are counted and refused that
+ * come while it is there, and it is removed with the refusal of the one.
  */
 #define _GNU_SOURCE
 #include <dlfcn.h>

@@ -6,8 +6,9 @@
  *   say NUMBER BYTES        a write to standard output (1) or error (2), in hexadecimal
  * PATH is as the program gave it, of an open file that by which it was opened.
  *
- * CHANGES_FAULT is `N WHAT`: at the Nth of these calls, counted from 1, the process is killed before it where WHAT is `kill`, stopped
- * before it until it is continued where WHAT is `stop`, and else the call does nothing and fails with the error of this number.
+ * CHANGES_FAULT is `N WHAT`: at the Nth of these calls, counted from 1, the process is killed before it where WHAT is
+ * `kill`, stopped before it until it is continued where WHAT is `stop`, and else the call does nothing and fails with
+ * the error of this number.
  */
 #define _GNU_SOURCE
 #include <dlfcn.h>

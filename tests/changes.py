@@ -1,8 +1,9 @@
-"""Runs the program over `changes.c`, which records its calls that change files and folders or makes one of them fail; and says what
-of it a power cut may yet take.
+"""Runs the program over `changes.c`, which records its calls that change files and folders or makes one of them fail;
+and says what of it a power cut may yet take.
 
-A name that was made, changed or removed may be lost until its folder is synced, a file's bytes and its length until the file is, and
-a folder's mode and owner until the folder is. Systems keep more than that in order; what is written here counts on none of it."""
+A name that was made, changed or removed may be lost until its folder is synced, a file's bytes and its length until the
+file is, and a folder's mode and owner until the folder is. Systems keep more than that in order; what is written here
+counts on none of it."""
 
 import contextlib
 import errno
@@ -14,7 +15,8 @@ from preload import library
 
 
 def run(snapd, *words, fault=None, **more):
-    """The run, and its calls that succeeded, in order: each a name and its words. `fault` is a call's number and what comes of it."""
+    """The run, and its calls that succeeded, in order: each a name and its words.
+    `fault` is a call's number and what comes of it."""
     log = snapd.file("changes.log")
     log.unlink(missing_ok=True)
     done = snapd(*words, env=environment(fault) | {"CHANGES_LOG": str(log)}, **more)
@@ -39,7 +41,8 @@ def stopped(snapd, *words, at):
         run.send_signal(signal.SIGCONT)
 
 
-# With these a system says that it syncs no folder, or not for this user: nothing has failed. With the others something has.
+# With these a system says that it syncs no folder, or not for this user: nothing has failed.
+# With the others something has.
 NOT_ALLOWED = (errno.EACCES, errno.EPERM, errno.EINVAL, errno.EOPNOTSUPP, errno.ENOSYS, errno.EROFS)
 FAULTS = (errno.EIO, errno.ENOSPC, errno.EDQUOT)
 
@@ -87,8 +90,8 @@ def moved(path, before, after):
 
 
 def told_when_for_good(events, still, folder, *more):
-    """At each line of standard output that names a segment its file was for good, with each of the names in `more`; at a line
-    that names none, and at the end, all was. `still` is what was open before."""
+    """At each line of standard output that names a segment its file was for good, with each of the names in `more`; at
+    a line that names none, and at the end, all was. `still` is what was open before."""
     for event in events:
         if event[:2] == ("say", "1"):
             words = event[2].split()

@@ -35,8 +35,8 @@ AioClient = functools.partial(aio.Client, timeout=PATIENCE)
 
 
 class Driven:
-    """Something of the client of asyncio, each of whose calls is made to its end by a loop, so that a test means the same for both
-    clients. What isn't awaited is as it is."""
+    """Something of the client of asyncio, each of whose calls is made to its end by a loop, so that a test means the
+    same for both clients. What isn't awaited is as it is."""
 
     def __init__(self, driven, loop):
         vars(self).update(driven=driven, loop=loop)
@@ -271,14 +271,17 @@ def vectors():
 
 
 def jobs(address):
-    """The words of the examples' jobs, one in each language and on a segment of its own, without the number of steps."""
+    """The words of the examples' jobs, one in each language and on a segment of its own,
+    without the number of steps."""
     example = TOP / "clients" / "python" / "examples" / "resuming_job.py"
     return [[sys.executable, str(example), address, "0"], [compiled("resuming_job"), *host_and_port(address), "1"]]
 
 
 def begun(words, steps):
     """A job that does `steps` steps."""
-    return subprocess.Popen([*words, str(steps)], stdout=subprocess.PIPE, stderr=subprocess.DEVNULL, text=True, env=ENVIRONMENT)
+    return subprocess.Popen(
+        [*words, str(steps)], stdout=subprocess.PIPE, stderr=subprocess.DEVNULL, text=True, env=ENVIRONMENT
+    )
 
 
 def kill(job):

@@ -1,5 +1,6 @@
-/* Stands between the program and the system (LD_PRELOAD): the clock that never goes back is ahead by as many seconds as the file
- * CLOCK_AHEAD has bytes, so that a test needn't wait for hours. Sleeps and waits take the time that they are for. */
+/* Stands between the program and the system (LD_PRELOAD): the clock that never goes back is ahead by as many seconds as
+ * the file CLOCK_AHEAD has bytes, so that a test needn't wait for hours. Sleeps and waits take the time that they are
+ * for. */
 #define _GNU_SOURCE
 #include <dlfcn.h>
 #include <stdlib.h>
@@ -13,6 +14,7 @@ int clock_gettime(clockid_t clock, struct timespec *now) {
     struct stat ahead;
     const char *file = getenv("CLOCK_AHEAD");
     int failed = REAL(clock_gettime)(clock, now);
-    if (failed == 0 && clock == CLOCK_MONOTONIC && file != NULL && stat(file, &ahead) == 0) now->tv_sec += ahead.st_size;
+    if (failed == 0 && clock == CLOCK_MONOTONIC && file != NULL && stat(file, &ahead) == 0)
+        now->tv_sec += ahead.st_size;
     return failed;
 }

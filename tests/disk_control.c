@@ -1,7 +1,7 @@
 /* A library for LD_PRELOAD: while the program runs, its calls on some files fail or wait.
  *
- * DISK_CONTROL names a file that is read at each call on a file that was opened. A line of it is `NAME CALL WHAT MORE`: of the
- * file whose path ends by NAME, each CALL, which is `write`, `sync` or `read`, does this:
+ * DISK_CONTROL names a file that is read at each call on a file that was opened. A line of it is `NAME CALL WHAT MORE`:
+ * of the file whose path ends by NAME, each CALL, which is `write`, `sync` or `read`, does this:
  *   fail ERRNO    it does nothing and fails
  *   torn ERRNO    half of a write's bytes are written, and then it fails
  *   hold 0        it makes the file DISK_CONTROL.held, and waits until DISK_CONTROL says so no more
@@ -59,8 +59,8 @@ static void tell_of_hold(void) {
     if (file >= 0) close(file);
 }
 
-/* What the control file is: one that says something else is another file, or was written since. To ask takes no descriptor, of
- * which there may be none left. */
+/* What the control file is: one that says something else is another file, or was written since. To ask takes no
+ * descriptor, of which there may be none left. */
 static struct stat control_now(void) {
     struct stat now;
     const char *path = getenv("DISK_CONTROL");
@@ -71,8 +71,8 @@ static struct stat control_now(void) {
 
 static int is_as_before(struct stat before) {
     struct stat now = control_now();
-    return now.st_ino == before.st_ino && now.st_size == before.st_size && now.st_mtim.tv_sec == before.st_mtim.tv_sec &&
-           now.st_mtim.tv_nsec == before.st_mtim.tv_nsec;
+    return now.st_ino == before.st_ino && now.st_size == before.st_size &&
+           now.st_mtim.tv_sec == before.st_mtim.tv_sec && now.st_mtim.tv_nsec == before.st_mtim.tv_nsec;
 }
 
 static void wait_while_held(int file, const char *call) {
@@ -85,7 +85,8 @@ static void wait_while_held(int file, const char *call) {
     }
 }
 
-/* Waits as long as it is to. Then: -1 the call is to fail, with `errno`; 1 half of it is to be made before; 0 it is made. */
+/* Waits as long as it is to. Then: -1 the call is to fail, with `errno`; 1 half of it is to be made before;
+ * 0 it is made. */
 static int controlled(int file, const char *call) {
     char what[NAME];
     long more = 0;

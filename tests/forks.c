@@ -17,8 +17,8 @@ static int updates(snapd_client *client, unsigned segment, uint64_t count)
         uint64_t stored;
         snapd_result result = snapd_update(client, segment, number, "value", 5, &stored);
         if (result != SNAPD_OK || stored != number) {
-            fprintf(stderr, "segment %u: result %d, stored %lu and not %lu\n", segment, (int)result, (unsigned long)stored,
-                    (unsigned long)number);
+            fprintf(stderr, "segment %u: result %d, stored %lu and not %lu\n", segment, (int)result,
+                    (unsigned long)stored, (unsigned long)number);
             return 1;
         }
     }
@@ -31,7 +31,8 @@ int main(int argc, char **argv)
     static snapd_snapshot now;
     uint64_t count = argc == 4 ? (uint64_t)atoi(argv[3]) : 0;
     int failed = 0;
-    if (argc != 4 || snapd_open(&client, argv[1], atoi(argv[2]), 60000, 1) != SNAPD_OK || snapd_scan(&client, &now) != SNAPD_OK)
+    if (argc != 4 || snapd_open(&client, argv[1], atoi(argv[2]), 60000, 1) != SNAPD_OK
+        || snapd_scan(&client, &now) != SNAPD_OK)
         return 2;
     for (unsigned segment = 0; segment < 2; segment++)
         if (fork() == 0)

@@ -51,7 +51,9 @@ class SeenServer(Server):
     def metrics(self):
         """Each sample by its name and labels."""
         status, headers, content = self.get("/metrics")
-        assert status == 200 and headers["content-type"] == "text/plain; version=0.0.4; charset=utf-8", (status, headers)
+        assert (
+            status == 200 and headers["content-type"] == "text/plain; version=0.0.4; charset=utf-8"
+        ), (status, headers)
         lines = [it for it in content.decode().splitlines() if not it.startswith("#")]
         found = [SAMPLE.fullmatch(it) for it in lines]
         assert all(found), [it for it, is_sample in zip(lines, found) if not is_sample]

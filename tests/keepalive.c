@@ -1,6 +1,6 @@
 /* A library for LD_PRELOAD: how long a peer may be silent before the system asks whether it is there,
- * and the rest between two such questions, are a sixtieth of what the program says, and a second at least. How many questions
- * go without an answer stays. */
+ * and the rest between two such questions, are a sixtieth of what the program says, and a second at least. How many
+ * questions go without an answer stays. */
 #define _GNU_SOURCE
 #include <dlfcn.h>
 #include <netinet/in.h>

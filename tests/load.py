@@ -1,7 +1,7 @@
 """Writers and readers on a server, each on a connection of its own, and the record of all replies.
 
-They are one thread, so that the record's times are of one clock and the server has the other processors. Each asks again as
-soon as it is answered. A writer keeps its segment's number over restarts of the server, as a job does.
+They are one thread, so that the record's times are of one clock and the server has the other processors. Each asks
+again as soon as it is answered. A writer keeps its segment's number over restarts of the server, as a job does.
 """
 
 import pathlib
@@ -21,7 +21,8 @@ LENGTHS = (0, 8, 8, 100, 100, 1_000, 4_080)
 
 
 class Load:
-    """Of `count` segments that start fresh. The record is `updates` and `scans`; `answered` counts the former's replies."""
+    """Of `count` segments that start fresh. The record is `updates` and `scans`;
+    `answered` counts the former's replies."""
 
     def __init__(self, count, rng):
         self.start = [(0, b"")] * count

@@ -15,7 +15,8 @@
 int getaddrinfo(const char *host, const char *service, const struct addrinfo *hints, struct addrinfo **found) {
     const char *which = getenv("LOOKUPS");
     char name[64], first[64], second[64];
-    if (host == NULL || which == NULL || sscanf(which, "%63s %63s %63s", name, first, second) != 3 || strcmp(host, name) != 0)
+    if (host == NULL || which == NULL || sscanf(which, "%63s %63s %63s", name, first, second) != 3 ||
+        strcmp(host, name) != 0)
         return REAL(getaddrinfo)(host, service, hints, found);
     int failed = REAL(getaddrinfo)(first, service, hints, found);
     if (failed != 0) return failed;

@@ -28,7 +28,10 @@ class Accepts:
 
     def __init__(self, folder, first=0, count=0, why=errno.EMFILE):
         self.failed = folder / "failed"
-        self.env = {"LD_PRELOAD": library("accepts"), "ACCEPTS_FAILED": str(self.failed), "ACCEPTS_REFUSE": f"{first} {count} {why}"}
+        self.env = {
+            "LD_PRELOAD": library("accepts"), "ACCEPTS_FAILED": str(self.failed),
+            "ACCEPTS_REFUSE": f"{first} {count} {why}",
+        }
 
     def count(self):
         """How many calls have failed."""

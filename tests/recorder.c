@@ -1,7 +1,7 @@
 /* A library for LD_PRELOAD: records what the program does to one file, and makes a call fail.
  *
- * RECORDER_FILE is the name of the file, as the program is given it. RECORDER_LOG gets a line for each of its calls that
- * changes or syncs the file: `write OFFSET HEX`, `length N` or `sync`, each once it has succeeded.
+ * RECORDER_FILE is the name of the file, as the program is given it. RECORDER_LOG gets a line for each of its calls
+ * that changes or syncs the file: `write OFFSET HEX`, `length N` or `sync`, each once it has succeeded.
  *
  * RECORDER_FAULT is `N KIND`: at the Nth call on the file (reads count too), which is counted from 1,
  *   fail        the call fails with EIO and does nothing

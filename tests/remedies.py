@@ -36,7 +36,9 @@ def owned(place, path, user=65_534):
         do = "give yourself the right by chmod, or look by lsattr and ls -Z for what else denies it"
     else:
         do = "run it as its owner, or let this user in by chmod or chown"
-    return f"{place}: user {found.st_uid} owns it, its mode is {found.st_mode & 0o7777:04o}, and you are user {user}: {do}"
+    return (
+        f"{place}: user {found.st_uid} owns it, its mode is {found.st_mode & 0o7777:04o}, and you are user {user}: {do}"
+    )
 
 
 def failed(path, reason, *remedies):

@@ -34,7 +34,10 @@ from program import Program, Skipped  # noqa: E402
 # How much of a failed test's output is printed again at the end, in characters.
 LAST = 400
 # The files whose tests take longest, which begin first.
-LONG = ("test_plug", "test_serve_kills", "test_crashes", "test_clients_serve", "test_readme", "test_recipes", "test_serve_memory")
+LONG = (
+    "test_plug", "test_serve_kills", "test_crashes", "test_clients_serve", "test_readme", "test_recipes",
+    "test_serve_memory",
+)
 
 
 def tests_in(only):

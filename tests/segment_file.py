@@ -1,4 +1,5 @@
-"""The segment file, written anew from docs/FORMATS.md as the judge of the program's files: the format, and the old one."""
+"""The segment file, written anew from docs/FORMATS.md as the judge of the program's files: the format,
+and the old one."""
 
 from dataclasses import dataclass
 

@@ -1,4 +1,5 @@
-"""A `snapd serve` on real files: started, asked, stopped and killed. Frames and messages are as docs/FORMATS.md has them."""
+"""A `snapd serve` on real files: started, asked, stopped and killed.
+Frames and messages are as docs/FORMATS.md has them."""
 
 import contextlib
 import os
@@ -239,7 +240,8 @@ class Server:
         return [told.get(ends) for ends in ((here, there), (there, here))]
 
     def has_read(self, stream):
-        """Whether it has taken all that this peer has sent: nothing of it is on its way, and nothing waits to be read."""
+        """Whether it has taken all that this peer has sent: nothing of it is on its way,
+        and nothing waits to be read."""
         own, peer = self.sockets_of(stream)
         return peer[4].startswith("00000000:") and own[4].endswith(":00000000")
 

@@ -1,8 +1,9 @@
 /* A library for LD_PRELOAD: makes one of the program's calls on sockets, or on its poll, fail.
  *
- * SOCKETS_FAIL is `CALL NUMBER ERRNO`: of the calls with this name, the one with this number, counted from 1, does nothing and
- * fails. Only those are counted that come while the file SOCKETS_WHILE is there, and it is removed with the failure.
- * SOCKETS_TOLD names a file that gets a line for each `listen`, `setsockopt` and `shutdown`: its name and its numbers.
+ * SOCKETS_FAIL is `CALL NUMBER ERRNO`: of the calls with this name, the one with this number, counted from 1, does
+ * nothing and fails. Only those are counted that come while the file SOCKETS_WHILE is there, and it is removed with the
+ * failure. SOCKETS_TOLD names a file that gets a line for each `listen`, `setsockopt` and `shutdown`: its name and its
+ * numbers.
  */
 #define _GNU_SOURCE
 #include <dlfcn.h>

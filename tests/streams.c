@@ -1,7 +1,7 @@
 /* A library for LD_PRELOAD: a standard stream moves a number of bytes, and then fails.
  *
- * STREAMS_FAIL is `STREAM ROOM STEP`: each call on stream 0, 1 or 2 moves STEP bytes at most, and once ROOM bytes have passed each
- * call fails with EIO.
+ * STREAMS_FAIL is `STREAM ROOM STEP`: each call on stream 0, 1 or 2 moves STEP bytes at most, and once ROOM bytes have
+ * passed each call fails with EIO.
  */
 #define _GNU_SOURCE
 #include <dlfcn.h>
@@ -17,7 +17,8 @@ static ssize_t allowed(int file, size_t count) {
     const char *fault = getenv("STREAMS_FAIL");
     int stream;
     long room, step;
-    if (fault == NULL || sscanf(fault, "%d %ld %ld", &stream, &room, &step) != 3 || file != stream || count == 0) return count;
+    if (fault == NULL || sscanf(fault, "%d %ld %ld", &stream, &room, &step) != 3) return count;
+    if (file != stream || count == 0) return count;
     if (passed >= room) return errno = EIO, -1;
     long most = room - passed < step ? room - passed : step;
     return count < (size_t)most ? (ssize_t)count : most;

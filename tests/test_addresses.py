@@ -1,4 +1,5 @@
-"""What an address lacks is said before anything is opened; and all commands, help and documents show one port and one kind of file."""
+"""What an address lacks is said before anything is opened; and all commands,
+help and documents show one port and one kind of file."""
 
 import pathlib
 import re
@@ -29,21 +30,25 @@ LACKS = {
 }
 # What lacks nothing, whether the system takes it or not.
 WHOLE = (
-    "127.0.0.1:7070", "127.0.0.1:0", "0.0.0.0:0", "[::1]:7070", "[::1]:0", "localhost:7070", "::1:7070", "::1:0", "a:b", "a:b:c", "a:70707",
-    "127.0.0.1:70707", "0:0", "unix:7070", "unix:/run/a:b",
+    "127.0.0.1:7070", "127.0.0.1:0", "0.0.0.0:0", "[::1]:7070", "[::1]:0", "localhost:7070", "::1:7070", "::1:0", "a:b",
+    "a:b:c", "a:70707", "127.0.0.1:70707", "0:0", "unix:7070", "unix:/run/a:b",
 )
 # What means all addresses of a machine, in any form that the system reads, and what doesn't.
 EVERYWHERE = (
-    "0.0.0.0:0", "[::]:0", "[::0]:0", "[0:0:0:0:0:0:0:0]:0", "[::ffff:0.0.0.0]:0", ":::0", "0:0", "0.0:0", "00.0x0.0.0:0", "0x00:0",
-    "0.0.0.0:70707",
+    "0.0.0.0:0", "[::]:0", "[::0]:0", "[0:0:0:0:0:0:0:0]:0", "[::ffff:0.0.0.0]:0", ":::0", "0:0", "0.0:0",
+    "00.0x0.0.0:0", "0x00:0", "0.0.0.0:70707",
 )
 SOMEWHERE = (
-    "127.0.0.1:0", "[::1]:0", "localhost:0", "10.0.0.0:0", "0.0.0.1:0", "[::ffff:127.0.0.1]:0", "::1:0", "x:0", "0x:0", ".:0",
+    "127.0.0.1:0", "[::1]:0", "localhost:0", "10.0.0.0:0", "0.0.0.1:0", "[::ffff:127.0.0.1]:0", "::1:0", "x:0", "0x:0",
+    ".:0",
 )
 
 
 def lacking(address):
-    return f"snapd: {address}: an address is HOST:PORT or unix:PATH, and {LACKS[address]} missing: give for example 127.0.0.1:7070\n"
+    return (
+        f"snapd: {address}: an address is HOST:PORT or unix:PATH, and {LACKS[address]} missing: "
+        "give for example 127.0.0.1:7070\n"
+    )
 
 
 def test_an_address_that_lacks_a_part(snapd, _):
@@ -56,7 +61,9 @@ def test_an_address_that_lacks_a_part(snapd, _):
 
 def test_what_lacks_nothing_goes_to_the_system(snapd, _):
     for address in WHOLE:
-        snapd("serve", address, "missing").gave(1, errors=remedies.failed("missing", remedies.MISSING, remedies.no_file("missing")))
+        snapd("serve", address, "missing").gave(
+            1, errors=remedies.failed("missing", remedies.MISSING, remedies.no_file("missing"))
+        )
     for address in ("a:b", "127.0.0.1:70707"):
         snapd("call", address, "scan").gave(1, errors=f"snapd: {address}: invalid port value\n")
 
@@ -81,7 +88,11 @@ def test_each_form_of_all_addresses_is_warned_of(snapd, _):
     files = segments(snapd, FRESH)
     for address in EVERYWHERE + SOMEWHERE:
         lines = snapd("serve", address, *files, "--connections", 0, "--log", "warn").errors.splitlines()
-        warnings = [it for it in lines if it.endswith(f" WARN accept: {address}: whoever reaches this machine may read and update each segment")]
+        warnings = [
+            it
+            for it in lines
+            if it.endswith(f" WARN accept: {address}: whoever reaches this machine may read and update each segment")
+        ]
         assert len(warnings) == (address in EVERYWHERE), (address, lines)
 
 
@@ -138,7 +149,8 @@ def texts(snapd):
 
 
 def test_one_port_is_shown(snapd, _):
-    """In each address with one: 0 asks the system for any, 7080 is where HTTP is answered, and a second board has 7071 and 7081."""
+    """In each address with one: 0 asks the system for any, 7080 is where HTTP is answered,
+    and a second board has 7071 and 7081."""
     found = 0
     for name, text in texts(snapd):
         for port in re.findall(r"(?:127\.0\.0\.1|localhost|0\.0\.0\.0|\[::1?\])[: ](\d+)", text):

@@ -16,8 +16,10 @@ NETWORK = "check the address, and the network on the way"
 DESCRIPTORS = "raise the limit of open files (ulimit -n, or fs.file-max)"
 MEMORY = "the system has no memory for a connection: free some"
 PATH = "check the path"
-RIGHT = ("this user may not use the socket, or not look into its folder: call as the one that serves, or give that one's group the "
-         "right by snapd serve --socket-mode 0660")
+RIGHT = (
+    "this user may not use the socket, or not look into its folder: "
+    "call as the one that serves, or give that one's group the right by snapd serve --socket-mode 0660"
+)
 
 # What `connect` and `socket` of a port may say, and what to do.
 OF_A_PORT = {
@@ -64,12 +66,16 @@ def test_each_reason_of_a_port(snapd, _):
             for more in ([], ["--timeout", 60]):
                 sockets = Sockets(snapd, "connect", 1, code)
                 sockets.fail()
-                snapd("call", server.address, "scan", *more, env=sockets.env).gave(1, errors=told(server.address, code, remedy))
+                snapd("call", server.address, "scan", *more, env=sockets.env).gave(
+                    1, errors=told(server.address, code, remedy)
+                )
                 assert sockets.has_failed(), (code, more)
         for code in (errno.EMFILE, errno.EAFNOSUPPORT):
             sockets = Sockets(snapd, "socket", 1, code)
             sockets.fail()
-            snapd("call", server.address, "scan", env=sockets.env).gave(1, errors=told(server.address, code, OF_A_PORT[code]))
+            snapd("call", server.address, "scan", env=sockets.env).gave(
+                1, errors=told(server.address, code, OF_A_PORT[code])
+            )
 
 
 def test_each_reason_of_a_socket(snapd, _):
@@ -78,7 +84,9 @@ def test_each_reason_of_a_socket(snapd, _):
             for more in ([], ["--timeout", 60]):
                 sockets = Sockets(snapd, "connect", 1, code)
                 sockets.fail()
-                snapd("call", server.address, "scan", *more, env=sockets.env).gave(1, errors=told(server.address, code, remedy))
+                snapd("call", server.address, "scan", *more, env=sockets.env).gave(
+                    1, errors=told(server.address, code, remedy)
+                )
                 assert sockets.has_failed(), (code, more)
 
 
@@ -91,9 +99,11 @@ def test_reasons_as_they_come(snapd, _):
     snapd.file("loop").symlink_to("loop")
     with socket.socket(socket.AF_UNIX, socket.SOCK_DGRAM) as other:
         other.bind(str(snapd.file("other.sock")))
-        for address, code in ((nobody, errno.ECONNREFUSED), ("unix:none.sock", errno.ENOENT), ("unix:left.sock", errno.ECONNREFUSED),
-                              ("unix:file", errno.ECONNREFUSED), ("unix:file/at", errno.ENOTDIR), ("unix:loop", errno.ELOOP),
-                              ("unix:other.sock", errno.EPROTOTYPE)):
+        for address, code in (
+            (nobody, errno.ECONNREFUSED), ("unix:none.sock", errno.ENOENT), ("unix:left.sock", errno.ECONNREFUSED),
+            ("unix:file", errno.ECONNREFUSED), ("unix:file/at", errno.ENOTDIR), ("unix:loop", errno.ELOOP),
+            ("unix:other.sock", errno.EPROTOTYPE),
+        ):
             remedy = (OF_A_PORT if address == nobody else OF_A_SOCKET)[code]
             for more in ([], ["--timeout", 60], ["--tries", 2]):
                 snapd("call", address, "scan", *more).gave(1, errors=told(address, code, remedy))
@@ -107,7 +117,8 @@ def test_a_user_who_may_not(snapd, _):
     snapd.file("shut").mkdir(mode=0o700)
     os.chmod(snapd.folder, 0o755)
     shutil.copy(snapd.path, snapd.file("program"))
-    program, nobody = Program(snapd.file("program"), snapd.folder), {"user": 65_534, "group": 65_534, "extra_groups": []}
+    program = Program(snapd.file("program"), snapd.folder)
+    nobody = {"user": 65_534, "group": 65_534, "extra_groups": []}
     for address in ("unix:at.sock", "unix:shut/at.sock"):
         with AtSocket(snapd, *fresh(snapd, 1), address=address):
             snapd("call", address, "scan").gave(0, "segment 0 number 0 value -\n")

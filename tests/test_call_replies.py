@@ -1,4 +1,5 @@
-"""What a call prints and says: of each reply, of what is none, and where its connection, its input or its output fails in the middle."""
+"""What a call prints and says: of each reply, of what is none, and where its connection,
+its input or its output fails in the middle."""
 
 import contextlib
 import errno
@@ -13,9 +14,14 @@ from streams import WHY, failing
 from test_serve_sockets import Sockets
 
 NO_ANSWER = "A: what came isn't an answer to the request: is a snapd at the other end?: check the address"
-ENDED = "A: the connection ended before the reply: whether the request was done isn't known: send it again, since an update is stored once"
-UNCONNECTED = "A: no connection to the server could be made\n" \
-              "A: Connection refused (os error 111): nobody listens there: start snapd serve there, or wait for it with --wait"
+ENDED = (
+    "A: the connection ended before the reply: whether the request was done isn't known: "
+    "send it again, since an update is stored once"
+)
+UNCONNECTED = (
+    "A: no connection to the server could be made\n"
+    "A: Connection refused (os error 111): nobody listens there: start snapd serve there, or wait for it with --wait"
+)
 
 
 def named(*entries):
@@ -76,7 +82,8 @@ def test_replies_are_printed(snapd, _):
         snapd,
         ("call A update 0 1 6869", [stored(1)], 0, "stored 1\n", ""),
         ("call A scan", [SCANNED], 0, "segment 0 number 1 value 6869\nsegment 1 number 0 value -\n", ""),
-        ("call A scan", [snapshot((2**63 - 1, b"\x00\xff\n"))], 0, "segment 0 number 9223372036854775807 value 00ff0a\n", ""),
+        ("call A scan", [snapshot((2**63 - 1, b"\x00\xff\n"))], 0,
+         "segment 0 number 9223372036854775807 value 00ff0a\n", ""),
         ("call A part 1008", [PART], 0, "segment 3 number 1 value 6869\nsegment 12 number 258 value -\n", ""),
         ("call A status", [STATES], 0, "segment 0 number 1 fenced 0\nsegment 1 number 12 fenced 1\n", ""),
         ("call A get 3", [THIRD], 0, "hi", ""),
@@ -98,7 +105,8 @@ def test_values_are_printed_as_text(snapd, _):
     )
 
 
-# Values, and the text that they are printed as, where they are any: what would move a terminal isn't, in one byte or in two.
+# Values, and the text that they are printed as, where they are any: what would move a terminal isn't,
+# in one byte or in two.
 VALUES = [
     (b"", b'""'),
     (b"step 100\n", b'"step 100\\n"'),
@@ -118,18 +126,24 @@ VALUES = [
 def test_which_values_are_text(snapd, _):
     printed = (b"value " + value.hex().encode() if text is None else b"text " + text for value, text in VALUES)
     wanted = b"".join(b"segment %d number 1 %b\n" % row for row in enumerate(printed))
-    assert called(snapd, "call A scan --text", [snapshot(*((1, value) for value, _text in VALUES))]) == Run(0, wanted, "")
+    assert (
+        called(snapd, "call A scan --text", [snapshot(*((1, value) for value, _text in VALUES))]) == Run(0, wanted, "")
+    )
 
 
 def test_documents_are_printed(snapd, _):
     of_scan = '{"segments":[{"segment":0,"number":1,"text":"hi"},{"segment":1,"number":0,"text":""}'
-    last = '{"segment":2,"number":9223372036854775807,"base64":"/w=="},{"segment":3,"number":12,"text":"a \\"b\\" \\\\ \\n\\u0001"}'
+    last = (
+        '{"segment":2,"number":9223372036854775807,"base64":"/w=="},'
+        '{"segment":3,"number":12,"text":"a \\"b\\" \\\\ \\n\\u0001"}'
+    )
     of_part = '{"segments":[{"segment":3,"number":1,"text":"hi"},{"segment":12,"number":258,"text":"%s"}]}\n'
     of_status = '{"segments":[{"segment":0,"number":%d,"fenced":false},{"segment":1,"number":%d,"fenced":true}]}\n'
     end_so(
         snapd,
         ("call A scan --json", [SCANNED], 0, of_scan + "]}\n", ""),
-        ("call A scan --json", [snapshot((1, b"hi"), (0, b""), (2**63 - 1, b"\xff"), (12, b'a "b" \\ \n\x01'))], 0, f"{of_scan},{last}]}}\n", ""),
+        ("call A scan --json", [snapshot((1, b"hi"), (0, b""), (2**63 - 1, b"\xff"), (12, b'a "b" \\ \n\x01'))], 0,
+         f"{of_scan},{last}]}}\n", ""),
         ("call --json A part 1008", [PART], 0, of_part % "", ""),
         ("call A --json part 1008", [named((3, 1, b"hi"), (12, 258, b"\xc3\xa9"))], 0, of_part % "\u00e9", ""),
         ("call A --json status --timeout=1", [STATES], 0, of_status % (1, 12), ""),
@@ -137,7 +151,8 @@ def test_documents_are_printed(snapd, _):
         ("call A health --json", [SOUND], 0, '{"healthy":true}\n', ""),
         ("call A health --json", [standings((5, False), (5, False))], 0, '{"healthy":true}\n', ""),
         ("call A health --json", [FENCED], 3, '{"healthy":false,"fenced":[0,2]}\n', ""),
-        ("call A health --json", [standings((7, True), (5, False), (7, True))], 3, '{"healthy":false,"fenced":[0,2]}\n', ""),
+        ("call A health --json", [standings((7, True), (5, False), (7, True))], 3,
+         '{"healthy":false,"fenced":[0,2]}\n', ""),
     )
 
 
@@ -206,7 +221,9 @@ def test_a_put_has_its_value_before_it_connects(snapd, _):
     nobody = f"127.0.0.1:{free_port()}"
     snapd("call", nobody, "put", 0, stdin=b"a" * 4_081).refused(3, "TooLong")
     for count in range(3):
-        snapd("call", nobody, "put", 0, stdin="hi", env=failing(0, count)).gave(1, errors=f"snapd: standard input: {WHY}\n")
+        snapd("call", nobody, "put", 0, stdin="hi", env=failing(0, count)).gave(
+            1, errors=f"snapd: standard input: {WHY}\n"
+        )
 
 
 # ---- outputs that fail ----

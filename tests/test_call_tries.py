@@ -1,5 +1,5 @@
-"""The tries of a call: when they come, for how long they go on, and what a stop of the process, several addresses and a server
-that comes back do to them."""
+"""The tries of a call: when they come, for how long they go on, and what a stop of the process, several addresses and a
+server that comes back do to them."""
 
 import contextlib
 import os
@@ -130,7 +130,10 @@ def test_a_call_that_is_stopped_has_no_more_time(snapd, _):
                 stop_and_continue(process)
                 time.sleep(0.1)
             status, _output, errors = ended(process)
-        assert status == 1 and errors.splitlines()[1] == f"snapd: {peer.address}: there was no answer within 2 s (--timeout)", errors
+        assert (
+            status == 1
+            and errors.splitlines()[1] == f"snapd: {peer.address}: there was no answer within 2 s (--timeout)"
+        ), errors
         assert 1.9 < time.monotonic() - began < 15
 
 
@@ -194,7 +197,8 @@ def test_no_rest_where_nothing_failed(snapd, _):
 
 
 def test_each_request_of_a_put_has_its_own_tries(snapd, _):
-    """The rests begin anew with the update: its first one is as long as the first one of the status, and not four times as long."""
+    """The rests begin anew with the update: its first one is as long as the first one of the status,
+    and not four times as long."""
     updates = []
     for _turn in range(5):
         answers = iter([None, None, standings((6, False)), None, stored(7)])
@@ -275,7 +279,10 @@ def test_a_server_that_starts_again_meanwhile(snapd, _):
         while not over.is_set():
             wanted = counts[segment] + 1
             run = snapd("call", address, "put", segment, "--value", wanted, "--after", wanted - 1, "--wait", PATIENCE)
-            if run != (0, f"stored {wanted}\n".encode(), "") and (run.status, run.output) != (0, f"stored {wanted}\n".encode()):
+            if (
+                run != (0, f"stored {wanted}\n".encode(), "")
+                and (run.status, run.output) != (0, f"stored {wanted}\n".encode())
+            ):
                 faults.append(run)
                 return
             counts[segment] = wanted
@@ -304,7 +311,9 @@ def test_a_server_that_starts_again_meanwhile(snapd, _):
 def test_a_dump_waits_as_a_call(snapd, _):
     address = f"127.0.0.1:{free_port()}"
     words = [snapd.path, "dump", address, "--wait", str(PATIENCE)]
-    with subprocess.Popen(words, cwd=snapd.folder, stdout=subprocess.PIPE, stderr=subprocess.PIPE, text=True) as process:
+    with subprocess.Popen(
+        words, cwd=snapd.folder, stdout=subprocess.PIPE, stderr=subprocess.PIPE, text=True
+    ) as process:
         time.sleep(0.5)
         with Server(snapd, *fresh(snapd, 1), address=address):
             status, output, errors = ended(process)
@@ -334,7 +343,11 @@ def test_a_silent_address_leaves_time_for_the_next(snapd, _):
 def test_a_name_that_isnt_known_yet(snapd, _):
     """A call that waits looks it up again; an address that is never valid is refused at once."""
     ran = snapd("call", "nobody.invalid:7070", "scan")
-    assert ran.status == 1 and ran.errors.startswith("snapd: nobody.invalid:7070: failed to lookup") and ran.errors.count("\n") == 1, ran
+    assert (
+        ran.status == 1
+        and ran.errors.startswith("snapd: nobody.invalid:7070: failed to lookup")
+        and ran.errors.count("\n") == 1
+    ), ran
     began = time.monotonic()
     ran = snapd("call", "nobody.invalid:7070", "scan", "--wait", 1)
     lines = ran.failed_with(1).errors.splitlines()

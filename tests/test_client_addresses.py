@@ -24,11 +24,19 @@ def test_all_clients_ask_through_a_unix_socket(program, _):
             with make(server.address) as client:
                 assert client.update(0, start + 1, b"hi") == start + 1 and client.scan()[0] == (start + 1, b"hi")
                 mine = client.segment(0)
-                assert mine.put(b"yo") == start + 2 and mine.get() == b"yo" and client.wait({0: start + 2}, timeout=PATIENCE)
+                assert (
+                    mine.put(b"yo") == start + 2
+                    and mine.get() == b"yo"
+                    and client.wait({0: start + 2}, timeout=PATIENCE)
+                )
                 assert mine.put(b"!") == start + 3 and client.status() == ((start + 3, False), (0, False))
         assert ask(server.address, "update", 1, 1, "hi") == (0, "stored 1\n", "")
         assert ask(server.address, "put", 1, "yo") == (0, "stored 2\n", "")
-        assert ask(server.address, "part", "0002") == ask(server.address, "get", 1) == (0, "segment 1 number 2 value 796f\n", "")
+        assert (
+            ask(server.address, "part", "0002")
+            == ask(server.address, "get", 1)
+            == (0, "segment 1 number 2 value 796f\n", "")
+        )
         assert ask(server.address, "wait", 1000 * PATIENCE, 1, 2)[0] == 0
 
 
@@ -38,7 +46,9 @@ def test_jobs_go_on_through_a_unix_socket(program, rng):
         for words, segment in zip(jobs(server.address), model.segments):
             job = begun(words, 10**9)
             try:
-                assert gets_on(lambda: segment.number, rng.randrange(1, 30), lambda: job.poll() is not None), "it gave up"
+                assert gets_on(lambda: segment.number, rng.randrange(1, 30), lambda: job.poll() is not None), (
+                    "it gave up"
+                )
             finally:
                 kill(job)
             steps = segment.number + 20
@@ -143,8 +153,8 @@ def test_a_full_queue_of_a_unix_socket_is_waited_for(program, _):
 # ---- names ----
 
 def named(*places, unknown=()):
-    """What the system finds for the one name that is asked, and what it does for numbers. First come places of families that it
-    doesn't know."""
+    """What the system finds for the one name that is asked, and what it does for numbers. First come places of families
+    that it doesn't know."""
     asked = socket.getaddrinfo
 
     def found(host, port, *words, **named):
@@ -191,7 +201,9 @@ def test_an_address_that_refuses_costs_no_time(_, __):
     for make in BOTH:
         with named(nobody, nobody), make("several.test:7070", tries=1) as client:
             error = raised(client.scan)
-            assert type(error) is snapd_client.NotAnswered and isinstance(error.__cause__, ConnectionRefusedError), error
+            assert (
+                type(error) is snapd_client.NotAnswered and isinstance(error.__cause__, ConnectionRefusedError)
+            ), error
             assert str(error).startswith("several.test:7070: no answer after 1 tries: ")
 
 

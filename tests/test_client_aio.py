@@ -21,7 +21,8 @@ SHARED = {
     of_messages: """
         test_both_clients_send_every_vector_and_read_its_reply test_replies_that_are_none_are_told_apart
         test_both_clients_scan_some_segments test_the_server_scans_some_segments
-        test_the_longest_snapshot_is_read test_every_refusal_of_the_model test_every_number_of_a_refusal_has_its_exception
+        test_the_longest_snapshot_is_read test_every_refusal_of_the_model
+        test_every_number_of_a_refusal_has_its_exception
         test_a_refusal_keeps_the_connection test_what_is_no_value_or_number_is_a_type_error_before_a_byte_is_sent
         test_words_that_no_message_can_say
     """,
@@ -161,7 +162,8 @@ async def main():
         mine = client.segment(0)
         await asyncio.gather(*[mine.put(b"x") for _ in range(20)])
         for _ in range(50):
-            calls = [asyncio.ensure_future(it) for it in (client.scan(), mine.put(b"y"), client.wait({0: 10**6}, timeout=0.001))]
+            begun = (client.scan(), mine.put(b"y"), client.wait({0: 10**6}, timeout=0.001))
+            calls = [asyncio.ensure_future(it) for it in begun]
             await asyncio.sleep(0.0005)
             for it in calls:
                 it.cancel()
@@ -208,6 +210,8 @@ asyncio.run(client.close())
 
 def test_a_process_that_is_forked_off_has_a_connection_of_its_own(_, __):
     with oracle.Server(oracle.Model(2)) as server:
-        run = subprocess.run([sys.executable, "-c", FORKED, server.address], env=ENVIRONMENT, capture_output=True, text=True,
-                             timeout=2 * PATIENCE)
+        run = subprocess.run(
+            [sys.executable, "-c", FORKED, server.address], env=ENVIRONMENT, capture_output=True, text=True,
+            timeout=2 * PATIENCE,
+        )
         assert (run.returncode, run.stdout, run.stderr) == (0, "", ""), run.stderr

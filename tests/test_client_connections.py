@@ -1,5 +1,5 @@
-"""The clients in Python and C over connections that break, wait or end, and jobs that are killed: against the server in plain
-Python and against peers that misbehave."""
+"""The clients in Python and C over connections that break, wait or end, and jobs that are killed: against the server in
+plain Python and against peers that misbehave."""
 
 import contextlib
 import re
@@ -11,8 +11,8 @@ import sys
 import threading
 import time
 
-from clients import ENVIRONMENT, STORED_ONE, TOP, Client, Peer, ask, begun, ends_right, framed, hangs_up, hangs_up_after, jobs
-from clients import kill, oracle, raised, says, says_nothing
+from clients import ENVIRONMENT, STORED_ONE, TOP, Client, Peer, ask, begun, ends_right, framed, hangs_up, hangs_up_after
+from clients import jobs, kill, oracle, raised, says, says_nothing
 from waiting import NO_END, PATIENCE, gets_on, moment, wait_until
 
 import snapd_client
@@ -255,7 +255,9 @@ def test_a_signals_handler_does_not_wait_for_the_call_that_it_came_in(_, __):
             output, _ = started[0].communicate(timeout=PATIENCE)
         finally:
             kill(started[0])
-        assert output == "(Entry(number=0, value=b''),) [\"a signal's handler came in a call of this client\"]\n", output
+        assert (
+            output == "(Entry(number=0, value=b''),) [\"a signal's handler came in a call of this client\"]\n"
+        ), output
 
 
 # ---- jobs ----
@@ -264,13 +266,16 @@ LIVES = 8
 
 
 def test_jobs_go_on_where_they_were(program, rng):
-    """Each is killed again and again, once it has got on by some steps. A last life has an end, and comes to it by itself."""
+    """Each is killed again and again, once it has got on by some steps. A last life has an end,
+    and comes to it by itself."""
     with oracle.Server(oracle.Model(2, program.folder)) as server:
         for words, segment in zip(jobs(server.address), server.model.segments):
             for _ in range(LIVES):
                 job = begun(words, NO_END)
                 try:
-                    assert gets_on(lambda: segment.number, rng.randrange(1, 100), lambda: job.poll() is not None), "it gave up"
+                    assert gets_on(lambda: segment.number, rng.randrange(1, 100), lambda: job.poll() is not None), (
+                        "it gave up"
+                    )
                     moment(rng)
                 finally:
                     kill(job)

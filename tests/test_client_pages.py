@@ -53,7 +53,10 @@ def compiled(snapd, source, address):
 def all_run(snapd, is_real):
     for listing, (output, held) in zip(listings("python"), WANTED["python"]):
         with served(snapd, is_real) as (address, first):
-            gives([sys.executable, "-W", "error", "-c", listing.replace("127.0.0.1:7070", address)], output, env=ENVIRONMENT)
+            gives(
+                [sys.executable, "-W", "error", "-c", listing.replace("127.0.0.1:7070", address)], output,
+                env=ENVIRONMENT,
+            )
             assert first() == held
     for listing, (output, held) in zip(listings("c"), WANTED["c"]):
         with served(snapd, is_real) as (address, first):
@@ -74,7 +77,10 @@ COMPILERS = {"gcc": ("c99", "c11", "c17"), "clang": ("c99", "c11"), "g++": ("c++
 
 def test_both_headers_are_taken_by_all_compilers(program, _):
     """With every function in the program, with none, and as the library itself."""
-    source = '#define _POSIX_C_SOURCE 200809L\n#include "snapd.h"\n#include "snapd_segment.h"\nint main(void) { return 0; }\n'
+    source = (
+        '#define _POSIX_C_SOURCE 200809L\n#include "snapd.h"\n#include "snapd_segment.h"\n'
+        'int main(void) { return 0; }\n'
+    )
     strict = [it for it in STRICT if it != "-std=c99"]
     found = [it for it in COMPILERS if shutil.which(it)]
     for compiler in found:

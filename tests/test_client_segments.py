@@ -1,5 +1,5 @@
-"""A segment that keeps its number, and waits for numbers, of both clients in Python and of the one in C: against the server in
-plain Python and against peers that misbehave."""
+"""A segment that keeps its number, and waits for numbers, of both clients in Python and of the one in C: against the
+server in plain Python and against peers that misbehave."""
 
 import pickle
 import threading
@@ -220,8 +220,10 @@ def test_the_c_client_puts_and_gets(_, __):
         with Peer(answers) as peer:
             assert ask(peer.address, "put", 0, "hi") == ended
         assert peer.heard == [messages.status() + messages.update(0, 9, b"hi")]
-    for reply, count, words in [(part(1, 5), 7, ("get", 0)), (snapshot((5, b"")), 7, ("get", 0)), (framed("8400"), 7, ("get", 0)),
-                                (stored(1), 5, ("put", 0, "hi")), (framed("8301" + "00" * 8), 5, ("put", 0, "hi"))]:
+    for reply, count, words in [
+        (part(1, 5), 7, ("get", 0)), (snapshot((5, b"")), 7, ("get", 0)), (framed("8400"), 7, ("get", 0)),
+        (stored(1), 5, ("put", 0, "hi")), (framed("8301" + "00" * 8), 5, ("put", 0, "hi")),
+    ]:
         with Peer(says(reply, count)) as peer:
             assert ask(peer.address, *words) == (1, "", "bad reply\n"), words
     with Peer(says(standings((5, False))[:-1], 5, hangs_up)) as peer:
@@ -368,14 +370,18 @@ def test_hostile_replies_to_a_wait(_, __):
             assert type(error) is snapd_client.BadReply and "number 4" in str(error) and client._socket is None
     with Peer(says(one, 5, says(fell, 10))) as peer:
         assert ask(peer.address, "wait", 1000 * PATIENCE, 0, 9) == (1, "segment 0 number 5 fenced 0\n", "bad reply\n")
-    for text in ("8301" + "00" * 8, "8300", "83", "82010000000000000005" + "00" * 4, "8301" + "00" * 8 + "02", "81" + "00" * 8):
+    for text in (
+        "8301" + "00" * 8, "8300", "83", "82010000000000000005" + "00" * 4, "8301" + "00" * 8 + "02", "81" + "00" * 8,
+    ):
         for make, peer in Peer.each(says(framed(text))):
             with peer, make(peer.address) as client:
                 assert type(raised(lambda: client.wait({0: 9}, timeout=PATIENCE))) is snapd_client.BadReply, text
         with Peer(says(framed(text))) as peer:
             assert ask(peer.address, "wait", 1000 * PATIENCE, 0, 9) == (1, "", "bad reply\n")
     # The other segments' numbers don't matter.
-    for make, peer in Peer.each(says(standings((5, False), (9, False)), 5, says(standings((6, False), (1, False)), 10))):
+    for make, peer in Peer.each(
+        says(standings((5, False), (9, False)), 5, says(standings((6, False), (1, False)), 10))
+    ):
         with peer, make(peer.address) as client:
             assert client.wait({0: 6}, timeout=PATIENCE) == {0: 6}
 

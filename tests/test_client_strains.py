@@ -1,5 +1,5 @@
-"""The client in C where a peer hangs up, signals come, few bytes pass at a time, and between its calls: by a program that is
-compiled to end at the first thing that C leaves undefined."""
+"""The client in C where a peer hangs up, signals come, few bytes pass at a time, and between its calls: by a program
+that is compiled to end at the first thing that C leaves undefined."""
 
 import errno
 import subprocess
@@ -56,7 +56,9 @@ def test_bytes_that_pass_one_by_one_and_signals_change_no_answer(_, __):
     for system in ("short", "interrupted"):
         model = oracle.Model(2)
         with oracle.Server(model) as server:
-            results, lines = strained(system, server.address, "fill:300", "put:0", "get:0", "put:1", "status", "wait:1:1")
+            results, lines = strained(
+                system, server.address, "fill:300", "put:0", "get:0", "put:1", "status", "wait:1:1"
+            )
         assert results == [OK] * 6, (system, lines)
         assert [(it.number, it.value) for it in model.segments] == [(1, b"v" * 300)] * 2, system
 
@@ -87,8 +89,10 @@ def test_no_program_inherits_the_connection(_, __):
 
 
 def test_a_reply_that_is_longer_than_an_answer_overruns_nothing(_, __):
-    for step, count, length in (("status", 5, 147), ("status", 5, 66_000), ("update:0:1", 14, 147), ("update:0:1", 14, 66_000),
-                                ("get:0", 7, 66_000), ("get:0", 7, 66_001), ("get:0", 7, 2**32 - 1)):
+    for step, count, length in (
+        ("status", 5, 147), ("status", 5, 66_000), ("update:0:1", 14, 147), ("update:0:1", 14, 66_000),
+        ("get:0", 7, 66_000), ("get:0", 7, 66_001), ("get:0", 7, 2**32 - 1),
+    ):
         with Peer(says(length.to_bytes(4, "big") + b"\x84" * min(length, 70_000), count)) as peer:
             assert strained("plain", peer.address, step)[0] == [BAD_REPLY], (step, length)
 
@@ -106,7 +110,9 @@ def test_a_call_behind_a_wait_has_its_own_time(_, __):
 def test_bytes_between_two_calls_answer_nothing(_, __):
     told = standings((5, False))
     with Peer(says(told + told), says(told)) as peer:
-        assert strained("interrupted", peer.address, "status", "stray", "status", "status", tries=2)[0] == [OK, OK, BAD_REPLY, OK]
+        assert strained("interrupted", peer.address, "status", "stray", "status", "status", tries=2)[0] == [
+            OK, OK, BAD_REPLY, OK,
+        ]
     # An end costs no try.
     with Peer(says(told, then=hangs_up), says(told)) as peer:
         assert strained("interrupted", peer.address, "status", "stray", "status")[0] == [OK] * 3

@@ -50,7 +50,9 @@ def test_a_call_that_is_cancelled_leaves_the_connection_closed(_, __):
                     await comes(lambda: len(client._frames.held) == 9)
                 connection = client._socket
                 await cancelled(call)
-                assert client._socket is None and connection.fileno() == -1 and not client._frames.held and is_forgotten()
+                assert (
+                    client._socket is None and connection.fileno() == -1 and not client._frames.held and is_forgotten()
+                )
             assert await client.scan() == ((0, b""),)
 
     def hears(peer, connection):

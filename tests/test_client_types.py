@@ -61,8 +61,10 @@ def mypy(folder, *words):
     path = shutil.which("mypy")
     if path is None:
         raise Skipped("mypy isn't installed")
-    return subprocess.run([path, "--strict", "--cache-dir", folder / "cache", *words], cwd=folder, env={**ENVIRONMENT, "MYPYPATH":
-                          ENVIRONMENT["PYTHONPATH"]}, capture_output=True, text=True)
+    return subprocess.run(
+        [path, "--strict", "--cache-dir", folder / "cache", *words], cwd=folder,
+        env={**ENVIRONMENT, "MYPYPATH": ENVIRONMENT["PYTHONPATH"]}, capture_output=True, text=True,
+    )
 
 
 def test_the_package_is_typed_as_it_says(program, _):

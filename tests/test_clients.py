@@ -51,7 +51,8 @@ def test_both_clients_send_every_vector_and_read_its_reply(_, __):
     texts = ["stored 1", "stored 1", "refused 4 Conflict 1", "refused 5 OutOfStep 1", "refused 2 NoSegment 2",
              "refused 3 TooLong 4081", "segment 0 number 1 value 6869\nsegment 1 number 0 value -",
              "segment 0 number 1 fenced 0\nsegment 1 number 0 fenced 0",
-             "segment 0 number 1 value 6869\nsegment 1 number 0 value -", "segment 1 number 0 value -", "refused 2 NoSegment 2"]
+             "segment 0 number 1 value 6869\nsegment 1 number 0 value -", "segment 1 number 0 value -",
+             "refused 2 NoSegment 2"]
     words = [("update", 0, 1, "hi"), ("update", 0, 1, "hi"), ("update", 0, 1, "h"), ("update", 0, 3, ""),
              ("update", 2, 1, ""), ("update", 1, 1, "v" * 4081), ("scan",), ("status",),
              ("part", "0003"), ("part", "0002"), ("part", "0004")]
@@ -79,7 +80,8 @@ def call(client, word):
 def test_replies_that_are_none_are_told_apart(_, __):
     none = ["", "81", "81" + "00" * 7, "81" + "80" + "00" * 7, "81" + "00" * 9, "82", "8200", "8211" + "00" * 17 * 12,
             "8201" + "00" * 11, "8201" + "00" * 8 + "00000001", "8201" + "00" * 8 + "00000ff1" + "00" * 4081,
-            "8201" + "80" + "00" * 11, "8201" + "00" * 13, "83", "8300", "8301" + "00" * 8 + "02", "8301" + "80" + "00" * 8,
+            "8201" + "80" + "00" * 11, "8201" + "00" * 13, "83", "8300", "8301" + "00" * 8 + "02",
+            "8301" + "80" + "00" * 8,
             "8301" + "00" * 10, "8302" + "00" * 9, "e0", "e000" + "00" * 8, "e012" + "00" * 8, "e001" + "00" * 7,
             "e001" + "00" * 9, "00", "01", "ff" * 20]
     for text in none:
@@ -93,7 +95,8 @@ def test_replies_that_are_none_are_told_apart(_, __):
                 assert isinstance(raised(client.scan), snapd_client.BadReply)
 
 
-# Scans of some segments of a server of two, after one update of the first: segments, mask, frames, and what comes of it.
+# Scans of some segments of a server of two, after one update of the first: segments, mask, frames,
+# and what comes of it.
 SOME = [
     ([1], "0002", "00000003 04 0002", "0000000f 84 01 01" + "00" * 12, {1: (0, b"")}, "segment 1 number 0 value -\n"),
     ([0], "0001", "00000003 04 0001", "00000011 84 01 00 0000000000000001 00000002 6869", {0: (1, b"hi")},
@@ -147,10 +150,12 @@ def test_the_server_scans_some_segments(snapd, _):
 
 def test_replies_to_scans_of_some_segments_that_are_none(_, __):
     one = "00" * 12
-    none = ["84", "8400", "8401", "8401" + one, "840101" + "00" * 11, "840101" + one + "00", "840201" + one, "840110" + one,
-            "840101" + "80" + "00" * 11, "840101" + "00" * 8 + "00000001", "840101" + "00" * 8 + "00000ff1" + "00" * 4081,
-            "840201" + one + "01" + one, "840201" + one + "00" + one, "8411" + "".join("%02x" % i + one for i in range(17)),
-            "83" + "01" + "00" * 9, "8202" + one * 2]
+    none = [
+        "84", "8400", "8401", "8401" + one, "840101" + "00" * 11, "840101" + one + "00", "840201" + one, "840110" + one,
+        "840101" + "80" + "00" * 11, "840101" + "00" * 8 + "00000001", "840101" + "00" * 8 + "00000ff1" + "00" * 4081,
+        "840201" + one + "01" + one, "840201" + one + "00" + one, "8411" + "".join("%02x" % i + one for i in range(17)),
+        "83" + "01" + "00" * 9, "8202" + one * 2,
+    ]
     for text in none[:-2]:
         error = raised(lambda: messages.reply(bytes.fromhex(text)))
         assert isinstance(error, snapd_client.BadReply), (text, error)
@@ -176,7 +181,9 @@ def test_the_reply_to_a_scan_of_some_segments_answers_nothing_else(_, __):
 
 def test_the_longest_reply_is_read(_, __):
     entries = {i: ((1 << 63) - 1 - i, bytes([i]) * 4080) for i in range(16)}
-    payload = b"\x84\x10" + b"".join(bytes([i]) + n.to_bytes(8, "big") + b"\x00\x00\x0f\xf0" + v for i, (n, v) in entries.items())
+    payload = b"\x84\x10" + b"".join(
+        bytes([i]) + n.to_bytes(8, "big") + b"\x00\x00\x0f\xf0" + v for i, (n, v) in entries.items()
+    )
     assert len(payload) == 65_490
     with Peer(*[says(framed(payload.hex()), 7)] * 2) as peer:
         lines = [f"segment {i} number {n} value {v.hex()}\n" for i, (n, v) in entries.items()]
@@ -270,7 +277,8 @@ def test_words_that_no_message_can_say(_, __):
     client = Client("127.0.0.1:1", tries=1)
     for call_ in (lambda: client.update(256, 1, b""), lambda: client.update(-1, 1, b""),
                   lambda: client.update(0, -1, b""), lambda: client.update(0, 1 << 64, b""),
-                  lambda: client.scan(segments=[]), lambda: client.scan(segments=[16]), lambda: client.scan(segments=[0, -1]),
+                  lambda: client.scan(segments=[]), lambda: client.scan(segments=[16]),
+                  lambda: client.scan(segments=[0, -1]),
                   lambda: client.update(0, 1, b"v" * 65_991), lambda: Client("nowhere"), lambda: Client("a:b"),
                   lambda: Client("a:1", timeout=0), lambda: Client("a:1", tries=0), lambda: Client("a:99999"),
                   lambda: Client("a:0"), lambda: Client(("a", 65_536)), lambda: Client(("a", "b"))):

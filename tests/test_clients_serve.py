@@ -22,7 +22,9 @@ def test_both_clients_ask_all_that_there_is(snapd, _):
         assert client.scan()[1] == (1, LONGEST)
         assert client.status() == ((1, False), (1, False))
         assert ask(server.address, "update", 0, 2, "yo") == (0, "stored 2\n", "")
-        assert ask(server.address, "scan") == (0, f"segment 0 number 2 value 796f\nsegment 1 number 1 value {LONGEST.hex()}\n", "")
+        assert ask(server.address, "scan") == (
+            0, f"segment 0 number 2 value 796f\nsegment 1 number 1 value {LONGEST.hex()}\n", "",
+        )
         assert ask(server.address, "status") == (0, "segment 0 number 2 fenced 0\nsegment 1 number 1 fenced 0\n", "")
         # What `snapd call` prints is the same.
         for word in ("scan", "status"):
@@ -32,11 +34,14 @@ def test_both_clients_ask_all_that_there_is(snapd, _):
 def test_both_clients_are_refused(snapd, _):
     with Server(snapd, *segments(snapd, HI, [(2**63 - 1, b"end")])) as server, Client(server.address) as client:
         for (segment, number, value), wanted, name, detail in [
-            ((2, 1, b""), 2, "NoSegment", 2), ((0, 2, LONGEST + b"v"), 3, "TooLong", 4_081), ((0, 1, b"x"), 4, "Conflict", 1),
+            ((2, 1, b""), 2, "NoSegment", 2), ((0, 2, LONGEST + b"v"), 3, "TooLong", 4_081),
+            ((0, 1, b"x"), 4, "Conflict", 1),
             ((0, 7, b""), 5, "OutOfStep", 1), ((1, 2**63, b""), 9, "Exhausted", 2**63 - 1),
         ]:
             error = raised(lambda: client.update(segment, number, value))
-            assert type(error) is getattr(snapd_client, name) and (error.number, error.detail) == (wanted, detail), error
+            assert (
+                type(error) is getattr(snapd_client, name) and (error.number, error.detail) == (wanted, detail)
+            ), error
             ended = ask(server.address, "update", segment, number, value.decode())
             assert ended == (3, "", f"refused {wanted} {name} {detail}\n"), ended
 
@@ -96,7 +101,9 @@ def test_processes_that_are_forked_off_have_connections_of_their_own(snapd, _):
     for words, of_python in zip(words, (True, False)):
         with Server(snapd, *fresh(snapd, 2)) as server:
             address = [server.address] if of_python else server.address.split(":")
-            job = subprocess.run([*words, *address, "300"], env=ENVIRONMENT, capture_output=True, text=True, timeout=2 * PATIENCE)
+            job = subprocess.run(
+                [*words, *address, "300"], env=ENVIRONMENT, capture_output=True, text=True, timeout=2 * PATIENCE
+            )
             assert (job.returncode, job.stdout, job.stderr) == (0, "", ""), job
 
 
@@ -126,8 +133,10 @@ call.join()
 
 
 def test_a_process_that_is_forked_off_waits_for_no_thread_that_it_has_not(snapd, _):
-    job = subprocess.run([sys.executable, "-W", "ignore", "-c", FORKED_IN_A_CALL], env=ENVIRONMENT, capture_output=True, text=True,
-                         timeout=2 * PATIENCE)
+    job = subprocess.run(
+        [sys.executable, "-W", "ignore", "-c", FORKED_IN_A_CALL], env=ENVIRONMENT, capture_output=True, text=True,
+        timeout=2 * PATIENCE,
+    )
     assert (job.returncode, job.stderr) == (0, ""), job
 
 
@@ -160,8 +169,8 @@ LIVES = ("job", "server", "both") * 3
 
 
 def test_jobs_go_on_where_they_were_while_all_is_killed(snapd, rng):
-    """The worker, the server, and both, each time once the job has got on by some steps: each step is stored once, and the
-    sums are right."""
+    """The worker, the server, and both, each time once the job has got on by some steps: each step is stored once, and
+    the sums are right."""
     files, steps = fresh(snapd, 2), []
     with Restarted(snapd, files) as server:
         for segment, words in enumerate(jobs(server.address)):
@@ -266,8 +275,13 @@ def test_head_of_the_c_client_runs_on_the_server(snapd, _):
     with Server(snapd, *fresh(snapd, 1)) as server:
         port = server.address.split(":")[1]
         path = snapd.folder / "head.c"
-        path.write_text(source.replace("7070", port).replace("...", "(void)0;").replace("uint64_t stored;", "uint64_t stored = 0;"))
-        words = ["gcc", "-std=c99", "-Wall", "-Wextra", "-Werror", "-I", TOP / "clients" / "c", "-o", snapd.folder / "head", path]
+        path.write_text(
+            source.replace("7070", port).replace("...", "(void)0;").replace("uint64_t stored;", "uint64_t stored = 0;")
+        )
+        words = [
+            "gcc", "-std=c99", "-Wall", "-Wextra", "-Werror", "-I", TOP / "clients" / "c", "-o", snapd.folder / "head",
+            path,
+        ]
         subprocess.run(words, check=True)
         assert subprocess.run([snapd.folder / "head"], timeout=PATIENCE).returncode == 0
         assert server.scan() == [(1, b"step 17")]

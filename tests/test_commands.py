@@ -163,7 +163,9 @@ def test_unformatted(snapd, _):
     snapd.file().write_bytes(zeros)
     for command in ("get", "put"):
         snapd(command, "F", stdin="hi").refused(11, "Unformatted", unformatted())
-    snapd("put", "F", "--index", 2, "--count", 3, stdin="hi").refused(11, "Unformatted", unformatted("--index 2 --count 3"))
+    snapd("put", "F", "--index", 2, "--count", 3, stdin="hi").refused(
+        11, "Unformatted", unformatted("--index 2 --count 3")
+    )
     snapd("check", "F").gave(3, "header unformatted\n")
     assert snapd.file().read_bytes() == zeros
     snapd("format", "F", "--index", 2, "--count", 3).gave(0, "formatted 2 of 3\n")
@@ -227,11 +229,16 @@ def test_what_isnt_there_comes_with_its_remedy(snapd, _):
         if words[0] != "format":
             wanted = remedies.failed("F", remedies.MISSING, remedies.no_file("F", place))
             snapd(*words, stdin="hi").gave(1, errors=wanted)
-        for path, remedy in (("nowhere/F", remedies.nowhere("nowhere")), ("a/b/F", remedies.nowhere("a/b")), ("L", remedies.of_nothing("L"))):
+        for path, remedy in (
+            ("nowhere/F", remedies.nowhere("nowhere")), ("a/b/F", remedies.nowhere("a/b")),
+            ("L", remedies.of_nothing("L")),
+        ):
             snapd(*at(words, path), stdin="hi").gave(1, errors=remedies.failed(path, remedies.MISSING, remedy))
     snapd("migrate", "F", "G").gave(1, errors=remedies.failed("F", remedies.MISSING))
     snapd.file("OLD").write_bytes(layout.OLD.holding((1, b"hi")))
-    snapd("migrate", "OLD", "nowhere/F").gave(1, errors=remedies.failed("nowhere/F", remedies.MISSING, remedies.nowhere("nowhere")))
+    snapd("migrate", "OLD", "nowhere/F").gave(
+        1, errors=remedies.failed("nowhere/F", remedies.MISSING, remedies.nowhere("nowhere"))
+    )
     assert sorted(it.name for it in snapd.folder.iterdir()) == ["L", "OLD"]
 
 
@@ -269,7 +276,8 @@ def test_what_is_denied_comes_with_its_remedy(snapd, _):
         os.chown(file, user, user)
         file.chmod(0o400)
         are_denied(WRITERS, "F", "F", file)
-        assert f"user {user} owns it, its mode is 0400, and you are user {user}: give yourself" in remedies.owned("F", file, user)
+        wanted = f"user {user} owns it, its mode is 0400, and you are user {user}: give yourself"
+        assert wanted in remedies.owned("F", file, user)
     assert before == {it: it.read_bytes() for it in snapd.folder.rglob("F")}
 
 
@@ -291,7 +299,9 @@ def test_no_permission(snapd, _):
     snapd, _, run = by_nobody(snapd)
     snapd("put", "F", stdin="hi").gave(0, "stored 1\n")
     data = file.read_bytes()
-    for mode, writers, readers in ((0o444, ("format", "put"), ("get", "check")), (0o000, ("format", "put", "get", "check"), ())):
+    for mode, writers, readers in (
+        (0o444, ("format", "put"), ("get", "check")), (0o000, ("format", "put", "get", "check"), ()),
+    ):
         os.chmod(file, mode)
         for command in writers:
             snapd(command, "F", stdin="hi", **run).failed_with(1, "F: Permission denied")
@@ -360,7 +370,9 @@ def test_help_and_version(snapd, _):
     # The second line says what the program was built from, and whether this build was proved.
     first, second, rest = snapd("--version").output.split(b"\n")
     assert (first, rest) == (b"snapd " + VERSION, b"") and len(second) == 100, second
-    assert re.fullmatch(rb"(not )?proved; ([0-9a-f]{12}\+?|no commit), rattle-kit-\S+ logic [0-9a-f]{16} *", second), second
+    assert re.fullmatch(
+        rb"(not )?proved; ([0-9a-f]{12}\+?|no commit), rattle-kit-\S+ logic [0-9a-f]{16} *", second
+    ), second
     snapd("-V").gave(0, snapd("--version").output)
 
 
@@ -378,7 +390,9 @@ def test_output_that_fails(snapd, _):
         snapd(*words, stdout=write).failed_with(1, "standard output: Broken pipe")
         os.close(write)
     with open("/dev/full", "wb") as full:
-        snapd("put", "F", stdin="yo", stdout=full).failed_with(1, "stored 2", "standard output: No space left on device")
+        snapd("put", "F", stdin="yo", stdout=full).failed_with(
+            1, "stored 2", "standard output: No space left on device"
+        )
         snapd("format", "G", stdout=full).failed_with(1, "standard output: No space left on device")
     snapd("get", "F").gave(0, b"yo")
     snapd("get", "G").gave(0, b"")
@@ -474,7 +488,8 @@ def test_a_folder_that_isnt_synced(snapd, _):
 def putting(snapd, value):
     """A `put` that has its file and has read these bytes of its value. What comes last is its end."""
     put = subprocess.Popen(
-        [snapd.path, "put", "F"], cwd=snapd.folder, stdin=subprocess.PIPE, stdout=subprocess.PIPE, stderr=subprocess.PIPE
+        [snapd.path, "put", "F"], cwd=snapd.folder, stdin=subprocess.PIPE, stdout=subprocess.PIPE,
+        stderr=subprocess.PIPE
     )
     try:
         put.stdin.write(value)

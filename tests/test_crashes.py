@@ -1,7 +1,7 @@
 """Crashes, replayed from outside.
 
-How it works. A real `put` (or `format`, or a migration: tests/test_migrate.py) is run once, and its writes and syncs on the
-file are recorded with their bytes.
+How it works. A real `put` (or `format`, or a migration: tests/test_migrate.py) is run once, and its writes and syncs on
+the file are recorded with their bytes.
 Then the machine is made to crash at every point of that record: each write before the last sync has reached the disk,
 and each write after it is pending. A disk may have kept any part of what is pending, so many files are made, in
 which the pending ranges hold
@@ -173,7 +173,10 @@ def has_failed(run):
     """It was refused as 13, and says which call failed and why."""
     reasons = [f"{call}: Input/output error (os error 5)" for call in ("read", "write", "sync")]
     reasons += ["read: failed to fill whole buffer", "write: failed to write whole buffer"]
-    reasons += ["write: another program wrote it or cut it, and it is left so: never copy onto a file in use: snapd load makes a new folder of a dump"]
+    reasons += [
+        "write: another program wrote it or cut it, and it is left so: never copy onto a file in use: "
+        "snapd load makes a new folder of a dump"
+    ]
     told = [f"snapd: refused 13 DeviceFailed\nsnapd: F: {why}: look after its disk, and try again\n" for why in reasons]
     assert (run.status, run.output) == (3, b"") and run.errors in told, run
 
@@ -237,8 +240,8 @@ def test_killed_at_every_call(snapd, _):
 
 
 def test_killed_two_hundred_times(snapd, random):
-    """A loop of puts is killed two hundred times, each time a moment after some of them were acknowledged: `get` answers the
-    last value that was, or the one that was in flight."""
+    """A loop of puts is killed two hundred times, each time a moment after some of them were acknowledged: `get`
+    answers the last value that was, or the one that was in flight."""
     snapd.formatted()
     loop = 'n=$1; while :; do n=$((n + 1)); printf "value %d" $n | "$0" put F; done'
     number = in_flight = 0

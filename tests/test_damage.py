@@ -64,7 +64,9 @@ def test_first_reason(snapd, _):
         ((number, zeros, length, bad_gate), "gate"),
         ((bad_gate, (gate, b"\0")), "gate"),
     ]:
-        is_refused(snapd, changed(WHOLE, *places), 10, "Damaged", [HEADER, *with_slot(0, f"slot 0 bad {why}"), "answer none"])
+        is_refused(
+            snapd, changed(WHOLE, *places), 10, "Damaged", [HEADER, *with_slot(0, f"slot 0 bad {why}"), "answer none"]
+        )
     # And a bad gate of the slot that nothing was stored in.
     bad_gate = changed(WHOLE, (gate_at(2) + BLOCK - 1, b"\1"))
     is_refused(snapd, bad_gate, 10, "Damaged", [HEADER, *with_slot(2, "slot 2 bad gate"), "answer none"])

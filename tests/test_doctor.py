@@ -23,7 +23,10 @@ from test_locks import locked
 KEPT = re.compile(r"D: its file system is \w+, and keeps locks\n")
 STORES = re.compile(r"D: a store takes (\d+) us \(p50\), (\d+) us \(p99\): 200 stores of 1000 bytes\n")
 SERVE_IT = "D: no segment is missing: serve it with snapd serve ADDR --dir D\n"
-NO_WAIT = "D: no disk was waited for in that time: it is memory, or a disk that answers before it keeps, and a power cut may take what was acknowledged\n"
+NO_WAIT = (
+    "D: no disk was waited for in that time: it is memory, or a disk that answers before it keeps, "
+    "and a power cut may take what was acknowledged\n"
+)
 
 
 def told(snapd, status, *words):
@@ -60,7 +63,10 @@ def test_each_file_is_told_and_left(snapd, _):
 def test_the_folder_is_told_as_a_whole(snapd, _):
     place = folder(snapd, 3)
     (place / name_of(1)).unlink()
-    missing = f"D: segment 1 of 3 is missing: bring its file back, or make a new and empty one with snapd format D/{name_of(1)} --index 1 --count 3\n"
+    missing = (
+        "D: segment 1 of 3 is missing: bring its file back, "
+        f"or make a new and empty one with snapd format D/{name_of(1)} --index 1 --count 3\n"
+    )
     assert lines(snapd, 3) == (at(0, 3, 0) + at(2, 3, 0) + missing, "")
     (place / "twice.seg").write_bytes((place / name_of(2)).read_bytes())
     twice = f"D/twice.seg: it is segment 2 of 3, as D/{name_of(2)} is: move one of them out of D\n"
@@ -75,9 +81,18 @@ def test_what_is_wrong_with_a_file_comes_with_its_remedy(snapd, _):
     cut, torn = bytearray(whole), bytearray(whole)
     cut[layout.HEADER_GATE] = 0
     torn[layout.gate_at(5 % 3)] = 0
-    never = "it was never formatted, or its header is gone: go on with the init or format that was cut off, or move it out of D"
-    foreign = "it is no segment file: bring a copy back if it was one, else move it out of D, or give it a name that doesn't end in .seg"
-    old = f"it has the length of the old format: carry it over with snapd migrate D/{name_of(1)} NEW, and move it out of D"
+    never = (
+        "it was never formatted, or its header is gone: "
+        "go on with the init or format that was cut off, or move it out of D"
+    )
+    foreign = (
+        "it is no segment file: bring a copy back if it was one, else move it out of D, "
+        "or give it a name that doesn't end in .seg"
+    )
+    old = (
+        f"it has the length of the old format: carry it over with snapd migrate D/{name_of(1)} NEW, "
+        "and move it out of D"
+    )
     none = (
         f"segment 1 of 2, but its slots give no answer: see snapd check D/{name_of(1)}, and bring a copy back, "
         f"or save what a slot holds by snapd check D/{name_of(1)} --slot S --value"
@@ -102,8 +117,14 @@ def test_one_bad_file_in_each_place(snapd, _):
     files = [f"D/{name_of(index)}" for index in range(3)]
     fresh = files_in(place)
     told = [at(index, 3, 0) for index in range(3)]
-    never = "it was never formatted, or its header is gone: go on with the init or format that was cut off, or move it out of D"
-    foreign = "it is no segment file: bring a copy back if it was one, else move it out of D, or give it a name that doesn't end in .seg"
+    never = (
+        "it was never formatted, or its header is gone: "
+        "go on with the init or format that was cut off, or move it out of D"
+    )
+    foreign = (
+        "it is no segment file: bring a copy back if it was one, else move it out of D, "
+        "or give it a name that doesn't end in .seg"
+    )
     for bad in range(3):
         whole, name = fresh[name_of(bad)], files[bad]
         closed, torn = bytearray(whole), bytearray(whole)
@@ -130,7 +151,8 @@ def test_one_bad_file_in_each_place(snapd, _):
                 with locked(place / name_of(other), fcntl.LOCK_EX):
                     beside = [*row[:other], used, *row[other + 1 :]]
                     assert lines(snapd, 3) == ("".join(beside), ""), (bad, other, line)
-                    # A server is kept out by the lock, or finds the bad file before: by name, and then in its own order.
+                    # A server is kept out by the lock, or finds the bad file before: by name,
+                    # and then in its own order.
                     run = snapd("serve", "127.0.0.1:0", "--dir", "D")
                     is_first = bad < other and number != 10
                     assert run.status == (3 if is_first else 1) and files[bad if is_first else other] in run.errors, run
@@ -286,7 +308,10 @@ def test_locks_that_keep_nobody_out(snapd, _):
     folder(snapd, 2)
     env = {"LD_PRELOAD": library("flocks"), "FLOCKS": "0"}
     run = snapd("doctor", "D", env=env)
-    nobody = r"D: its file system is \w+, whose locks keep nobody out: two servers could have one file, so serve from another\n"
+    nobody = (
+        r"D: its file system is \w+, whose locks keep nobody out: "
+        r"two servers could have one file, so serve from another\n"
+    )
     assert run.status == 3 and re.search(nobody, run.output.decode()), run
     assert run.output.decode().startswith(at(0, 2, 0) + at(1, 2, 0) + SERVE_IT)
     # Beside one that another process would have, if there were locks, and where there is no file yet.
@@ -324,7 +349,9 @@ def test_memory_is_no_disk(snapd, _):
 def test_a_full_disk_is_told(snapd, _):
     place = snapd.file("D")
     place.mkdir()
-    mounted = subprocess.run(["mount", "-t", "tmpfs", "-o", "size=8k", "tmpfs", place], stderr=subprocess.DEVNULL, check=False)
+    mounted = subprocess.run(
+        ["mount", "-t", "tmpfs", "-o", "size=8k", "tmpfs", place], stderr=subprocess.DEVNULL, check=False
+    )
     if mounted.returncode:
         raise Skipped("nothing may be mounted here")
     try:
@@ -412,7 +439,9 @@ def test_a_pipe_that_this_user_may_only_read(snapd, _):
 def test_a_folder_on_a_file_system_that_is_read_only(snapd, _):
     place = snapd.file("D")
     place.mkdir()
-    mounted = subprocess.run(["mount", "-t", "tmpfs", "-o", "size=256k", "tmpfs", place], stderr=subprocess.DEVNULL, check=False)
+    mounted = subprocess.run(
+        ["mount", "-t", "tmpfs", "-o", "size=256k", "tmpfs", place], stderr=subprocess.DEVNULL, check=False
+    )
     if mounted.returncode:
         raise Skipped("nothing may be mounted here")
     try:
@@ -420,7 +449,8 @@ def test_a_folder_on_a_file_system_that_is_read_only(snapd, _):
         subprocess.run(["mount", "-o", "remount,ro", place], check=True)
         front, behind = lines(snapd, 3, "--measure")
         assert front == "".join(
-            at(index, 2, 0) + cannot_serve(index, remedies.READ_ONLY, remedies.read_only(f"D/{name_of(index)}")) for index in range(2)
+            at(index, 2, 0) + cannot_serve(index, remedies.READ_ONLY, remedies.read_only(f"D/{name_of(index)}"))
+            for index in range(2)
         )
         assert behind == f"D: nothing could be stored: {remedies.READ_ONLY}\n" + remedies.read_only("D") + "\n"
         subprocess.run(["mount", "-o", "remount,rw", place], check=True)

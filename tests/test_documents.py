@@ -10,7 +10,10 @@ sys.path.insert(0, str(TOP / "verification"))
 
 import crates_table  # noqa: E402
 
-DOCUMENTS = [*(TOP / it for it in ("README.md", "CHANGELOG.md", "CONTRIBUTING.md", "SECURITY.md")), *sorted((TOP / "docs").glob("*.md"))]
+DOCUMENTS = [
+    *(TOP / it for it in ("README.md", "CHANGELOG.md", "CONTRIBUTING.md", "SECURITY.md")),
+    *sorted((TOP / "docs").glob("*.md")),
+]
 LINK = re.compile(r"\[([^\]]*)\]\(([^)\s]+)\)")
 # [`store`](../crates/snap_segment/src/segment.rt): `any_moment`, `last`
 CITED = re.compile(r"\[`([\w:]+)`\]\(([^)\s]+\.rt)\)((?::|,|, and| and)(?: `[a-z_]+`(?:,| and)?)+)?")
@@ -34,8 +37,16 @@ def test_links_point_at_what_is_there(snapd, random):
 
 def facts_of(head, crate):
     """The names of a function's clauses, and of the facts of the records that these name."""
-    records = re.findall(r"^pub record (\w+)(.*?)(?=^\S|\Z)", "".join(it.read_text() for it in crate.glob("specs/**/*.antt")), re.S | re.M)
-    facts = [fact for name, body in records if re.search(rf"\b{name}\b", head) for fact in re.findall(r"^ +pub (\w+) :", body, re.M)]
+    records = re.findall(
+        r"^pub record (\w+)(.*?)(?=^\S|\Z)", "".join(it.read_text() for it in crate.glob("specs/**/*.antt")),
+        re.S | re.M,
+    )
+    facts = [
+        fact
+        for name, body in records
+        if re.search(rf"\b{name}\b", head)
+        for fact in re.findall(r"^ +pub (\w+) :", body, re.M)
+    ]
     return {*re.findall(r"\bensures (\w+) ", head), *facts}
 
 
@@ -47,7 +58,9 @@ def test_clauses_stand_at_the_functions_that_are_named(snapd, random):
             source = (document.parent / target).read_text()
             name = name.rpartition("::")[2]
             if name[0].isupper():
-                assert re.search(rf"\b(trait|struct|enum|const) {name}\b", source), f"{document.name}: {target} has no {name}"
+                assert re.search(rf"\b(trait|struct|enum|const) {name}\b", source), (
+                    f"{document.name}: {target} has no {name}"
+                )
                 continue
             at = re.search(rf"\bfn {name}\b.*?(?=^\s*(?:pub(?:\([a-z]+\))? )?(?:const )?fn |\Z)", source, re.S | re.M)
             assert at, f"{document.name}: there is no function {name} in {target}"
@@ -63,9 +76,9 @@ def test_definitions_stand_where_they_are_named(snapd, random):
         for name, target in DEFINED.findall(document.read_text()):
             source = (document.parent / target).read_text()
             word = re.escape(name)
-            assert re.search(rf"^ *(?:pub )?(?:abbrev |unfoldable )?(?:pub )?(?:record |data )?{word}(?= |$)", source, re.M), (
-                f"{document.name}: {target} has no {name}"
-            )
+            assert re.search(
+                rf"^ *(?:pub )?(?:abbrev |unfoldable )?(?:pub )?(?:record |data )?{word}(?= |$)", source, re.M
+            ), f"{document.name}: {target} has no {name}"
 
 
 def test_what_is_promised_is_in_the_printed_table_of_contracts(snapd, random):
@@ -151,16 +164,19 @@ IN_NO_ROW = {
         ("snap_devices/src/file.rt", "failures len from"),
         ("snap_server/src/announce.rt", "announce"), ("snap_server/src/worker.rt", "work_off"),
         ("snapd/src/folder.rt", "from"), ("snap_server/src/unix.rt", "from"),
-        ("snap_server/src/endpoint.rt", "fmt"), ("snap_server/src/listeners.rt", "endpoints"), ("snapd/src/surroundings.rt", "version"),
+        ("snap_server/src/endpoint.rt", "fmt"), ("snap_server/src/listeners.rt", "endpoints"),
+        ("snapd/src/surroundings.rt", "version"),
     ),
     "it puts its arguments together, or gives a part of what is there": (
-        ("snap_serve/src/bind.rt", "new"), ("snap_server/src/intake.rt", "new"),
-        ("snap_server/src/room.rt", "new"), ("snap_server/src/sessions.rt", "places"), ("snap_server/src/socket.rt", "new"),
+        ("snap_serve/src/bind.rt", "new"), ("snap_server/src/acceptor.rt", "new"),
+        ("snap_server/src/connection_limit.rt", "new"), ("snap_server/src/sessions.rt", "places"),
+        ("snap_server/src/socket.rt", "new"),
         ("snapd/src/files.rt", "new place"), ("snapd/src/run_log.rt", "new"), ("snapd/src/store_log.rt", "new"),
         ("snapd/src/update_watch.rt", "new"),
     ),
     "it does nothing, or hands on": (
-        ("snap_serve/src/watch.rt", "begun ended told"), ("snap_serve/src/onlooker.rt", "look stop"), ("snap_serve/src/counted.rt", "close"),
+        ("snap_serve/src/update_observer.rt", "begun ended told"), ("snap_serve/src/observer.rt", "look stop"),
+        ("snap_serve/src/counted.rt", "close"),
         ("snap_server/src/gate.rt", "enter leave"), ("snap_server/src/socket.rt", "flush"),
         ("snap_server/src/stream.rt", "flush"), ("snapd/src/link.rt", "flush"),
     ),
@@ -181,7 +197,11 @@ def heads(source):
 
 def test_each_function_without_a_clause_is_in_a_row(snapd, random):
     crates = TOP / "crates"
-    files = [file for it in GONE_THROUGH for file in ([crates / it] if it.endswith(".rt") else sorted((crates / it).rglob("*.rt")))]
+    files = [
+        file
+        for it in GONE_THROUGH
+        for file in ([crates / it] if it.endswith(".rt") else sorted((crates / it).rglob("*.rt")))
+    ]
     told = {(target.removeprefix("../crates/"), name) for row in unsaid() for name, target, _ in named_in(row[1])}
     excepted = {(file, name) for entries in IN_NO_ROW.values() for file, names in entries for name in names.split()}
     silent = {
@@ -193,7 +213,9 @@ def test_each_function_without_a_clause_is_in_a_row(snapd, random):
     }
     assert len(silent) > 80, len(silent)
     assert not silent - told - excepted, f"no clause says what they do, and no row: {sorted(silent - told - excepted)}"
-    assert not excepted - silent | excepted & told, f"they needn't be excepted: {sorted(excepted - silent | excepted & told)}"
+    assert not excepted - silent | excepted & told, (
+        f"they needn't be excepted: {sorted(excepted - silent | excepted & told)}"
+    )
 
 
 # ---- the tables of docs/ARCHITECTURE.md ----
@@ -204,7 +226,9 @@ ARCHITECTURE = TOP / "docs" / "ARCHITECTURE.md"
 def table(heading, document=ARCHITECTURE):
     """The rows of the first table below this heading, without its head."""
     chapter = document.read_text().split(f"\n## {heading}\n")[1].split("\n## ")[0]
-    rows = [[cell.strip() for cell in line.strip("|").split(" | ")] for line in chapter.splitlines() if line.startswith("|")]
+    rows = [
+        [cell.strip() for cell in line.strip("|").split(" | ")] for line in chapter.splitlines() if line.startswith("|")
+    ]
     assert len(rows) > 2 and all(len(row) == len(rows[0]) for row in rows[2:]), heading
     return rows[2:]
 
@@ -220,7 +244,9 @@ def test_each_crate_stands_in_one_room(snapd, random):
             listed[list(listed)[-1]].append(crate[0])
     assert list(told.items()) == list(listed.items())
     crates = sum(listed.values(), [])
-    assert sorted(crates) == sorted(it.parent.name for it in (TOP / "crates").glob("*/src")), "a crate twice or in no room"
+    assert sorted(crates) == sorted(it.parent.name for it in (TOP / "crates").glob("*/src")), (
+        "a crate twice or in no room"
+    )
 
 
 def test_the_table_of_crates_is_as_its_script_writes_it(snapd, random):
@@ -236,7 +262,9 @@ def constant(name, file):
     assert stated, f"{file} has no number {name}"
 
     def beside(word):
-        return str(next(constant(word[0], it) for it in file.parent.glob("*.rt") if f"const {word[0]}: " in it.read_text()))
+        return str(
+            next(constant(word[0], it) for it in file.parent.glob("*.rt") if f"const {word[0]}: " in it.read_text())
+        )
 
     return eval(re.sub(r"[A-Z][A-Z_]+", beside, stated[1]))
 
@@ -271,7 +299,9 @@ PUBLIC = re.compile(r"^pub (?:struct|enum|trait|type|union) (\w+)", re.M)
 def public_types(crate):
     """The types and traits that a library of this checkout shows and has itself."""
     source = (crate / "src" / "lib.rt").read_text()
-    handed = [(path, name) for path, names, one in HANDED_ON.findall(source) for name in re.findall(r"\w+", names or one)]
+    handed = [
+        (path, name) for path, names, one in HANDED_ON.findall(source) for name in re.findall(r"\w+", names or one)
+    ]
     own = {name for path, name in handed if not path.startswith("snap_") and name[0].isupper() and not name.isupper()}
     return own | set(PUBLIC.findall(source))
 
@@ -285,9 +315,11 @@ def test_a_public_type_has_a_name_of_its_own(snapd, random):
     assert {name: crates for name, crates in homes.items() if len(crates) > 1} == TWICE
 
 
-# Crates of laws, which have no code: their contracts name what the laws are of, and `snap_restart` speaks in the words of `snap_cut`.
-OF_LAWS = {"snap_cut", "snap_told"}
-# Crates of the kit that a contract has to name for a trait of another one: `http_server::Service` is called with a request of `http`.
+# Crates with laws, which are contracts of functions that do nothing: they name the crates
+# that the laws are of.
+OF_LAWS = {"snap_restart", "snap_laws"}
+# Crates of the kit that a contract has to name for a trait of another one:
+# `http_server::Service` is called with a request of `http`.
 OF_A_TRAIT = {"snap_http": {"http"}}
 OF_CONTRACTS = re.compile(r"\buse Rattle\.(\w+)\.")
 
@@ -298,25 +330,52 @@ def test_a_contract_names_no_crate_that_the_code_beside_it_does_not_use(snapd, r
         contracts = sources + "".join(it.read_text() for it in crate.glob("specs/**/*.antt"))
         code = re.sub(r"^ *(ghost use .*|//.*)$", "", sources, flags=re.M)
         used = set(re.findall(r"\b(\w+)::", code)) | set(re.findall(r"^ *(?:pub )?use (\w+);", code, re.M))
-        strange = set(OF_CONTRACTS.findall(contracts)) - used - OF_LAWS - OF_A_TRAIT.get(crate.name, set()) - {crate.name, "std"}
+        known = used | OF_LAWS | OF_A_TRAIT.get(crate.name, set()) | {crate.name, "std"}
+        strange = set(OF_CONTRACTS.findall(contracts)) - known
         assert not strange, (crate.name, strange)
 
 
 def test_above_the_registers_nobody_names_their_table(snapd, random):
-    above = [it for it in TOP.glob("crates/*/*/**/*") if it.suffix in (".rt", ".antt") and "snap_register" not in it.parts]
+    above = [
+        it for it in TOP.glob("crates/*/*/**/*") if it.suffix in (".rt", ".antt") and "snap_register" not in it.parts
+    ]
     assert len(above) > 1000
     assert not [it for it in above if "out" not in it.parts and "atomic_table" in it.read_text()]
 
 
 def test_files_are_called_by_nouns(snapd, random):
-    """No file of code, definitions or lemmas has the name of an activity; the status of a writer is its standing, and a
-    snapshot of figures is a reading."""
-    files = [it for part in ("src", "specs", "proofs") for it in TOP.glob(f"crates/*/{part}/**/*") if it.suffix in (".rt", ".antt")]
+    """No file of code, definitions or lemmas has the name of an activity."""
+    files = [
+        it
+        for part in ("src", "specs", "proofs")
+        for it in TOP.glob(f"crates/*/{part}/**/*")
+        if it.suffix in (".rt", ".antt")
+    ]
     assert len(files) > 500
-    assert {it.name for it in files if it.stem.lower().endswith("ing")} == {"standing.rt", "reading.rt"}
+    assert {it.name for it in files if it.stem.lower().endswith("ing")} == set()
 
 
-# ---- how long the documents are ----
+# ---- how long the lines and the documents are ----
+
+# What `rt fmt` writes in one line, however long it is: by file, how such a line begins.
+LONGER = {"crates/snap_persist/src/laws.rt": "#[tactic("}
+
+
+def test_lines_have_120_columns_at_most(snapd, random):
+    """Those of code, scripts and contracts. A must-fail edit has the lines of what it changes."""
+    run = subprocess.run(["git", "ls-files"], cwd=TOP, capture_output=True, text=True, check=True)
+    kinds = (".py", ".c", ".h", ".rt", ".antt", ".sh", "Makefile")
+    files = [it for it in run.stdout.splitlines() if it.endswith(kinds) and (TOP / it).exists()]
+    assert len(files) > 1000
+    long = []
+    for file in files:
+        begins = LONGER.get(file)
+        for at, line in enumerate((TOP / file).read_text().split("\n"), 1):
+            if len(line) > 120 and not (begins and line.startswith(begins)):
+                long.append(f"{file}:{at}")
+    assert not long, long
+
+
 
 def test_figures_of_readme_are_those_of_performance(snapd, random):
     """The registers' memory, by the formula of PERFORMANCE, and how long a proof of everything takes."""
@@ -331,10 +390,13 @@ def test_figures_of_readme_are_those_of_performance(snapd, random):
     assert f"| `make prove`, from nothing: reckoned | {minutes} |" in performance, minutes
 
 
-# The most words that a document may have, or several together: what one reads in an evening. What is added to one is cut in it.
+# The most words that a document may have, or several together: what one reads in an evening.
+# What is added to one is cut in it.
 MOST_WORDS = {
-    "README.md": 1_470, "SECURITY.md": 200, "docs/TOUR.md": 1_500, "docs/READING.md": 1_080, "docs/PROMISES.md": 3_920, "docs/UNPROVED.md": 3_670,
-    "docs/FORMATS.md": 6_410, "docs/RECIPES.md docs/REPLICATION.md": 5_840, "docs/PERFORMANCE.md docs/COMPARISON.md": 2_430,
+    "README.md": 1_386, "SECURITY.md": 200, "docs/TOUR.md": 1_500, "docs/READING.md": 1_080, "docs/PROMISES.md": 3_920,
+    "docs/UNPROVED.md": 3_670,
+    "docs/FORMATS.md": 6_410, "docs/RECIPES.md docs/REPLICATION.md": 5_840,
+    "docs/PERFORMANCE.md docs/COMPARISON.md": 2_430,
     "docs/DECISIONS.md": 2_610, "docs/ARCHITECTURE.md": 2_410, "CONTRIBUTING.md CHANGELOG.md": 2_040,
     "clients/c/README.md clients/python/README.md": 1_570,
 }

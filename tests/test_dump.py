@@ -1,4 +1,5 @@
-"""What is in a server or in files, carried elsewhere: `snapd dump` prints it as one document, and `snapd load` makes a folder of it."""
+"""What is in a server or in files, carried elsewhere: `snapd dump` prints it as one document,
+and `snapd load` makes a folder of it."""
 
 import base64
 import calendar
@@ -38,7 +39,10 @@ TOO_LONG = "it is longer than any dump: give what snapd dump printed"
 LAST = 1 << 63
 # What a segment may have at most, in text and not; and a text with each kind of escape.
 LONGEST = [bytes([31]) * 4_080, b"\xff" * 4_080, b'"' * 4_080, "ü€😀".encode() * 453 + b"123"]
-ODD = [b"", b"state", b"\x00\x01\x02", b"\xff\xfe", b'"\\/\x08\x0c\n\r\t\x1f\x7f', "ünï\u2028code 😀".encode(), b"\xed\xa0\x80", b"-"]
+ODD = [
+    b"", b"state", b"\x00\x01\x02", b"\xff\xfe", b'"\\/\x08\x0c\n\r\t\x1f\x7f', "ünï\u2028code 😀".encode(),
+    b"\xed\xa0\x80", b"-",
+]
 
 
 # ---- the document, from docs/FORMATS.md ----
@@ -61,7 +65,9 @@ def sealed(lines):
 
 
 def lines_of(entries, when=TIME, count=None):
-    rows = ",\n".join(f'{{"segment":{index},"number":{number},{shown(value)}}}' for index, (number, value) in enumerate(entries))
+    rows = ",\n".join(
+        f'{{"segment":{index},"number":{number},{shown(value)}}}' for index, (number, value) in enumerate(entries)
+    )
     count = len(entries) if count is None else count
     return f'{{"format":"snapd dump","version":1,"time":{quoted(when)},"count":{count},"segments":[\n{rows}\n'.encode()
 
@@ -168,7 +174,9 @@ def test_the_largest_dump_is_loaded(snapd, _):
 def test_the_checksum_is_that_of_a_shell(snapd, _):
     folder(snapd, ODD_ENTRIES)
     write(snapd, snapd("dump", "D").output)
-    shell = subprocess.run("head -n -1 dump | sha256sum | cut -d ' ' -f 1", shell=True, cwd=snapd.folder, capture_output=True)
+    shell = subprocess.run(
+        "head -n -1 dump | sha256sum | cut -d ' ' -f 1", shell=True, cwd=snapd.folder, capture_output=True
+    )
     assert json.loads(snapd.file("dump").read_bytes())["sha256"].encode() == shell.stdout.strip()
 
 
@@ -207,8 +215,8 @@ def test_a_loaded_folder_goes_on(snapd, _):
 # ---- dumps of servers ----
 
 def test_dumps_beside_sixteen_writers(snapd, rng):
-    """Each dump is one moment, that holds all that was acknowledged before it began and nothing that was begun after it ended; and
-    what is loaded elsewhere is served as it was dumped."""
+    """Each dump is one moment, that holds all that was acknowledged before it began and nothing that was begun after it
+    ended; and what is loaded elsewhere is served as it was dumped."""
     load, dumps, over = Load(16, rng), [], threading.Event()
 
     def dump(address):
@@ -250,7 +258,10 @@ def test_a_fenced_segment_is_dumped_as_it_was(snapd, _):
 
 def test_a_server_that_gives_no_answer(snapd, _):
     none = "snapd: 127.0.0.1:1: no connection to the server could be made\n"
-    none += "snapd: 127.0.0.1:1: Connection refused (os error 111): nobody listens there: start snapd serve there, or wait for it with --wait\n"
+    none += (
+        "snapd: 127.0.0.1:1: Connection refused (os error 111): nobody listens there: "
+        "start snapd serve there, or wait for it with --wait\n"
+    )
     snapd("dump", "127.0.0.1:1").gave(1, errors=none)
     snapd("dump", "127.0.0.1:1", "--tries", 3, "--timeout", 5).gave(1, errors=none)
     with Server(snapd, *fresh(snapd, 2)) as server:
@@ -376,7 +387,8 @@ def test_documents_of_others(snapd, _):
     two = [(7, b"hi"), (1, b"\x00\xff")]
     lines = lines_of(two)
     foreign = [
-        lines_of([]), lines_of([(0, b"")] * 17), lines_of(two, count=1), lines_of(two, count=3), lines_of(two, count=16),
+        lines_of([]), lines_of([(0, b"")] * 17), lines_of(two, count=1), lines_of(two, count=3),
+        lines_of(two, count=16),
         lines_of([(LAST, b"")]), lines_of([((1 << 64) - 1, b"")]), lines_of([(1 << 64, b"")]), lines_of([(-1, b"")]),
         lines_of([(1, b"x" * 4_081)]), lines_of([(1, b"\xff" * 4_081)]),
         lines.replace(b'"segment":1', b'"segment":2'), lines.replace(b'"segment":0', b'"segment":1'),
@@ -385,20 +397,27 @@ def test_documents_of_others(snapd, _):
         lines.replace(b'"text":"hi"', b'"base64":"aGk="'), lines.replace(b'"base64":"AP8="', b'"base64":"AP8"'),
         lines.replace(b'"base64":"AP8="', b'"base64":"AP9="'), lines.replace(b'"base64":"AP8="', b'"text":"\xff"'),
         lines.replace(b'"text":"hi"', b'"text":"\\u0068i"'), lines.replace(b'"text":"hi"', b'"text":"hi","text":"hi"'),
-        lines.replace(b'"text":"hi"', b'"TEXT":"hi"'), lines.replace(b',"text"', b', "text"'), lines.replace(b"\n", b"\r\n"),
-        lines.replace(b"\n", b""), lines.replace(b"},\n{", b"}\n,{"), lines.replace(b"},", b"}"), lines[:-1], lines + b"\n",
+        lines.replace(b'"text":"hi"', b'"TEXT":"hi"'), lines.replace(b',"text"', b', "text"'),
+        lines.replace(b"\n", b"\r\n"), lines.replace(b"\n", b""), lines.replace(b"},\n{", b"}\n,{"),
+        lines.replace(b"},", b"}"), lines[:-1], lines + b"\n",
         lines.replace(b'"count":2', b'"count":2,"more":[[[[]]]]'), lines.replace(TIME.encode(), b"\xff"),
-        lines.replace(b'"time":"' + TIME.encode() + b'",', b""), lines.replace(b'"version":1', b'"version":1,"version":1'),
+        lines.replace(b'"time":"' + TIME.encode() + b'",', b""),
+        lines.replace(b'"version":1', b'"version":1,"version":1'),
         lines[: lines.index(b"\n")], lines[: lines.index(b"[") + 1] + b"[" * 100_000,
     ]
     for text, run in zip(foreign, batch(snapd, map(sealed, foreign))):
         assert run.errors == f"snapd: standard input: {FOREIGN}\n" and run.status == 3, (text[:300], run)
-    for run in batch(snapd, [sealed(lines.replace(b'"version":1', b'"version":' + it)) for it in (b"2", b"10", b"0", b"-1")]):
+    for run in batch(
+        snapd, [sealed(lines.replace(b'"version":1', b'"version":' + it)) for it in (b"2", b"10", b"0", b"-1")]
+    ):
         refused(run, "standard input", OTHER_VERSION)
     # Also where it has no end.
     for run in batch(snapd, [b'{"format":"snapd dump","version":2,']):
         refused(run, "standard input", OTHER_VERSION)
-    others = [b"x", b"{}", b"\x00" * 100, b" " + SMALL, SMALL.lower().replace(b"snapd dump", b"snapd scan"), b'{"segments":[]}\n']
+    others = [
+        b"x", b"{}", b"\x00" * 100, b" " + SMALL, SMALL.lower().replace(b"snapd dump", b"snapd scan"),
+        b'{"segments":[]}\n',
+    ]
     for run in batch(snapd, others):
         refused(run, "standard input", NO_DUMP)
     # Any text may be its time.
@@ -413,7 +432,10 @@ def test_a_hostile_document(snapd, _):
 
     row = b'{"segment":0,"number":0,"text":""},\n'
     endless = lines_of([(0, b"")], count=16)[:-1] + row * 20_000
-    for text, why in ((endless[: 1 << 20], CUT), (sealed(endless[: (1 << 20) - 78]), FOREIGN), (b'{"format":"snapd dump",' * 60_000, TOO_LONG)):
+    for text, why in (
+        (endless[: 1 << 20], CUT), (sealed(endless[: (1 << 20) - 78]), FOREIGN),
+        (b'{"format":"snapd dump",' * 60_000, TOO_LONG),
+    ):
         refused(snapd("load", "E", write(snapd, text), preexec_fn=limit), "dump", why)
     with open("/dev/zero", "rb") as zeros:
         refused(snapd("load", "E", "-", stdin=zeros, preexec_fn=limit), "standard input", TOO_LONG)
@@ -451,7 +473,9 @@ def test_folders_that_are_there(snapd, _):
     refused(snapd("load", "other/", "dump"), "other", taken)
     snapd("load", "dump", "dump").gave(1, errors="snapd: dump: Not a directory (os error 20)\n")
     snapd("load", "dump/E", "dump").gave(1, errors="snapd: dump/E: Not a directory (os error 20)\n")
-    snapd("load", "none/E", "dump").gave(1, errors=remedies.failed("none/E.loading", remedies.MISSING, remedies.nowhere("none")))
+    snapd("load", "none/E", "dump").gave(
+        1, errors=remedies.failed("none/E.loading", remedies.MISSING, remedies.nowhere("none"))
+    )
     for name in (".", "..", "/", "", "other/..", "./", "./.", "/."):
         snapd("load", name, "dump").failed_with(3, "it has no name of its own")
     assert sorted(it.name for it in snapd.folder.iterdir()) == ["dump", "empty", "other"]
@@ -479,12 +503,16 @@ def test_what_no_load_left_is_spared(snapd, _):
         left.mkdir()
         (left / name_of(0)).write_bytes(b"x")
         (left / name).write_bytes(b"y")
-        snapd("load", "E", "dump").gave(3, errors=f"snapd: E.loading/{name}: it is not what a load leaves: move it out of there\n")
+        snapd("load", "E", "dump").gave(
+            3, errors=f"snapd: E.loading/{name}: it is not what a load leaves: move it out of there\n"
+        )
         assert files_in(left) == {name_of(0): b"x", name: b"y"}
         shutil.rmtree(left)
     left.mkdir()
     (left / os.fsdecode(b"\xff")).write_bytes(b"")
-    snapd("load", "E", "dump").gave(3, errors="snapd: E.loading: it has a file whose name is no text: move it out of there\n")
+    snapd("load", "E", "dump").gave(
+        3, errors="snapd: E.loading: it has a file whose name is no text: move it out of there\n"
+    )
     shutil.rmtree(left)
     (left / name_of(0)).mkdir(parents=True)
     snapd("load", "E", "dump").failed_with(1, f"E.loading/{name_of(0)}: ")
@@ -501,7 +529,9 @@ def test_two_loads_at_once(snapd, _):
     left.mkdir()
     descriptor = os.open(left, os.O_RDONLY)
     fcntl.flock(descriptor, fcntl.LOCK_EX)
-    refused(snapd("load", "E", "dump"), "E.loading", "another load is at work there: wait for it, or give another folder")
+    refused(
+        snapd("load", "E", "dump"), "E.loading", "another load is at work there: wait for it, or give another folder"
+    )
     os.close(descriptor)
     for round in range(20):
         runs = [subprocess.Popen([snapd.path, "load", f"L{round}", "dump"], cwd=snapd.folder, stdout=subprocess.PIPE,
@@ -518,7 +548,8 @@ def test_two_loads_at_once(snapd, _):
 
 
 def test_killed_two_hundred_times(snapd, rng):
-    """A load is killed at a random moment, again and again. Then the folder isn't there, or is there whole; and a load makes it."""
+    """A load is killed at a random moment, again and again. Then the folder isn't there, or is there whole;
+    and a load makes it."""
     entries = [(number + 1, b"%d" % number * 500) for number in range(4)]
     write(snapd, document(entries))
     place, left, whole = snapd.file("E"), snapd.file("E.loading"), files_of(entries)
@@ -580,7 +611,9 @@ def test_output_that_fails(snapd, _):
     assert not snapd.file("E").exists()
     for closed in ("<&-", ">&-", "2>&-"):
         for words in ("dump D", "load F dump"):
-            shell = subprocess.run(f"'{snapd.path}' {words} {closed}", shell=True, cwd=snapd.folder, capture_output=True)
+            shell = subprocess.run(
+                f"'{snapd.path}' {words} {closed}", shell=True, cwd=snapd.folder, capture_output=True
+            )
             assert shell.returncode == 1, (closed, words, shell)
     assert not snapd.file("F").exists()
 

@@ -1,4 +1,5 @@
-"""Commands on files whose standard input, output or error fails at any byte: how they end, what they say, and what the files hold then."""
+"""Commands on files whose standard input, output or error fails at any byte: how they end, what they say,
+and what the files hold then."""
 
 import errno
 import shutil
@@ -26,8 +27,8 @@ def test_an_input_that_fails_changes_nothing(snapd, _):
     assert (after.st_mtime_ns, after.st_ctime_ns) == (before.st_mtime_ns, before.st_ctime_ns)
 
 
-# What each command prints on a file that holds `hi` as number 1, or makes; what is said where that can't be printed whole, and what `get`
-# prints of the file then.
+# What each command prints on a file that holds `hi` as number 1, or makes; what is said where that can't be printed
+# whole, and what `get` prints of the file then.
 LINES = [
     ("get F", "hi", LOST, "F", "hi"),
     ("put F", "stored 2\n", LOST.replace("snapd: ", "snapd: stored 2, but "), "F", "yo"),
@@ -80,7 +81,8 @@ def test_errors_that_can_not_be_written(snapd, _):
 
 FAILED = "snapd: refused 13 DeviceFailed\n"
 IN_VAIN = "look after its disk, and try again\n"
-# What `get F` may say where an allocation is refused: of a file that was never formatted, and of one that can't be read.
+# What `get F` may say where an allocation is refused: of a file that was never formatted,
+# and of one that can't be read.
 TEXTS = {
     "format": {"snapd: refused 8 NoMemory\n", REFUSED, "snapd: refused 11 Unformatted\n"},
     "disk": {

@@ -1,4 +1,4 @@
-"""A folder with the files of all segments: made by `snapd init`, as often as it is run, and served by `snapd serve --dir`."""
+"""A folder with all segments' files: made by `snapd init`, as often as it is run, and served by `snapd serve --dir`."""
 
 import fcntl
 import os
@@ -115,8 +115,8 @@ def test_init_goes_on_where_it_was_cut_off(snapd, _):
     before = files_in(place)
     missing = ", ".join(f"D/{name_of(index)}" for index in range(4))
     snapd("init", "D", "--count", 5).gave(3, errors=said(
-        f"{missing}: missing or never formatted, though D/{name_of(4)} holds number 1: restore what is missing from a backup, or make it "
-        "new and empty with snapd init D --count 5 --missing-empty"
+        f"{missing}: missing or never formatted, though D/{name_of(4)} holds number 1: "
+        "restore what is missing from a backup, or make it new and empty with snapd init D --count 5 --missing-empty"
     ))
     assert files_in(place) == before
     snapd("init", "D", "--count", 5, "--missing-empty").gave(0, made(5, kept=[(4, 1)]))
@@ -128,7 +128,8 @@ def test_init_goes_on_where_the_slots_are_torn(snapd, _):
     place = folder(snapd, 1)
     whole = fresh_files(1)[name_of(0)]
     several = {5_000: 1, 12_288: 0xA5, 16_384: 2}
-    for places in ({0: 0x11}, {4_096: 0x11}, {4_097: 1}, {8_200: 0xFF}, {12_288: 0xA5}, {20_480: 1}, {28_671: 1}, several):
+    alone = {0: 0x11}, {4_096: 0x11}, {4_097: 1}, {8_200: 0xFF}, {12_288: 0xA5}, {20_480: 1}, {28_671: 1}
+    for places in (*alone, several):
         torn = bytearray(whole)
         torn[layout.HEADER_GATE] = 0
         for at, byte in places.items():
@@ -197,7 +198,10 @@ def test_init_refuses_a_folder_of_more_segments(snapd, _):
         for index in lost:
             (place / name_of(index)).unlink(missing_ok=True)
         first = f"D/{name_of(len(lost))}"
-        line = f"{first}: it is of 4 segments, and --count is 5: give --count 4, or move it out of there; a folder of more is made of a dump, by snapd load"
+        line = (
+            f"{first}: it is of 4 segments, and --count is 5: give --count 4, or move it out of there; "
+            "a folder of more is made of a dump, by snapd load"
+        )
         snapd("init", "D", "--count", 5).gave(3, errors=said(line))
         assert files_in(place) == {name: data for name, data in before.items() if (place / name).exists()}
     snapd("init", "D", "--count", 4).gave(0, made(4, kept=[(3, 0)]))
@@ -300,7 +304,8 @@ def test_init_with_closed_streams_or_short_files(snapd, _):
             ["sh", "-c", f'exec "$0" init D {stream}>&-', snapd.path], cwd=snapd.folder, capture_output=True,
         )
         assert run.returncode == 1, run
-    run = subprocess.run(["sh", "-c", 'ulimit -f 1 && exec "$0" init D', snapd.path], cwd=snapd.folder, capture_output=True)
+    words = ["sh", "-c", 'ulimit -f 1 && exec "$0" init D', snapd.path]
+    run = subprocess.run(words, cwd=snapd.folder, capture_output=True)
     assert run.returncode == 1 and b"raise the limit (ulimit -f)" in run.stderr, run
     assert not snapd.file("D").exists()
 
@@ -421,7 +426,10 @@ def test_files_that_are_no_segments(snapd, _):
     file, name = place / "x.seg", "D/x.seg"
     header = bytearray(layout.holding((0, b"")))
     header[11] = 1
-    no_segment = f"{name}: it is no segment file: bring a copy back if it was one, else move it out of D, or give it a name that doesn't end in .seg"
+    no_segment = (
+        f"{name}: it is no segment file: bring a copy back if it was one, else move it out of D, "
+        "or give it a name that doesn't end in .seg"
+    )
     cut = (
         f"{name}: it was never formatted, or its header is gone: "
         "go on with the init or format that was cut off, or move it out of D"

@@ -1,19 +1,22 @@
-"""Which files of a folder are its segments', by their names and by what they say: in which order they are served, and what is said where
-that is none."""
+"""Which files of a folder are its segments', by their names and by what they say: in which order they are served, and
+what is said where that is none."""
 
 import shutil
 
 import segment_file as layout
 from test_folder import made, serve
 
-# What the files a.seg, b.seg and so on say of themselves, each its segment and how many there are; and the order that they are served in,
-# by their places in that list.
+# What the files a.seg, b.seg and so on say of themselves, each its segment and how many there are; and the order that
+# they are served in, by their places in that list.
 ORDERS = [
     ([(0, 1)], [0]),
     ([(2, 3), (0, 3), (1, 3)], [1, 2, 0]),
     ([(it, 16) for it in range(15, -1, -1)], [*range(15, -1, -1)]),
 ]
-NO_SEGMENT = "D/b.seg: it is no segment file: bring a copy back if it was one, else move it out of D, or give it a name that doesn't end in .seg"
+NO_SEGMENT = (
+    "D/b.seg: it is no segment file: bring a copy back if it was one, else move it out of D, "
+    "or give it a name that doesn't end in .seg"
+)
 
 
 def missing(index, count):
@@ -33,7 +36,8 @@ FAULTS = [
     ([(0, 16)], missing(1, 16)),
     ([(1, 2), (0, 2), (1, 2)], twice(1, 2)),
     ([(1, 3), (0, 3), (1, 3)], twice(1, 3)),
-    ([(0, 2), (1, 3), (1, 2)], "D/b.seg: it is of 3 segments, and D/a.seg of 2: move the one that doesn't belong here out of D"),
+    ([(0, 2), (1, 3), (1, 2)],
+     "D/b.seg: it is of 3 segments, and D/a.seg of 2: move the one that doesn't belong here out of D"),
     *(([(0, 2), wrong], NO_SEGMENT) for wrong in ((2, 2), (0, 0), (3, 17), (255, 255))),
 ]
 
@@ -100,7 +104,11 @@ def test_names_of_further_segments(snapd, _):
         (place / name).write_bytes(b"")
         run = snapd("init", "D", "--count", count)
         if is_further:
-            run.gave(3, errors=f"snapd: D/{name}: it is none of {count} segments: give the count that D was made with, or move it out of there\n")
+            run.gave(
+                3,
+                errors=f"snapd: D/{name}: it is none of {count} segments: "
+                "give the count that D was made with, or move it out of there\n",
+            )
             assert [it.name for it in place.iterdir()] == [name]
         else:
             run.gave(0, made(count))

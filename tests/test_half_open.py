@@ -88,7 +88,9 @@ def test_peers_that_vanished_are_found_gone(snapd, _):
         closed.close()
         comes_to(2, server.connections)
         read, under_way = "lost while it was read", "lost while an update was under way"
-        comes_to({named(quiet): read, named(begun): read, named(vanished): under_way, where: under_way}, lambda: ends(server))
+        comes_to(
+            {named(quiet): read, named(begun): read, named(vanished): under_way, where: under_way}, lambda: ends(server)
+        )
         assert answered(silent, snapshot((1, b"hi"), (1, b"hi")))
         disk.says()
         assert received(waits, 13) == stored(4)

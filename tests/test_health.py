@@ -83,5 +83,7 @@ def test_who_doesnt_answer_isnt_healthy(snapd, _):
         address = "127.0.0.1:%d" % peer.getsockname()[1]
         runs = [snapd("call", address, request) for request in ("status", "health")]
         answering.join()
-    why = f"snapd: {address}: what came isn't an answer to the request: is a snapd at the other end?: check the address\n"
+    why = (
+        f"snapd: {address}: what came isn't an answer to the request: is a snapd at the other end?: check the address\n"
+    )
     assert runs == [Run(1, b"", why)] * 2, runs

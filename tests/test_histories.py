@@ -1,5 +1,5 @@
-"""The checker of histories itself (tests/oracle/histories.py): wrong histories one by one, and random small ones against a
-search through all orders."""
+"""The checker of histories itself (tests/oracle/histories.py): wrong histories one by one, and random small ones
+against a search through all orders."""
 
 import itertools
 import pathlib
@@ -34,7 +34,8 @@ def wrote(segment, number, began, ended=inf):
 
 
 def is_explained(updates, scans):
-    """Whether some order of all scans, and of the updates that ended or were seen, explains them: by trying every one."""
+    """Whether some order of all scans, and of the updates that ended or were seen, explains them:
+    by trying every one."""
     seen = [max((it.numbers[segment] for it in scans), default=0) for segment in range(len(START))]
     done = [it for it in updates if it.ended < inf or it.number <= seen[it.segment]]
     for order in itertools.permutations([*done, *scans]):

@@ -15,13 +15,16 @@ import time
 
 from http_place import SeenServer
 from program import Skipped
-from serving import FRESH, LOOPBACK, MALFORMED, OVER_THE_LIMIT, SCAN, STATUS, TOO_LARGE, Server, frame, fresh, free_port, open_files, received, refused
-from serving import segments, snapshot, standings, stored, to_its_end, update
+from serving import FRESH, LOOPBACK, MALFORMED, OVER_THE_LIMIT, SCAN, STATUS, TOO_LARGE, Server, frame, fresh, free_port
+from serving import open_files, received, refused, segments, snapshot, standings, stored, to_its_end, update
 from test_serve_disks import TWO, Disk
 from waiting import PATIENCE, comes_to
 
 PATHS = b"Nothing is here. There is: / /metrics /health /livez /readyz /scan /status /stats /history\n"
-EACH = ("/", "/metrics", "/health", "/livez", "/readyz", "/scan", "/status", "/stats", "/history", "/board.js", "/board.css")
+EACH = (
+    "/", "/metrics", "/health", "/livez", "/readyz", "/scan", "/status", "/stats", "/history", "/board.js",
+    "/board.css",
+)
 
 
 def part(mask):
@@ -53,7 +56,12 @@ def test_metrics_are_those_of_a_known_list_of_requests(snapd, _):
         first = server.metrics()
         for name in ("snapd_requests_total", "snapd_refusals_total", "snapd_updates_total", "snapd_repeats_total"):
             assert not any(numbers(first, name).values()), name
-        assert first["snapd_received_bytes_total"] == first["snapd_sent_bytes_total"] == first["snapd_scan_looks_total"] == "0"
+        assert (
+            first["snapd_received_bytes_total"]
+            == first["snapd_sent_bytes_total"]
+            == first["snapd_scan_looks_total"]
+            == "0"
+        )
         disk.says(f"S2 write fail {errno.ENOSPC}")
         whole = snapshot((2, b"new"), (1, b"x" * 4080), (0, b""))
         named = frame(bytes([0x84, 1, 1]) + (1).to_bytes(8, "big") + (4080).to_bytes(4, "big") + b"x" * 4080)
@@ -78,7 +86,9 @@ def test_metrics_are_those_of_a_known_list_of_requests(snapd, _):
         found = server.metrics()
         kinds = {key.split('"')[1]: value for key, value in found.items() if key.startswith("snapd_requests_total")}
         assert kinds == {"update": "10", "scan": "2", "part": "2", "status": "1"}, kinds
-        refusals = {key.split('"')[1]: int(value) for key, value in found.items() if key.startswith("snapd_refusals_total")}
+        refusals = {
+            key.split('"')[1]: int(value) for key, value in found.items() if key.startswith("snapd_refusals_total")
+        }
         wanted = {"2": 2, "3": 1, "4": 1, "5": 1, "6": 1, "13": 1}
         assert refusals == {str(number): wanted.get(str(number), 0) for number in range(1, 18)}, refusals
         assert (int(found["snapd_received_bytes_total"]), int(found["snapd_sent_bytes_total"])) == (sent, got)
@@ -93,13 +103,18 @@ def test_metrics_are_those_of_a_known_list_of_requests(snapd, _):
 
 
 def test_frames_that_are_no_requests_are_among_the_refusals(snapd, _):
-    """One that is malformed and one above the limit, beside a request that is refused, and by connections of their own."""
+    """One that is malformed and one above the limit, beside a request that is refused,
+    and by connections of their own."""
     no_request = frame(b"\x03\x00")
     with SeenServer(snapd, *segments(snapd, FRESH)) as server:
-        server.ask(no_request + update(0, 9) + no_request + OVER_THE_LIMIT, MALFORMED + refused(5, 0) + MALFORMED + TOO_LARGE)
+        server.ask(
+            no_request + update(0, 9) + no_request + OVER_THE_LIMIT, MALFORMED + refused(5, 0) + MALFORMED + TOO_LARGE
+        )
         server.ask(OVER_THE_LIMIT, TOO_LARGE)
         found = server.metrics()
-        refusals = {key.split('"')[1]: int(value) for key, value in found.items() if key.startswith("snapd_refusals_total")}
+        refusals = {
+            key.split('"')[1]: int(value) for key, value in found.items() if key.startswith("snapd_refusals_total")
+        }
         assert {number: count for number, count in refusals.items() if count} == {"1": 2, "5": 1, "15": 2}, refusals
         assert sum(int(value) for key, value in found.items() if key.startswith("snapd_requests_total")) == 1
 
@@ -128,7 +143,9 @@ def test_a_monitor_takes_the_metrics(snapd, _):
         raise Skipped("promtool isn't here (Debian's package prometheus)")
     with SeenServer(snapd, *fresh(snapd, 3)) as server:
         asked(server, (update(1, 1, b"v"), stored(1)), (SCAN, snapshot((0, b""), (1, b"v"), (0, b""))))
-        checked = subprocess.run(["promtool", "check", "metrics"], input=server.get("/metrics")[2], capture_output=True, check=False)
+        checked = subprocess.run(
+            ["promtool", "check", "metrics"], input=server.get("/metrics")[2], capture_output=True, check=False
+        )
         assert (checked.returncode, checked.stdout, checked.stderr) == (0, b"", b""), checked
 
 
@@ -155,7 +172,8 @@ def test_health_is_told_by_the_status(snapd, _):
 
 
 def test_it_lives_and_is_ready_until_each_segment_is_fenced(snapd, _):
-    """`/readyz` is 200 where one of two is fenced and `/health` is 503, and 503 where both are; `/livez` is 200 all along."""
+    """`/readyz` is 200 where one of two is fenced and `/health` is 503, and 503 where both are;
+    `/livez` is 200 all along."""
     disk = Disk(snapd)
     with SeenServer(snapd, *segments(snapd, TWO, FRESH), env=disk.env) as server:
         statuses = lambda: [server.get(path)[0] for path in ("/livez", "/readyz", "/health")]  # noqa: E731
@@ -167,17 +185,24 @@ def test_it_lives_and_is_ready_until_each_segment_is_fenced(snapd, _):
         server.ask(update(0, 2, b"x"), refused(13, 1))
         assert statuses() == [200, 503, 503]
         assert server.get("/livez")[2] == b"ok\n" and server.get("/readyz")[2] == b"each segment is fenced\n"
-        assert server.get("/livez")[1]["content-type"] == server.get("/readyz")[1]["content-type"] == "text/plain; charset=utf-8"
+        assert (
+            server.get("/livez")[1]["content-type"]
+            == server.get("/readyz")[1]["content-type"]
+            == "text/plain; charset=utf-8"
+        )
 
 
 def test_each_answer_says_when_it_was_made(snapd, _):
-    """A date as HTTP writes it, of the time between the request and its answer: also of what isn't there, and of a refused method."""
+    """A date as HTTP writes it, of the time between the request and its answer: also of what isn't there,
+    and of a refused method."""
     with SeenServer(snapd, *segments(snapd, TWO)) as server:
         for method, path in [("GET", it) for it in EACH] + [("HEAD", "/scan"), ("GET", "/nothing"), ("PUT", "/scan")]:
             before = int(time.time())
             told = server.get(path, method)[1]["date"]
             found = email.utils.parsedate_to_datetime(told)
-            assert email.utils.format_datetime(found, usegmt=True) == told and before <= found.timestamp() <= time.time(), (path, told)
+            assert (
+                email.utils.format_datetime(found, usegmt=True) == told and before <= found.timestamp() <= time.time()
+            ), (path, told)
 
 
 def test_segments_have_the_names_of_their_files(snapd, _):
@@ -191,7 +216,9 @@ def test_segments_have_the_names_of_their_files(snapd, _):
         assert [(it["file"], it["name"]) for it in told] == list(zip(files, ["segment-01", 'b "c"', "d"])), told
         lines = [it for it in server.get("/metrics")[2].decode().splitlines() if it.startswith("snapd_segment_info")]
         names = ["segment-01", 'b \\"c\\"', "d"]
-        assert lines == [f'snapd_segment_info{{segment="{place}",name="{name}"}} 1' for place, name in enumerate(names)], lines
+        assert (
+            lines == [f'snapd_segment_info{{segment="{place}",name="{name}"}} 1' for place, name in enumerate(names)]
+        ), lines
         version = server.document("/stats")["version"]
         assert f'\nsnapd_build_info{{version="{version}"}} 1\n' in server.get("/metrics")[2].decode()
 
@@ -215,14 +242,19 @@ def test_documents_are_those_of_a_call(snapd, _):
         for path, request in (("/scan", "scan"), ("/status", "status")):
             told = snapd("call", server.address, request, "--json")
             assert server.get(path)[2] == told.output and told.status == 0, (path, told)
-        assert server.document("/scan")["segments"][1] == {"segment": 1, "number": 1, "base64": base64.b64encode(b"\x00\xff").decode()}
+        assert server.document("/scan")["segments"][1] == {
+            "segment": 1, "number": 1, "base64": base64.b64encode(b"\x00\xff").decode(),
+        }
 
 
 def test_statistics_say_what_the_metrics_say(snapd, _):
     """The same numbers as one document, and what the server is."""
     files = fresh(snapd, 2)
     with SeenServer(snapd, *files) as server:
-        asked(server, (update(1, 1, b"abc"), stored(1)), (update(1, 1, b"abc"), stored(1)), (update(1, 3), refused(5, 1)), (STATUS, standings((0, False), (1, False))))
+        asked(
+            server, (update(1, 1, b"abc"), stored(1)), (update(1, 1, b"abc"), stored(1)), (update(1, 3), refused(5, 1)),
+            (STATUS, standings((0, False), (1, False))),
+        )
         told = server.document("/stats")
         assert told["requests"] == {"update": 3, "scan": 0, "part": 0, "status": 1}
         assert [it["count"] for it in told["refusals"] if it["count"]] == [1] and len(told["refusals"]) == 17
@@ -241,7 +273,10 @@ def test_head_and_what_is_not_there(snapd, _):
             status, headers, content = server.get(path)
             bare_status, bare_headers, nothing = server.get(path, "HEAD")
             assert status == bare_status == 200 and content and not nothing, path
-            assert headers["content-type"] == bare_headers["content-type"] and headers["x-content-type-options"] == "nosniff"
+            assert (
+                headers["content-type"] == bare_headers["content-type"]
+                and headers["x-content-type-options"] == "nosniff"
+            )
             assert server.get(path + "?a=b")[0] == 200
         for method in ("POST", "PUT", "DELETE", "PATCH", "OPTIONS", "TRACE", "update"):
             status, headers, _ = server.get("/scan", method)
@@ -341,7 +376,8 @@ def test_a_request_in_pieces_and_many_in_one(snapd, _):
 
 
 def test_slow_readers_keep_nobody_from_an_answer(snapd, _):
-    """More connections than there are places, none of which reads: a scrape is answered all the same, and updates too."""
+    """More connections than there are places, none of which reads: a scrape is answered all the same,
+    and updates too."""
     with SeenServer(snapd, *fresh(snapd, 2)) as server:
         with contextlib.ExitStack() as open_ones:
             for _ in range(200):
@@ -357,7 +393,10 @@ def test_slow_readers_keep_nobody_from_an_answer(snapd, _):
 
 def test_all_descriptors_of_browsers_are_reserved(snapd, _):
     """A server with few descriptors takes fewer clients, and both get their answers."""
-    with SeenServer(snapd, *fresh(snapd, 1), scanners=1, descriptors=120) as server, contextlib.ExitStack() as open_ones:
+    with (
+        SeenServer(snapd, *fresh(snapd, 1), scanners=1, descriptors=120) as server,
+        contextlib.ExitStack() as open_ones,
+    ):
         for _ in range(60):
             open_ones.enter_context(server.connect())
         for _ in range(80):
@@ -373,9 +412,13 @@ def shown(url, folder, *more):
     browser = shutil.which("chromium") or shutil.which("chromium-browser") or shutil.which("google-chrome")
     if not browser:
         raise Skipped("no chromium is here (Debian's package chromium)")
-    words = [browser, "--headless=new", "--no-sandbox", "--disable-gpu", "--disable-dev-shm-usage", f"--user-data-dir={folder}/profile",
-             "--timeout=8000", "--virtual-time-budget=4000", *more, "--dump-dom", url]
-    run = subprocess.run(words, capture_output=True, timeout=2 * PATIENCE, check=False, env={**os.environ, "HOME": str(folder)})
+    words = [
+        browser, "--headless=new", "--no-sandbox", "--disable-gpu", "--disable-dev-shm-usage",
+        f"--user-data-dir={folder}/profile", "--timeout=8000", "--virtual-time-budget=4000", *more, "--dump-dom", url,
+    ]
+    run = subprocess.run(
+        words, capture_output=True, timeout=2 * PATIENCE, check=False, env={**os.environ, "HOME": str(folder)}
+    )
     assert run.returncode == 0, run.stderr[-400:]
     return run.stdout.decode()
 
@@ -405,8 +448,8 @@ def writers(server, *segments):
 
 
 def test_the_page_shows_the_board(snapd, _):
-    """By a real browser, while eight writers run: each segment's number and value, the fence, a value that is no text, the largest
-    number but one to the digit, and a value of 4,080 bytes of script as text."""
+    """By a real browser, while eight writers run: each segment's number and value, the fence, a value that is no text,
+    the largest number but one to the digit, and a value of 4,080 bytes of script as text."""
     disk = Disk(snapd)
     script = (b"<script>document.title='run'</script>" * 200)[:4080]
     files = segments(snapd, *[FRESH] * 8, [(6, b""), (7, script)], [(2**63 - 3, b""), (2**63 - 2, b"\x00\xff")], FRESH)
@@ -420,7 +463,9 @@ def test_the_page_shows_the_board(snapd, _):
         digits = page.replace(",", "").replace("\u202f", "").replace("\u00a0", "")
         assert str(2**63 - 2) in digits, page[:2000]
         assert "00ff" in page.replace(" ", "").lower() and page.count(">step ") == 8, page.count(">step ")
-        assert 'data-mark="fenced"' in page and "Fenced: segment 10 (S10)." in page and 'data-wrong="fenced"' in page, page[:2000]
+        assert (
+            'data-mark="fenced"' in page and "Fenced: segment 10 (S10)." in page and 'data-wrong="fenced"' in page
+        ), page[:2000]
 
 
 def test_the_page_shows_the_minutes_before_it(snapd, _):

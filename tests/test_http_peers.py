@@ -1,5 +1,5 @@
-"""Peers of `snapd serve --http` that say nothing, don't read or ask without end: how long they may stay, what they cost, and that
-the others are answered."""
+"""Peers of `snapd serve --http` that say nothing, don't read or ask without end: how long they may stay, what they
+cost, and that the others are answered."""
 
 import contextlib
 import select
@@ -49,7 +49,8 @@ def test_who_does_not_get_on_is_let_go_of_after_ten_seconds(snapd, _):
     One that makes progress stays: by a byte of its request now and then, or by a request."""
     with SeenServer(snapd, *fresh(snapd, 1)) as server, contextlib.ExitStack() as open_ones:
         silent, half, deaf, drips, asks = (
-            open_ones.enter_context(it) for it in (server.call_http(), server.call_http(), narrow(server), server.call_http(), server.call_http())
+            open_ones.enter_context(it)
+            for it in (server.call_http(), server.call_http(), narrow(server), server.call_http(), server.call_http())
         )
         began, ended = {silent: time.monotonic()}, {}
         half.sendall(REQUEST[:10])
@@ -115,7 +116,8 @@ def hog(server, ended):
 
 
 def test_who_asks_without_end_keeps_nobody_waiting(snapd, _):
-    """While one connection has always a request more, others are answered, and so are clients; none waits for many of its answers."""
+    """While one connection has always a request more, others are answered, and so are clients;
+    none waits for many of its answers."""
     with SeenServer(snapd, *fresh(snapd, 1)) as server:
         ended = threading.Event()
         busy = threading.Thread(target=hog, args=(server, ended))

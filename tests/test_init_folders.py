@@ -1,5 +1,5 @@
-"""What `snapd init` does with a folder in which something is wrong: a file was lost, is bad or in use, a call fails, a power cut comes, or
-another init is at work."""
+"""What `snapd init` does with a folder in which something is wrong: a file was lost, is bad or in use, a call fails, a
+power cut comes, or another init is at work."""
 
 import errno
 import fcntl
@@ -45,15 +45,17 @@ def lost(files, sign, number, count, folder="D"):
     """What is said of files that were lost."""
     missing = ", ".join(f"{folder}/{it}" for it in files)
     return (
-        f"snapd: {missing}: missing or never formatted, though {folder}/{sign} holds number {number}: restore what is missing from a "
-        f"backup, or make it new and empty with snapd init {folder} --count {count} --missing-empty\n"
+        f"snapd: {missing}: missing or never formatted, though {folder}/{sign} holds number {number}: "
+        "restore what is missing from a backup, "
+        f"or make it new and empty with snapd init {folder} --count {count} --missing-empty\n"
     )
 
 
 # ---- a file that was lost ----
 
 def test_each_file_that_was_lost(snapd, _):
-    """Of three files each has a value, is new or isn't there: what isn't there is made where nothing was stored, and else refused."""
+    """Of three files each has a value, is new or isn't there: what isn't there is made where nothing was stored,
+    and else refused."""
     for number, numbers in enumerate(itertools.product((None, 0, 7, 8), repeat=3)):
         place = folder(snapd, numbers, f"D{number}")
         before = files_in(place)
@@ -71,7 +73,9 @@ def test_each_file_that_was_lost(snapd, _):
         after = before | {name_of(index): fresh_files(3)[name_of(index)] for index in missing}
         assert files_in(place) == after
         for more in ((), ("--missing-empty",)):
-            init(snapd, 3, *more, folder=place.name).gave(0, made(3, kept=[(index, it or 0) for index, it in enumerate(numbers)]))
+            init(snapd, 3, *more, folder=place.name).gave(
+                0, made(3, kept=[(index, it or 0) for index, it in enumerate(numbers)])
+            )
         assert files_in(place) == after
 
 
@@ -92,7 +96,8 @@ def test_a_file_without_a_header_is_lost_too(snapd, _):
     bare = bytearray(file_of(1, 3, 5))
     bare[layout.HEADER_GATE] = 0
     for first, output, line in (
-        (0, "kept 0 of 3 number 0\n", f"snapd: refused 11 Unformatted\nsnapd: {unformatted('--index 1 --count 3', f'D/{name_of(1)}')}\n"),
+        (0, "kept 0 of 3 number 0\n",
+         f"snapd: refused 11 Unformatted\nsnapd: {unformatted('--index 1 --count 3', f'D/{name_of(1)}')}\n"),
         (None, "", lost([name_of(0)], name_of(1), 5, 3)),
     ):
         place = folder(snapd, (first, None, 0))
@@ -129,7 +134,8 @@ def test_a_boot_script_sees_the_loss(snapd, _):
 
 
 def test_files_of_other_names_are_kept(snapd, _):
-    """A server takes a segment's file by its header, whatever it is called. So does an init, and makes no second one."""
+    """A server takes a segment's file by its header, whatever it is called. So does an init,
+    and makes no second one."""
     place = folder(snapd, (5, 0, 0))
     (place / name_of(0)).rename(place / "pressure.seg")
     before = files_in(place)
@@ -222,7 +228,10 @@ def test_a_file_of_another_count_in_each_place(snapd, _):
         place = folder(snapd, (3, 0, 3))
         (place / name_of(index)).write_bytes(file_of(index, 4, 0))
         before = files_in(place)
-        line = f"D/{name_of(index)}: it is of 4 segments, and --count is 3: give --count 4, or move it out of there; a folder of more is made of a dump, by snapd load"
+        line = (
+            f"D/{name_of(index)}: it is of 4 segments, and --count is 3: give --count 4, or move it out of there; "
+            "a folder of more is made of a dump, by snapd load"
+        )
         init(snapd, 3, "--missing-empty").gave(3, errors=f"snapd: {line}\n")
         assert files_in(place) == before
         shutil.rmtree(place)
@@ -234,7 +243,10 @@ def test_a_file_of_another_count_by_any_name(snapd, _):
         place = folder(snapd, there)
         (place / "a.seg").write_bytes(file_of(1, 4, number))
         before = files_in(place)
-        line = "D/a.seg: it is of 4 segments, and --count is 3: give --count 4, or move it out of there; a folder of more is made of a dump, by snapd load"
+        line = (
+            "D/a.seg: it is of 4 segments, and --count is 3: give --count 4, or move it out of there; "
+            "a folder of more is made of a dump, by snapd load"
+        )
         for word in ((), ("--missing-empty",)):
             init(snapd, 3, *word).gave(3, errors=f"snapd: {line}\n")
             assert files_in(place) == before
@@ -249,12 +261,15 @@ def test_a_file_that_cant_be_read_in_each_place(snapd, _):
         place = folder(snapd, (3, 0, 3))
         env = {"LD_PRELOAD": library("disk_control"), "DISK_CONTROL": str(snapd.file("control"))}
         snapd.file("control").write_text(f"{name_of(index)} read fail {errno.EIO}\n")
-        why = "refused 13 DeviceFailed", f"{name}: read: Input/output error (os error 5): look after its disk, and try again"
+        remedy = f"{name}: read: Input/output error (os error 5): look after its disk, and try again"
+        why = "refused 13 DeviceFailed", remedy
         init(snapd, 3, env=env).gave(3, kept, "".join(f"snapd: {line}\n" for line in why))
         (place / name_of(index)).unlink()
         (place / name_of(index)).mkdir()
         run = init(snapd, 3)
-        assert (run.status, run.output.decode()) == (1, kept) and run.errors.startswith(f"snapd: {name}: Is a directory"), run
+        assert (
+            (run.status, run.output.decode()) == (1, kept) and run.errors.startswith(f"snapd: {name}: Is a directory")
+        ), run
         shutil.rmtree(place)
 
 
@@ -417,13 +432,18 @@ def test_inits_at_once(snapd, _):
     """Of any number each file is made by one; each ends well, or says which file another one has."""
     count = 6
     for round_ in range(12):
-        runs = [subprocess.Popen([snapd.path, "init", "D", "--count", str(count)], cwd=snapd.folder, stdout=subprocess.PIPE,
-                                 stderr=subprocess.PIPE, text=True) for _ in range(4)]
-        told = [(*run.communicate(timeout=PATIENCE), run.returncode) for run in runs]
+        told = four_at_once(snapd, "--count", str(count))
         judge(told, count)
         assert any(status == 0 for _, _, status in told), told
         assert files_in(snapd.file("D")) == fresh_files(count)
         shutil.rmtree(snapd.file("D"))
+
+
+def four_at_once(snapd, *more):
+    """Four inits: the output, the errors and the status of each."""
+    words, how = [snapd.path, "init", "D", *more], {"stdout": subprocess.PIPE, "stderr": subprocess.PIPE, "text": True}
+    runs = [subprocess.Popen(words, cwd=snapd.folder, **how) for _ in range(4)]
+    return [(*run.communicate(timeout=PATIENCE), run.returncode) for run in runs]
 
 
 def judge(told, count):
@@ -436,7 +456,9 @@ def judge(told, count):
         if status == 0:
             assert len(indexes) == count and errors == "", told
         else:
-            assert status == 1 and errors.startswith("snapd: D/") and errors.endswith(": it is in use by another snapd\n"), told
+            assert (
+                status == 1 and errors.startswith("snapd: D/") and errors.endswith(": it is in use by another snapd\n")
+            ), told
 
 
 def test_an_init_beside_one_that_is_stopped(snapd, _):
@@ -465,9 +487,7 @@ def test_a_lost_file_is_made_once(snapd, _):
     """By one of several processes that ask for it."""
     place = folder(snapd, (5, None, 6))
     before = files_in(place)
-    runs = [subprocess.Popen([snapd.path, "init", "D", "--count", "3", "--missing-empty"], cwd=snapd.folder, stdout=subprocess.PIPE,
-                             stderr=subprocess.PIPE, text=True) for _ in range(4)]
-    told = [(*run.communicate(timeout=PATIENCE), run.returncode) for run in runs]
+    told = four_at_once(snapd, "--count", "3", "--missing-empty")
     judge(told, 3)
     assert any(status == 0 for _, _, status in told), told
     assert files_in(place) == before | {name_of(1): fresh_files(3)[name_of(1)]}

@@ -1,5 +1,5 @@
-"""Where `snapd load` puts its folder: what it takes over from an empty one, what it says where it can't, what a power cut may take, and
-two at once."""
+"""Where `snapd load` puts its folder: what it takes over from an empty one, what it says where it can't, what a power
+cut may take, and two at once."""
 
 import copy
 import errno
@@ -112,7 +112,9 @@ def test_what_a_load_left_gets_the_mode_too(snapd, _):
 def test_an_empty_folder_by_any_name(snapd, _):
     dump(snapd)
     snapd.file("o").mkdir()
-    for name in ("E", "E/", "E//", "E/.", "E/./", "./E/.", "E/.//.", "o/../E/.", snapd.file("E"), f"{snapd.file('E')}/."):
+    for name in (
+        "E", "E/", "E//", "E/.", "E/./", "./E/.", "E/.//.", "o/../E/.", snapd.file("E"), f"{snapd.file('E')}/.",
+    ):
         for is_there in (True, False):
             place = snapd.file("E")
             if is_there:
@@ -200,7 +202,9 @@ def mounted(snapd, options):
     """A file system of its own at `disk`."""
     place = snapd.file("disk")
     place.mkdir()
-    mount = subprocess.run(["mount", "-t", "tmpfs", "-o", options, "tmpfs", place], capture_output=True, text=True, check=False)
+    mount = subprocess.run(
+        ["mount", "-t", "tmpfs", "-o", options, "tmpfs", place], capture_output=True, text=True, check=False
+    )
     if mount.returncode != 0:
         raise Skipped(f"no file system can be mounted here: {mount.stderr.strip()}")
     return place
@@ -231,7 +235,8 @@ def test_no_room_and_only_to_be_read(snapd, _):
 
 
 def test_a_place_that_cant_be_replaced(snapd, _):
-    """A mount point, and a link to an empty folder: all is made beside it, and it is said where. Both stay as they are."""
+    """A mount point, and a link to an empty folder: all is made beside it, and it is said where.
+    Both stay as they are."""
     if os.geteuid() != 0:
         raise Skipped("mounting wants root")
     dump(snapd)
@@ -251,8 +256,8 @@ def test_a_place_that_cant_be_replaced(snapd, _):
 
 
 def test_each_call_fails(snapd, _):
-    """Each call in turn, with each error that is a fault of a disk or a file system: the folder isn't there, or is there whole; and the
-    next load makes it."""
+    """Each call in turn, with each error that is a fault of a disk or a file system: the folder isn't there, or is
+    there whole; and the next load makes it."""
     dump(snapd)
     place, left = snapd.file("E"), snapd.file("E.loading")
     for at, event, named, is_renamed in calls(snapd):
@@ -275,8 +280,8 @@ def test_each_call_fails(snapd, _):
 
 
 def calls(snapd):
-    """The calls of a load into an empty folder: for each its number from 1 on, what it is, which path is named where it fails, and whether
-    the folder has its name then."""
+    """The calls of a load into an empty folder: for each its number from 1 on, what it is, which path is named where it
+    fails, and whether the folder has its name then."""
     snapd.file("E").mkdir(mode=0o700)
     run, events = changes.run(snapd, "load", "E", "dump")
     run.gave(0, DONE)
@@ -316,7 +321,8 @@ def said_of(event, named, is_renamed, why):
 # ---- a power cut ----
 
 def test_nothing_of_it_is_open_when_it_gets_its_name(snapd, _):
-    """Whatever a power cut takes that wasn't synced: at the renaming all else is for good, and at the last line that too."""
+    """Whatever a power cut takes that wasn't synced: at the renaming all else is for good,
+    and at the last line that too."""
     dump(snapd)
     for is_there in (False, True):
         if is_there:
@@ -337,7 +343,8 @@ def judge(events, still):
 
 
 def test_it_is_killed_at_each_call(snapd, _):
-    """The folder isn't there, or is there whole. The next load makes it, and leaves nothing open that the first one did."""
+    """The folder isn't there, or is there whole. The next load makes it,
+    and leaves nothing open that the first one did."""
     dump(snapd)
     place, left = snapd.file("E"), snapd.file("E.loading")
     for is_there in (False, True):
@@ -372,7 +379,8 @@ def test_it_is_killed_at_each_call(snapd, _):
 # ---- two at once ----
 
 def test_loads_of_several_dumps_at_once(snapd, _):
-    """One of them makes the folder, of its own dump alone; the others say why they don't. It is as it was, in mode and owner."""
+    """One of them makes the folder, of its own dump alone; the others say why they don't. It is as it was,
+    in mode and owner."""
     dumps = [[(number + 1, b"%d" % number * 900) for _ in range(6)] for number in range(4)]
     for number, entries in enumerate(dumps):
         snapd.file(f"dump{number}").write_bytes(document(entries))
@@ -401,7 +409,11 @@ def test_loads_of_several_dumps_at_once(snapd, _):
         runs[done[0]].gave(0, loaded(dumps[done[0]], "E"))
         for number, run in runs.items():
             if number not in done:
-                assert run.output == b"" and run.status in (1, 3) and run.errors.startswith(("snapd: E: ", "snapd: E.loading: ")), runs
+                assert (
+                    run.output == b""
+                    and run.status in (1, 3)
+                    and run.errors.startswith(("snapd: E: ", "snapd: E.loading: "))
+                ), runs
         assert files_in(place) == files_of(dumps[done[0]]) and not snapd.file("E.loading").exists()
         if round_ % 2:
             assert standing(place)[2] == 0o710
@@ -441,7 +453,8 @@ def test_a_load_beside_one_that_is_stopped(snapd, _):
 
 
 def test_a_load_that_opened_a_folder_which_is_gone(snapd, _):
-    """It opened what a load had left, and before it had the lock that was removed and made anew: it takes nothing of the other's."""
+    """It opened what a load had left, and before it had the lock that was removed and made anew:
+    it takes nothing of the other's."""
     dump(snapd)
     other = [(9, b"other")] * 3
     snapd.file("other").write_bytes(document(other))

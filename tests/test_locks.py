@@ -86,7 +86,8 @@ def test_put_has_its_file_from_its_beginning(snapd, _):
     file = snapd.formatted()
     for ends in ("by its value", "by a kill"):
         put = subprocess.Popen(
-            [snapd.path, "put", "F"], cwd=snapd.folder, stdin=subprocess.PIPE, stdout=subprocess.PIPE, stderr=subprocess.PIPE
+            [snapd.path, "put", "F"], cwd=snapd.folder, stdin=subprocess.PIPE, stdout=subprocess.PIPE,
+            stderr=subprocess.PIPE
         )
         try:
             # It has its lock before it reads. A try for the lock would be in its way.

@@ -27,7 +27,9 @@ def test_only_what_matters_is_logged(snapd, _):
             run = server.end()
             assert (run.status, run.output) == (0, b"served 3\n"), run
             ended, lines = server.logged("DEBUG", "connection"), run.errors.splitlines()
-            assert len(lines) == len(server.logged()) == count and len(ended) == (3 if "debug" in more else 0), run.errors
+            assert (
+                len(lines) == len(server.logged()) == count and len(ended) == (3 if "debug" in more else 0)
+            ), run.errors
             assert all(line.endswith(" closed") for line in ended), run.errors
 
 
@@ -57,7 +59,8 @@ def test_a_line_begins_with_the_time(snapd, _):
 
 
 def test_the_journal_keeps_the_time_itself(snapd, _):
-    """And takes each line by the priority that it begins with. Another stream than the one that is named is no journal."""
+    """And takes each line by the priority that it begins with. Another stream than the one that is named is no
+    journal."""
     disk, anywhere = Disk(snapd), ("--listen", "0.0.0.0:0", "--log", "debug")
     numbers = {"ERROR": "3", "WARN": "4", "INFO": "6", "DEBUG": "7"}
     with Server(snapd, *fresh(snapd, 1), connections=2, env=disk.env, more=anywhere, before=JOURNAL) as server:
@@ -66,7 +69,9 @@ def test_the_journal_keeps_the_time_itself(snapd, _):
         server.ask(update(0, 1, b"a"), refused(13, 0))
         found = [re.fullmatch(r"<(\d)>([A-Z]+) (\w+): (.*)", line) for line in server.end().errors.splitlines()]
         assert all(it and numbers[it[2]] == it[1] for it in found), found
-        assert {it[2] for it in found} == set(numbers) and "DEBUG connection" in {f"{it[2]} {it[3]}" for it in found}, found
+        assert (
+            {it[2] for it in found} == set(numbers) and "DEBUG connection" in {f"{it[2]} {it[3]}" for it in found}
+        ), found
     with Server(snapd, *fresh(snapd, 1), connections=0, before=ELSEWHERE) as server:
         lines = server.end().errors.splitlines()
         assert len(lines) == 2 and all(map(LOG_LINE.fullmatch, lines)), lines
@@ -85,7 +90,10 @@ def ends_of(server):
 def test_lines_that_find_no_memory_are_told_of(snapd, _):
     """While there is none, ends of connections aren't logged; the next line that there is memory for says how many."""
     memory = Memory(snapd, "all")
-    with Server(snapd, *fresh(snapd, 1), scanners=1, env=memory.env, more=("--log", "debug")) as server, server.connect() as last:
+    with (
+        Server(snapd, *fresh(snapd, 1), scanners=1, env=memory.env, more=("--log", "debug")) as server,
+        server.connect() as last,
+    ):
         streams = [server.connect() for _ in range(3)]
         for stream in (*streams, last):
             assert told(stream, SCAN) == snapshot((0, b""))
@@ -98,7 +106,9 @@ def test_lines_that_find_no_memory_are_told_of(snapd, _):
         memory.is_there_again()
         last.close()
         comes_to((3, 1), lambda: (lost_lines(server), ends_of(server)))
-        assert server.notes()[-1].endswith(" closed") and server.notes()[-2].endswith("WARN log: lines lost: 3"), server.notes()
+        assert (
+            server.notes()[-1].endswith(" closed") and server.notes()[-2].endswith("WARN log: lines lost: 3")
+        ), server.notes()
 
 
 def test_each_allocation_of_a_line_is_refused(snapd, _):
@@ -106,7 +116,10 @@ def test_each_allocation_of_a_line_is_refused(snapd, _):
     losses = 0
     for number in itertools.count(1):
         memory = Memory(snapd, number)
-        with Server(snapd, *fresh(snapd, 1), scanners=1, env=memory.env, more=("--log", "debug")) as server, server.connect() as last:
+        with (
+            Server(snapd, *fresh(snapd, 1), scanners=1, env=memory.env, more=("--log", "debug")) as server,
+            server.connect() as last,
+        ):
             with server.connect() as first:
                 assert told(first, SCAN) == told(last, SCAN) == snapshot((0, b""))
                 memory.runs_out()
@@ -148,7 +161,10 @@ def test_all_addresses_are_warned_of(snapd, _):
 
 def lost(name, segment, number, why):
     """What is logged of an update that could not be stored."""
-    return f"{name}: segment {segment}: update {number} failed: a restart shows whether it is stored, and the segment is fenced until then: {why}"
+    return (
+        f"{name}: segment {segment}: update {number} failed: "
+        f"a restart shows whether it is stored, and the segment is fenced until then: {why}"
+    )
 
 
 def test_a_store_that_fails_is_logged(snapd, _):
@@ -179,7 +195,9 @@ def test_a_file_that_is_gone_is_logged(snapd, _):
 def limited(snapd, words):
     """Runs the program where files may have ten blocks of 512 bytes."""
     line = f'ulimit -f 10 && exec "$0" {words}'
-    return subprocess.run(["sh", "-c", line, snapd.path], cwd=snapd.folder, capture_output=True, text=True, timeout=PATIENCE)
+    return subprocess.run(
+        ["sh", "-c", line, snapd.path], cwd=snapd.folder, capture_output=True, text=True, timeout=PATIENCE
+    )
 
 
 def test_files_may_not_be_as_long_as_a_segment(snapd, _):

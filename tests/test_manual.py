@@ -12,10 +12,15 @@ from waiting import PATIENCE
 TOP = pathlib.Path(__file__).resolve().parent.parent
 PACKAGING = TOP / "packaging"
 PAGE = PACKAGING / "snapd.1"
-COMPLETIONS = {it: PACKAGING / "completions" / name for it, name in (("bash", "snapd.bash"), ("zsh", "_snapd"), ("fish", "snapd.fish"))}
+COMPLETIONS = {
+    it: PACKAGING / "completions" / name
+    for it, name in (("bash", "snapd.bash"), ("zsh", "_snapd"), ("fish", "snapd.fish"))
+}
 # What `call` can be asked.
 REQUESTS = "get health part put scan status update"
-UNKNOWN = "snapd: error: unrecognized subcommand '{}'\n\nUsage: snapd <COMMAND>\n\nFor more information, try '--help'.\n"
+UNKNOWN = (
+    "snapd: error: unrecognized subcommand '{}'\n\nUsage: snapd <COMMAND>\n\nFor more information, try '--help'.\n"
+)
 # Calls the completing function as bash does: the words, of which the last is the one to be completed.
 TRY = """
 . "$1"
@@ -56,7 +61,9 @@ def options(snapd, command):
 def page():
     """The page of the manual as it is read, without a warning."""
     words = [wanted("man"), "--warnings", "-E", "UTF-8", "-l", str(PAGE)]
-    run = subprocess.run(words, capture_output=True, text=True, timeout=PATIENCE, env={"MANWIDTH": "140", "PATH": "/usr/bin:/bin"})
+    run = subprocess.run(
+        words, capture_output=True, text=True, timeout=PATIENCE, env={"MANWIDTH": "140", "PATH": "/usr/bin:/bin"}
+    )
     assert run.returncode == 0 and run.stderr == "", run
     return run.stdout
 
@@ -134,7 +141,10 @@ def test_words_of_help(snapd, _):
     assert output(snapd, "help") == output(snapd, "--help")
     for command in commands(snapd).keys() - {"help"}:
         assert output(snapd, "help", command) == output(snapd, command, "--help")
-    for words in (["--foo"], ["--man"], ["--man", "serve"], ["--completions"], ["--completions", "bash"], ["--completions=bash"], ["x"], [""]):
+    for words in (
+        ["--foo"], ["--man"], ["--man", "serve"], ["--completions"], ["--completions", "bash"], ["--completions=bash"],
+        ["x"], [""],
+    ):
         snapd("help", *words).gave(2, errors=UNKNOWN.format(words[0]))
     snapd("help", "serve", "--man").failed_with(2, "unrecognized subcommand '--man'")
     snapd("--man").failed_with(2, "unexpected argument '--man' found")
@@ -166,12 +176,18 @@ def test_bash_completes_commands_and_options(snapd, _):
 def test_bash_completes_files(snapd, _):
     snapd.file("a.seg").write_bytes(b"")
     snapd.file("a folder").mkdir()
-    for words in (("format",), ("put",), ("get", "--index", "3"), ("check",), ("migrate",), ("migrate", "a.seg"), ("serve", "127.0.0.1:7070")):
+    for words in (
+        ("format",), ("put",), ("get", "--index", "3"), ("check",), ("migrate",), ("migrate", "a.seg"),
+        ("serve", "127.0.0.1:7070"),
+    ):
         assert completed(snapd, *words, "a") == "a folder a.seg", words
     assert completed(snapd, "serve", "127.0.0.1", ":", "7070", "a.seg", "--scanners", "=", "3", "a.") == "a.seg"
     for words in (("init",), ("serve", "ADDR", "--dir"), ("serve", "ADDR", "--dir", "=")):
         assert completed(snapd, *words, "a") == "a folder", words
-    for words in (("format", "a.seg"), ("serve",), ("call",), ("watch",), ("watch", "127.0.0.1:7070"), ("serve", "ADDR", "--http"), ("put", "--index"), ("script",)):
+    for words in (
+        ("format", "a.seg"), ("serve",), ("call",), ("watch",), ("watch", "127.0.0.1:7070"),
+        ("serve", "ADDR", "--http"), ("put", "--index"), ("script",),
+    ):
         assert completed(snapd, *words, "a") == "", words
 
 
@@ -186,7 +202,9 @@ def test_bash_completes_requests_and_levels(snapd, _):
 
 def is_read_by(shell):
     """The shell reads its completions without a fault."""
-    run = subprocess.run([wanted(shell), "-n", str(COMPLETIONS[shell])], capture_output=True, text=True, timeout=PATIENCE)
+    run = subprocess.run(
+        [wanted(shell), "-n", str(COMPLETIONS[shell])], capture_output=True, text=True, timeout=PATIENCE
+    )
     assert run.returncode == 0 and run.stderr == "", run
 
 

@@ -76,17 +76,22 @@ def test_memory_and_descriptors_of_a_server(snapd, _):
             return dict(it.rsplit(" ", 1) for it in lines if not it.startswith("#"))
 
         look()
-        before = kilobytes(server, "VmRSS"), kilobytes(server, "VmSize")
+        before = kilobytes(server, "VmRSS"), kilobytes(server, "VmSize"), server.descriptors()
         found = look()
-        behind = kilobytes(server, "VmRSS"), kilobytes(server, "VmSize")
+        behind = kilobytes(server, "VmRSS"), kilobytes(server, "VmSize"), server.descriptors()
         slack = 256 * 1024
-        between(min(before[0], behind[0]), int(found["process_resident_memory_bytes"]), max(before[0], behind[0]), slack)
+        between(
+            min(before[0], behind[0]), int(found["process_resident_memory_bytes"]), max(before[0], behind[0]), slack
+        )
         between(min(before[1], behind[1]), int(found["process_virtual_memory_bytes"]), max(before[1], behind[1]), slack)
         assert found["process_resident_memory_bytes"] == found["snapd_resident_memory_bytes"]
-        assert int(found["process_open_fds"]) == server.descriptors(), found["process_open_fds"]
+        # (a thread may hold one more for a moment)
+        assert int(found["process_open_fds"]) in (before[2], behind[2]), (before, found["process_open_fds"], behind)
         assert found["process_max_fds"] == "300"
         # Less what it needs itself: for its streams, files, workers and browsers.
-        assert found["snapd_connections_max"] == str(300 - 16 - 2 - 2 * 3 - 68) and found["snapd_connections_open"] == "1"
+        assert (
+            found["snapd_connections_max"] == str(300 - 16 - 2 - 2 * 3 - 68) and found["snapd_connections_open"] == "1"
+        )
         looking.close()
     with SeenServer(snapd, *fresh(snapd, 1), more=("--clients-max", 9)) as server:
         assert server.metrics()["snapd_connections_max"] == "9"
@@ -94,7 +99,8 @@ def test_memory_and_descriptors_of_a_server(snapd, _):
 
 
 def test_sums_and_buckets_of_stores(snapd, _):
-    """On a disk each of whose waits takes 20 ms at least: what the client measured of each update is the most that its store took."""
+    """On a disk each of whose waits takes 20 ms at least: what the client measured of each update is the most that its
+    store took."""
     disk = Disk(snapd)
     wait, count = 0.02, 20
     with SeenServer(snapd, *segments(snapd, FRESH, FRESH), env=disk.env) as server:
@@ -105,12 +111,18 @@ def test_sums_and_buckets_of_stores(snapd, _):
             server.ask(update(1, number, b"v"), stored(number))
             measured.append(time.monotonic() - began)
         found = server.metrics()
-        total = {it: float(found[f'snapd_{it}_seconds_sum{{segment="1"}}']) for it in ("store", "value_wait", "gate_wait")}
+        total = {
+            it: float(found[f'snapd_{it}_seconds_sum{{segment="1"}}']) for it in ("store", "value_wait", "gate_wait")
+        }
         between(2 * count * wait, total["store"], sum(measured))
         between(count * wait, total["value_wait"], total["store"] - count * wait)
         between(count * wait, total["gate_wait"], total["store"] - total["value_wait"])
         for name, least in (("store", 2 * wait), ("value_wait", wait), ("gate_wait", wait)):
-            bounds = {key.split('"')[-2]: int(it) for key, it in found.items() if key.startswith(f'snapd_{name}_seconds_bucket{{segment="1"')}
+            bounds = {
+                key.split('"')[-2]: int(it)
+                for key, it in found.items()
+                if key.startswith(f'snapd_{name}_seconds_bucket{{segment="1"')
+            }
             assert len(bounds) == 22 and bounds["+Inf"] == count
             for bound, within in bounds.items():
                 assert within >= sum(it <= float(bound) for it in measured), (name, bound, within, measured)
@@ -120,12 +132,16 @@ def test_sums_and_buckets_of_stores(snapd, _):
 
 
 def test_half_and_nearly_all_of_the_stores_of_a_folder(snapd, _):
-    """Where some of two hundred stores take long: as many take no longer than is said, which the whole time shows, and no fewer."""
+    """Where some of two hundred stores take long: as many take no longer than is said, which the whole time shows,
+    and no fewer."""
     disk = Disk(snapd)
     place, slow = folder(snapd, 1), 0.15
     disk.says(f"tmp sync rest {int(slow * 10**6)}")
     began = time.monotonic()
-    doctor = subprocess.Popen([snapd.path, "doctor", "D", "--measure"], cwd=snapd.folder, stdout=subprocess.PIPE, env={**os.environ, **disk.env})
+    doctor = subprocess.Popen(
+        [snapd.path, "doctor", "D", "--measure"], cwd=snapd.folder, stdout=subprocess.PIPE,
+        env={**os.environ, **disk.env},
+    )
     wait_until(lambda: any(it.name.endswith("tmp") for it in place.iterdir()), "the file of the stores")
     # Three stores or four of two waits each.
     time.sleep(8 * slow)
@@ -140,7 +156,8 @@ def test_half_and_nearly_all_of_the_stores_of_a_folder(snapd, _):
 
 
 def test_the_history_of_a_known_course(snapd, _):
-    """A sample about each second, the oldest first, each with all that was counted up to then; rest and work are seen where they were."""
+    """A sample about each second, the oldest first, each with all that was counted up to then;
+    rest and work are seen where they were."""
     with SeenServer(snapd, *segments(snapd, FRESH, FRESH)) as server:
         samples = lambda: server.document("/history")["samples"]  # noqa: E731
         comes_to(True, lambda: len(samples()) >= 2)
@@ -154,7 +171,9 @@ def test_the_history_of_a_known_course(snapd, _):
         found, stats = samples(), server.document("/stats")
         times = [it["uptime_milliseconds"] for it in found]
         rests = [late - early for early, late in zip(times, times[1:])]
-        assert 2 < took and all(it >= 1_000 for it in rests) and times[-1] <= stats["uptime_milliseconds"], (took, times)
+        assert (
+            2 < took and all(it >= 1_000 for it in rests) and times[-1] <= stats["uptime_milliseconds"]
+        ), (took, times)
         # One for each second, except for those that a busy machine was late with.
         between((len(found) - 1) * 1_000, stats["uptime_milliseconds"], (len(found) + 1) * 1_000 + took * 500)
         counts = [sum(it["store_counts"]) for it in found]

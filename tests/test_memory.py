@@ -1,4 +1,5 @@
-"""Each allocation of the program is refused in turn: refused 8, or the same as with ample memory, and nothing is lost."""
+"""Each allocation of the program is refused in turn: refused 8, or the same as with ample memory,
+and nothing is lost."""
 
 import segment_file as layout
 from preload import library

@@ -1,5 +1,5 @@
-"""`migrate`: what it carries over, what it refuses and in which order, and that a crash or a fault in the middle of it loses
-nothing. The old file is never changed."""
+"""`migrate`: what it carries over, what it refuses and in which order, and that a crash or a fault in the middle of it
+loses nothing. The old file is never changed."""
 
 import os
 import pathlib
@@ -104,8 +104,8 @@ def test_old_files_are_told_what_to_do(snapd, _):
 
 
 def test_order_of_faults(snapd, _):
-    """Paths first, the old file's and then the new one's; then both lengths; then the old file's contents; then whether the
-    new file is formatted."""
+    """Paths first, the old file's and then the new one's; then both lengths; then the old file's contents; then whether
+    the new file is formatted."""
     whole = OLD.holding((0, b""), (1, b"hi"))
     taken = NOW.holding((0, b""))
 
@@ -274,7 +274,8 @@ def test_the_reason_of_a_failed_call_is_told(snapd, _):
 
 
 def test_killed_a_hundred_times(snapd, random):
-    """A migration is killed at a random moment, again and again: each time it can be run again, or the new file is whole."""
+    """A migration is killed at a random moment, again and again: each time it can be run again,
+    or the new file is whole."""
     old = old_file(snapd, (6, b"six" * 1_000), (5, b"five"))
     data, done = old.read_bytes(), NOW.holding((6, b"six" * 1_000))
     began = time.monotonic()

@@ -71,7 +71,8 @@ def replace_the_folder(folder, elsewhere):
 
 
 class Place:
-    """A server whose one file is moved in some way, in a folder of its own, by a path that leads there by a link or not."""
+    """A server whose one file is moved in some way, in a folder of its own,
+    by a path that leads there by a link or not."""
 
     def __init__(self, snapd, at, move, link):
         self.move, self.link, self.name = move, link, f"{move.__name__} {link}"

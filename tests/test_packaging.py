@@ -225,6 +225,27 @@ def test_the_user_and_the_folder_are_made(snapd, _):
     assert (root / "var" / "lib" / "snapd-board").stat().st_mode & 0o7777 == 0o755
 
 
+# ---- the steps of who installs the package ----
+
+def steps(text):
+    """The commands that make a board and serve it, as the manual page and docs/RECIPES.md have them."""
+    first, last = "systemctl enable snapd-board@sim", "systemctl start snapd-board@sim"
+    return re.search(rf"^ *{first}\n(?:.*\n)*? *{last}$", text, re.M)[0].split()
+
+
+def test_the_manual_page_and_the_recipe_have_the_same_steps(snapd, _):
+    """`packaging/boot_test.sh` runs those of the page; the files are made here as they say."""
+    page = re.sub(r"^\\&", "", (PACKAGING / "snapd.1").read_text(), flags=re.M).replace(r"\-", "-")
+    words = steps(page)
+    assert words == steps((TOP / "docs" / "RECIPES.md").read_text())
+    board = FOLDER.replace("%i", "sim")
+    assert words.count(board) == 2 and f"-u {SERVICE['User'][0]} --" in " ".join(words)
+    at = words.index("snapd")
+    assert words[at : at + 3] == ["snapd", "init", board]
+    said = "".join(f"formatted {it} of 4\n" for it in range(4))
+    snapd("init", "sim", *words[at + 3 : words.index("systemctl", at)]).gave(0, said)
+
+
 # ---- monitors and Kubernetes ----
 
 PROMETHEUS, DASHBOARD = PACKAGING / "prometheus", PACKAGING / "grafana" / "snapd-board.json"

@@ -1,7 +1,7 @@
 """The plug is pulled on threads thousands of times, by `try_parts plug`, and each crash leaves what it may leave.
 
-Which call pulls it and what the crashes fill are drawn from the seed. Where the threads are then is no one's choice, so what is
-asked here is that each case occurs."""
+Which call pulls it and what the crashes fill are drawn from the seed. Where the threads are then is no one's choice, so
+what is asked here is that each case occurs."""
 
 import re
 import subprocess
@@ -10,10 +10,13 @@ from trials import trial
 from waiting import PATIENCE
 
 COUNTS = re.compile(
-    r"the plug was pulled in (?P<rounds>\d+) rounds: (?P<at_rest>\d+) found a writer at rest, (?P<in_store>\d+) inside a store, "
+    r"the plug was pulled in (?P<rounds>\d+) rounds: "
+    r"(?P<at_rest>\d+) found a writer at rest, (?P<in_store>\d+) inside a store, "
     r"(?P<before_answer>\d+) between its store and the answer\n"
-    r"of the cut stores (?P<old>\d+) left the old value and (?P<new>\d+) the new one; (?P<openings>\d+) openings were cut too\n"
-    r"crashes left the bytes of (?P<kept>\d+) files, one byte at the open places of (?P<alike>\d+), and tore (?P<torn>\d+)\n"
+    r"of the cut stores (?P<old>\d+) left the old value and (?P<new>\d+) the new one; "
+    r"(?P<openings>\d+) openings were cut too\n"
+    r"crashes left the bytes of (?P<kept>\d+) files, one byte at the open places of (?P<alike>\d+), "
+    r"and tore (?P<torn>\d+)\n"
 )
 
 

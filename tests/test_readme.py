@@ -1,4 +1,5 @@
-"""What the README shows is what happens: its first commands, and the job of docs/RECIPES.md, killed at random moments."""
+"""What the README shows is what happens: its first commands, and the job of docs/RECIPES.md,
+killed at random moments."""
 
 import contextlib
 import fcntl
@@ -19,29 +20,13 @@ README, RECIPES = ((TOP / name).read_text() for name in ("README.md", "docs/RECI
 EXAMPLES = re.findall(r"^```\w*\n(.*?)^```$", README, re.S | re.M)
 
 
-def shown():
-    """The commands of the README's examples on files, each with the lines that it is to print."""
-    block = next(it for it in EXAMPLES if "$ snapd format" in it)
-    for part in re.split(r"^\$ ", block, flags=re.M)[1:]:
-        command, _, printed = part.partition("\n")
-        yield command, printed
-
-
-def test_readme_shows_what_is_printed(snapd, random):
-    env = {**os.environ, "PATH": f"{pathlib.Path(snapd.path).parent}:{os.environ['PATH']}"}
-    count = 0
-    for command, printed in shown():
-        run = subprocess.run(command, shell=True, cwd=snapd.folder, env=env, capture_output=True, text=True, timeout=2 * PATIENCE)
-        assert (run.returncode, run.stdout, run.stderr) == (0, printed, ""), (command, run)
-        count += 1
-    assert count == 3
-
-
 def test_readme_script_prints_what_it_shows(snapd, random):
     block = next(it for it in EXAMPLES if "snapd script" in it)
     command, _, printed = block.removeprefix("$ ").rpartition("| tail -n 1\n")
     env = {**os.environ, "PATH": f"{pathlib.Path(snapd.path).parent}:{os.environ['PATH']}"}
-    run = subprocess.run(f"{command} | tail -n 1", shell=True, cwd=snapd.folder, env=env, capture_output=True, text=True)
+    run = subprocess.run(
+        f"{command} | tail -n 1", shell=True, cwd=snapd.folder, env=env, capture_output=True, text=True
+    )
     assert (run.stdout, run.stderr) == (printed, ""), run
 
 
@@ -60,7 +45,9 @@ def test_server_of_the_readme_survives_its_kill(snapd, random):
     assert all(it.endswith(" &") for it in commands if it.startswith("snapd serve"))
     story = "\n".join([*commands, "kill $!", ""]).replace("7070", str(port))
     env = {**os.environ, "PATH": f"{pathlib.Path(snapd.path).parent}:{os.environ['PATH']}"}
-    run = subprocess.run(["sh", "-c", story], cwd=snapd.folder, env=env, capture_output=True, text=True, timeout=2 * PATIENCE)
+    run = subprocess.run(
+        ["sh", "-c", story], cwd=snapd.folder, env=env, capture_output=True, text=True, timeout=2 * PATIENCE
+    )
     # A shell may say that the first server was killed.
     assert (run.returncode, run.stdout) == (0, printed), run
 

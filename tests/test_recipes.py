@@ -33,7 +33,9 @@ LISTINGS = {**listings(RECIPES), **listings(REPLICATION)}
 
 def test_every_listing_is_known(_, __):
     names = {
-        RECIPES: ["backup.sh", "board.py", "checkpoint.py", "grow.sh", "job.sh", "launch.sh", "lease.py", "override.conf"],
+        RECIPES: [
+            "backup.sh", "board.py", "checkpoint.py", "grow.sh", "job.sh", "launch.sh", "lease.py", "override.conf",
+        ],
         REPLICATION: ["files.sh", "fstab", "snapd-board-takeover.service", "takeover.py", "volume.sh"],
     }
     for document, wanted in names.items():
@@ -107,7 +109,11 @@ def test_backups_are_kept_and_restored(snapd, _):
             assert server.scan() == [(0, b""), (number, b"%d" % number), (0, b"")]
     # Without a server there is no dump and no part of one, and none of the old ones is removed.
     status, output, errors = ended(snapd, "sh", "backup.sh", "127.0.0.1:1", "dumps", 1)
-    assert (status, output) == (1, "") and errors.startswith("snapd: 127.0.0.1:1: ") and sorted((snapd.folder / "dumps").iterdir()) == kept, errors
+    assert (
+        (status, output) == (1, "")
+        and errors.startswith("snapd: 127.0.0.1:1: ")
+        and sorted((snapd.folder / "dumps").iterdir()) == kept
+    ), errors
 
 
 def test_a_job_grows(snapd, _):
@@ -124,7 +130,8 @@ def test_a_job_grows(snapd, _):
 
 
 def test_a_job_that_cannot_grow_stays(snapd, _):
-    """Its folder is served, or one of the old name is there: each folder has what it had, and nothing is left beside."""
+    """Its folder is served, or one of the old name is there: each folder has what it had,
+    and nothing is left beside."""
     written(snapd, "grow.sh")
     snapd("init", "board", "--count", 2)
     with Server(snapd, "--dir", "board"):
@@ -164,8 +171,8 @@ def newest_step(server):
 
 
 def test_checkpoints_survive_kills_of_all(snapd, rng):
-    """Ranks and server are killed again and again, together or alone, at moments that follow from how far the job is. At the
-    end each rank has the sum of all its steps."""
+    """Ranks and server are killed again and again, together or alone, at moments that follow from how far the job is.
+    At the end each rank has the sum of all its steps."""
     written(snapd, "checkpoint.py", "launch.sh")
     # The last segment is another job's.
     files = segments(snapd, *[[(0, b"")]] * RANKS, [(0, b""), (1, b"other")])
@@ -221,7 +228,9 @@ def test_ranks_that_cannot_go_on_say_so(snapd, _):
     with Server(snapd, *fresh(snapd, 2)) as server:
         snapd.file("rank1.step1.1.part").mkdir()
         status, output, errors = ended(snapd, "sh", "launch.sh", server.address, 2, 3)
-        assert (status, output) == (1, "") and "IsADirectoryError" in errors and "ranks [1] haven't saved step 1" in errors, (status, output, errors)
+        assert (
+            (status, output) == (1, "") and "IsADirectoryError" in errors and "ranks [1] haven't saved step 1" in errors
+        ), (status, output, errors)
 
 
 # ---- the board ----
@@ -379,13 +388,16 @@ def test_lease_has_one_holder_and_growing_tokens(snapd, rng):
 
 # What no lease is: bytes, texts, and what JSON says of other jobs.
 NO_LEASES = (
-    b"step 17", b"\xff\xfe\xfd", b"\0", b"17", b"null", b'"holder"', b"[" * 4_080, b'[{"step": 2, "name": "rank0.step2.2"}]', b"{}",
-    b'{"holder": "a"}', b'{"holder": "a", "until": "noon"}', b'{"holder": "a", "until": null}', b'{"holder": "a", "until": 0, "step": 2}',
+    b"step 17", b"\xff\xfe\xfd", b"\0", b"17", b"null", b'"holder"', b"[" * 4_080,
+    b'[{"step": 2, "name": "rank0.step2.2"}]', b"{}",
+    b'{"holder": "a"}', b'{"holder": "a", "until": "noon"}', b'{"holder": "a", "until": null}',
+    b'{"holder": "a", "until": 0, "step": 2}',
 )
 
 
 def refuses_to_lease(lease, server, segment, value):
-    """Ends by itself where it meets another job's value, and says so. The words of the command that it names as the remedy."""
+    """Ends by itself where it meets another job's value, and says so.
+    The words of the command that it names as the remedy."""
     try:
         output, errors = lease.communicate(timeout=PATIENCE)
     finally:
@@ -393,14 +405,15 @@ def refuses_to_lease(lease, server, segment, value):
     assert (lease.returncode, output) == (4, ""), (segment, lease.returncode, output, errors)
     said, _, command = errors.rpartition(": snapd ")
     assert said == (
-        f"lease.py: segment {segment} of {server.address} holds {value[:40]!r}, which is no lease: nothing was changed. "
-        "Name another segment; or, if no job needs this value, empty it"
+        f"lease.py: segment {segment} of {server.address} holds {value[:40]!r}, which is no lease: "
+        "nothing was changed. Name another segment; or, if no job needs this value, empty it"
     ), errors
     return command.split()
 
 
 def test_lease_leaves_what_is_no_lease(snapd, _):
-    """Whatever another job has stored stays, before there is a lease and while somebody holds it. An emptied segment is free."""
+    """Whatever another job has stored stays, before there is a lease and while somebody holds it.
+    An emptied segment is free."""
     written(snapd, "lease.py")
 
     def begun(segment, seconds):

@@ -31,6 +31,8 @@ ELSEWHERE = {
     UNIT: "packaging/systemd/snapd-board@.service",
     **{f"lib/{it}/snapd-board.conf": f"packaging/{it}/snapd-board.conf" for it in ("sysusers.d", "tmpfiles.d")},
 }
+# The libraries of the client in C, below the folder for such.
+LIBRARIES = ("libsnapd.so.0", "libsnapd.so", "libsnapd.a", "pkgconfig/snapd.pc")
 TEXTS = ("", ".md", ".conf", ".service", ".yml", ".yaml", ".json", ".py", ".h", ".1", ".bash", ".fish")
 # What of a shipped file would be the daemon's that is called snapd too: its folders, sockets, units and commands.
 DAEMON = re.compile(
@@ -49,7 +51,7 @@ def test_no_shipped_file_names_a_path_of_the_daemon(_, __):
     for path in (*TOP.glob("*.md"), *(TOP / it for it in ("Makefile", "docs", "packaging", "clients"))):
         for it in texts_of(path):
             for line in it.read_text(encoding="utf-8").splitlines():
-                assert not DAEMON.search(line), (it.name, line)
+                assert not DAEMON.search(line.replace(r"\-", "-")), (it.name, line)
     for line in ("/usr/lib/snapd/snapd", "/var/lib/snapd/x", "/run/snapd.socket", "a snapd.service", "/usr/bin/snap"):
         assert DAEMON.search(line), line
 
@@ -161,7 +163,7 @@ def test_notices_name_the_crates_of_the_kit(_, __):
 
 def packaged(program, script, folder, top=TOP):
     """What a script of `packaging/` makes of a program."""
-    for it in ("rt", "git", "make"):
+    for it in ("rt", "git", "make", "gcc"):
         wanted(it)
     if subprocess.run(["git", "-C", str(top), "rev-parse"], capture_output=True).returncode:
         raise Skipped("this is no checkout")
@@ -180,7 +182,8 @@ def test_a_tarball_has_what_it_says(snapd, _):
     assert [it.name for it in entries] == sorted(it.name for it in entries) and len({it.mtime for it in entries}) == 1
     assert {(it.uname, it.gname, it.uid, it.gid) for it in entries} == {("root", "root", 0, 0)}
     assert {it.name: it.mode for it in entries if it.mode != 0o644} == {f"{name}/bin/snapd": 0o755}
-    assert {"bin/snapd", "PROVED", "SHA256SUMS", *ELSEWHERE} <= files.keys()
+    assert {"bin/snapd", "PROVED", "SHA256SUMS", *ELSEWHERE, *(f"lib/{it}" for it in LIBRARIES)} <= files.keys()
+    assert {it.name: it.linkname for it in entries if it.issym()} == {f"{name}/lib/libsnapd.so": "libsnapd.so.0"}
     sums = dict(reversed(line.split("  ")) for line in files.pop("SHA256SUMS").decode().splitlines())
     assert sums == {it: hashlib.sha256(data).hexdigest() for it, data in files.items()}
     told = dict(line.split(": ", 1) for line in files["PROVED"].decode().splitlines())
@@ -196,18 +199,21 @@ def test_one_commit_makes_the_same_bytes_in_two_folders(snapd, _):
     program = snapd.file("snapd").resolve()
     program.write_text("#!/bin/sh\necho snapd 0\n")
     program.chmod(0o755)
-    first = packaged(program, "dist.py", snapd.file("first").resolve())
     top = copied(snapd, ".git", *(it for it in ran("git", "-C", TOP, "ls-files").splitlines() if (TOP / it).exists()))
     for it in (top / "docs").iterdir():
         it.chmod(0o600)
         os.utime(it, (1, 1))
-    second = packaged(program, "dist.py", snapd.file("second").resolve(), top)
-    assert first.read_bytes() == second.read_bytes()
+    wanted("dpkg-deb")
+    for script in ("dist.py", "deb.py"):
+        first = packaged(program, script, snapd.file(f"first-{script}").resolve())
+        second = packaged(program, script, snapd.file(f"second-{script}").resolve(), top)
+        assert first.read_bytes() == second.read_bytes(), script
 
 
 # Where the package may have files: none of these is one of the daemon's.
 OF_THE_PACKAGE = re.compile(
     r"\./usr/(?:bin/snapd|include/snapd\w*\.h|(?:lib|share)/.*/(?:_?snapd(?:\.fish|\.1\.gz)?|snapd-board\S*))$"
+    rf"|\./usr/lib/[\w-]+/(?:{'|'.join(map(re.escape, LIBRARIES))})(?: -> libsnapd\.so\.0)?$"
     r"|\./usr/share/doc/snapd-board/")
 
 
@@ -227,10 +233,16 @@ def test_a_package_has_what_it_says(snapd, _):
     assert not re.search(r"\brm\b|userdel|deluser|purge", scripts["postinst"] + scripts["prerm"] + scripts["postrm"])
     lines = [line.split(None, 5) for line in ran(dpkg, "--contents", made).splitlines()]
     for mode, owner, _, _, _, path in lines:
-        assert owner == "root/root" and mode in ("drwxr-xr-x", "-rw-r--r--", "-rwxr-xr-x"), (mode, owner, path)
+        modes = ("drwxr-xr-x", "-rw-r--r--", "-rwxr-xr-x", "lrwxrwxrwx")
+        assert owner == "root/root" and mode in modes, (mode, owner, path)
         assert mode[0] == "d" or OF_THE_PACKAGE.search(path), path
     assert [path for mode, *_, path in lines if mode == "-rwxr-xr-x"] == ["./usr/bin/snapd"]
     assert (root / "usr" / "bin" / "snapd").read_bytes() == pathlib.Path(snapd.path).read_bytes()
+    (config,) = root.glob("usr/lib/*/pkgconfig/snapd.pc")
+    libraries = config.parent.parent
+    assert all((libraries / it).is_file() for it in LIBRARIES) and (libraries / "libsnapd.so").is_symlink()
+    assert f"\nlibdir=${{prefix}}/lib/{libraries.name}\n" in config.read_text()
+    assert scripts["triggers"] == "activate-noawait ldconfig\n"
     page, texts = (gzip.decompress((root / "usr" / it).read_bytes())
                    for it in ("share/man/man1/snapd.1.gz", f"{DOC}/packaging/NOTICES.gz"))
     assert page == (PACKAGING / "snapd.1").read_bytes() and b"Permission is hereby granted" in texts

@@ -1,4 +1,5 @@
-"""What is said of a file that was refused, to the byte, where no other test compares it so: no contract has these texts."""
+"""What is said of a file that was refused, to the byte, where no other test compares it so:
+no contract has these texts."""
 
 import errno
 
@@ -25,9 +26,11 @@ SERVE = "serve 127.0.0.1:0 F G"
 # How the files are made, the words, and the two lines of standard error after `snapd: `, the first after `refused `
 # too.
 ROWS = [
-    ({"F": "empty"}, "check F --json", "14 WrongFile", "F: it has no byte: a format that was cut off: go on with snapd format F --index I --count N"),
+    ({"F": "empty"}, "check F --json", "14 WrongFile",
+     "F: it has no byte: a format that was cut off: go on with snapd format F --index I --count N"),
     ({"F": "short"}, "check F --json", "14 WrongFile", "F: it has 28671 bytes, and a segment file has 28672"),
-    ({"F": "old"}, "check F --json", "14 WrongFile", "F: it has the length of the old format: carry it over with snapd migrate F NEW"),
+    ({"F": "old"}, "check F --json", "14 WrongFile",
+     "F: it has the length of the old format: carry it over with snapd migrate F NEW"),
     # The files of a migration whose place isn't the first.
     ({"OLD": "short", "F": "unformatted"}, MIGRATE, "14 WrongFile",
      f"OLD: {AS_OLD}it isn't the file of segment 1 of 2 with the 20480 bytes of the old format"),
@@ -35,10 +38,12 @@ ROWS = [
      f"OLD: {AS_OLD}it isn't the file of segment 2 of 3 with the 20480 bytes of the old format"),
     ({"OLD": "old, blank", "F": "unformatted"}, MIGRATE, "11 Unformatted",
      f"OLD: {AS_OLD}it was never formatted, or its header is gone: look for a backup"),
-    ({"OLD": "old, damaged", "F": "unformatted"}, MIGRATE, "10 Damaged", f"OLD: {AS_OLD}its slots give no answer: look for a backup"),
+    ({"OLD": "old, damaged", "F": "unformatted"}, MIGRATE, "10 Damaged",
+     f"OLD: {AS_OLD}its slots give no answer: look for a backup"),
     ({"OLD": "old", "F": "short"}, MIGRATE, "14 WrongFile",
      f"F: {AS_NEW}it is neither empty nor of the 28672 bytes of a segment file: give another path"),
-    ({"OLD": "old", "F": "second"}, MIGRATE, "12 AlreadyFormatted", f"F: {AS_NEW}it is formatted already: see snapd check F"),
+    ({"OLD": "old", "F": "second"}, MIGRATE, "12 AlreadyFormatted",
+     f"F: {AS_NEW}it is formatted already: see snapd check F"),
     # Files of a folder that is dumped.
     ({"D/segment-00.seg": "first", "D/segment-01.seg": "damaged"}, "dump D", "10 Damaged",
      "D/segment-01.seg: its slots give no answer: see snapd check D/segment-01.seg"),
@@ -48,7 +53,8 @@ ROWS = [
      "G: it was never formatted, or its header is gone: keep a copy first, then snapd format G --index 1 --count 2"),
     ({"F": "first", "G": "empty"}, SERVE, "14 WrongFile",
      "G: it has no byte: a format that was cut off: go on with snapd format G --index 1 --count 2"),
-    ({"F": "first", "G": "old"}, SERVE, "14 WrongFile", "G: it has the length of the old format: carry it over with snapd migrate G NEW"),
+    ({"F": "first", "G": "old"}, SERVE, "14 WrongFile",
+     "G: it has the length of the old format: carry it over with snapd migrate G NEW"),
     ({"F": "first", "G": "first"}, SERVE, "14 WrongFile", "G: it isn't the file of segment 1 of 2: see snapd check G"),
     ({"F": "first", "G": "short"}, SERVE, "14 WrongFile", "G: it isn't the file of segment 1 of 2: see snapd check G"),
 ]
@@ -66,7 +72,9 @@ def test_each_remedy(snapd, _):
     for files, words, why, more in ROWS:
         made(snapd, files)
         snapd(*words.split()).gave(3, errors=f"snapd: refused {why}\nsnapd: {more}\n")
-        assert {name: snapd.file(name).read_bytes() for name in files} == {name: HELD[held] for name, held in files.items()}, words
+        assert {name: snapd.file(name).read_bytes() for name in files} == {
+            name: HELD[held] for name, held in files.items()
+        }, words
 
 
 # A server that logs has a thread for that.
@@ -80,13 +88,17 @@ FAILING = [
 
 
 def test_a_disk_that_fails_where_memory_is_wanting(snapd, _):
-    """Each allocation is refused in turn: what the system said of the disk is left out, or the whole line, and nothing else is said."""
+    """Each allocation is refused in turn: what the system said of the disk is left out, or the whole line,
+    and nothing else is said."""
     disk, count, refused = Disk(snapd), snapd.file("count"), "snapd: refused 13 DeviceFailed\n"
     env = {**disk.env, "LD_PRELOAD": f"{disk.env['LD_PRELOAD']}:{library('allocations')}"}
     for name, files, words, begins, advice in FAILING:
         made(snapd, files)
         disk.says(f"{name} read fail {errno.EIO}")
-        told = {f"{refused}snapd: {begins}{why}: {advice}\n" for why in ("read: Input/output error (os error 5)", "a call of its device failed")}
+        told = {
+            f"{refused}snapd: {begins}{why}: {advice}\n"
+            for why in ("read: Input/output error (os error 5)", "a call of its device failed")
+        }
         seen = {snapd(*words.split(), env={**env, "ALLOCATIONS_COUNT": str(count)}).errors}
         for number in range(1, int(count.read_text()) + 1):
             run = snapd(*words.split(), env={**env, "ALLOCATIONS_REFUSE": str(number)})

@@ -1,6 +1,6 @@
-"""Each allocation of an opening of all files is refused in turn: `NoMemory`, no file is changed, and the same files open
-afterwards. Updates, closing, meetings and scans ask for none. `try_parts restart-allocations` does them and prints what
-came of it; the end-to-end tests want it built (`make programs`)."""
+"""Each allocation of an opening of all files is refused in turn: `NoMemory`, no file is changed, and the same files
+open afterwards. Updates, closing, meetings and scans ask for none. `try_parts restart-allocations` does them and prints
+what came of it; the end-to-end tests want it built (`make programs`)."""
 
 import os
 import subprocess
@@ -15,7 +15,9 @@ FILES = 3
 
 def run(step, **env):
     more = {"LD_PRELOAD": library("allocations"), **env}
-    done = subprocess.run(trial("restart-allocations", step), env={**os.environ, **more}, capture_output=True, timeout=PATIENCE)
+    done = subprocess.run(
+        trial("restart-allocations", step), env={**os.environ, **more}, capture_output=True, timeout=PATIENCE
+    )
     return done.returncode, done.stdout.decode()
 
 

@@ -1,4 +1,5 @@
-"""`snapd check FILE --slot S --value`: the value in one slot, whatever the rest of the file holds, and why there is none."""
+"""`snapd check FILE --slot S --value`: the value in one slot, whatever the rest of the file holds,
+and why there is none."""
 
 import errno
 import fcntl
@@ -89,14 +90,17 @@ def test_files_that_have_no_answer(snapd, _):
 
 
 def test_slots_that_hold_no_value(snapd, _):
-    """Each reason in each slot, open and closed, at the first and the last byte that it speaks of, and the first of several."""
+    """Each reason in each slot, open and closed, at the first and the last byte that it speaks of,
+    and the first of several."""
     longest = (layout.MAX_VALUE + 1).to_bytes(4, "big")
     for number, value in ((3, b"three"), (4, b"four"), (5, b"fifth")):
         at, body = number % 3, body_at(number % 3)
         whole = layout.holding((3, b"three"), (4, b"four"), (5, b"fifth"))
         for why, places in {
             "length": [(body + 8, longest), (body + 8, b"\xff")],
-            "zeros": [(body + 12, b"\1"), (body + 15, b"\1"), (body + 16 + len(value), b"\1"), (body + BLOCK - 1, b"\1")],
+            "zeros": [
+                (body + 12, b"\1"), (body + 15, b"\1"), (body + 16 + len(value), b"\1"), (body + BLOCK - 1, b"\1"),
+            ],
             "number": [(body, b"\x80"), (body + 7, bytes([number ^ 1])), (body, b"\xff" * 8)],
         }.items():
             for place in places:

@@ -90,7 +90,10 @@ def test_worked_script(snapd, _):
 def test_crash_with_writers_at_the_gate(snapd, _):
     """Two writers after their opening writes, and a crash whose fills differ; a second crash inside the restart."""
     stores = [f"{verb} {w}" for w in (0, 1) for verb in ["begin", *["look"] * 4, *["call"] * 3]]
-    stores = [line.replace("begin 0", "begin 0 61").replace("begin 1", "begin 1 62").replace("look ", "look w") for line in stores]
+    stores = [
+        line.replace("begin 0", "begin 0 61").replace("begin 1", "begin 1 62").replace("look ", "look w")
+        for line in stores
+    ]
     restart = ["restart", *["recall"] * 4, "serve"]
     script = ["world 2 1", *stores, "crash a5 00"]
     assert snapd("script", stdin=lines([*script, *restart])).output.endswith(b"\nmemory 61 -\n")
@@ -134,9 +137,11 @@ FIRST = [*begun("6869"), *called("body", "sync", "open", "sync"), *shown(1)]
 
 
 def test_crash_after_the_closing_write(snapd, _):
-    for fill in ("a5", "00"):
+    """The next store closes the spare gate only where the crash left it open."""
+    for fill, closes in (("a5", ["close"]), ("00", [])):
         crash = [(f"crash {fill}", "crashed"), *RESTART, ("serve", "memory 6869")]
-        plays(snapd, *FIRST, *begun("796f", 1), *called("close"), *crash)
+        again = [*begun("796f", 1), *called(*closes, "body", "sync", "open", "sync"), *shown(2)]
+        plays(snapd, *FIRST, *begun("796f", 1), *called("close"), *crash, *again)
 
 
 def test_five_calls(snapd, _):
@@ -154,7 +159,10 @@ def test_five_calls(snapd, _):
 
 def test_crash_before_the_last_sync(snapd, _):
     for fill, memory in (("a5", "6869"), ("00", "-")):
-        plays(snapd, *begun("6869"), *called("body", "sync", "open"), (f"crash {fill}", "crashed"), *RESTART, ("serve", f"memory {memory}"))
+        plays(
+            snapd, *begun("6869"), *called("body", "sync", "open"), (f"crash {fill}", "crashed"), *RESTART,
+            ("serve", f"memory {memory}"),
+        )
 
 
 FENCED = [*begun("6869"), *called("body", "sync", "open"), ("fail 0 keep", "device failed")]
@@ -171,13 +179,14 @@ def test_the_client_sends_again(snapd, _):
     """After a restart the update is stored exactly once, whether or not the crash kept it."""
     lost = [("crash 00", "crashed"), *RESTART, ("serve", "memory -")]
     plays(snapd, *FENCED, *lost, *begun("6869"), *called("body", "sync", "open", "sync"), *shown(1))
-    plays(snapd, *FENCED, ("crash a5", "crashed"), *RESTART, ("serve", "memory 6869"), *begun("796f", 1))
+    plays(snapd, *FENCED, ("crash a5", "crashed"), *RESTART, ("serve", "memory 6869"), *begun("796f", 1),
+          *called("close", "body", "sync", "open", "sync"), *shown(2))
 
 
 def test_restart_sync_fails(snapd, _):
-    script = ["world 2 1", "crash keep keep", "restart", "recall", "recall", "refail keep", "scan 0", "serve"]
+    script = ["world 2 1", "crash keep keep", "restart", "recall", "recall", "refail keep", "scan 0", "recall", "serve"]
     snapd("script", stdin=lines(script)).gave(
-        0, "world 2 1\ncrashed\nrestarting\ncalled sync\ncalled read\ndevice failed\nnot now\nnot now\n"
+        0, "world 2 1\ncrashed\nrestarting\ncalled sync\ncalled read\ndevice failed\n" + 3 * "not now\n"
     )
 
 
@@ -187,11 +196,15 @@ def test_nothing_to_do(snapd, _):
 
 
 def test_numbers_and_bytes(snapd, _):
-    snapd("script", stdin="world 01 0000000000000000016\nbegin 0 -\nlook w00\nlook w0\n" + "call 0\n" * 4 + "show 0\nack 0\n").gave(
-        0, "world 1 16\nbegun\nnumber 0\nnumber 0\n" + lines(STORE) + "shown\nstored 1\n"
-    )
+    snapd(
+        "script",
+        stdin="world 01 0000000000000000016\nbegin 0 -\nlook w00\nlook w0\n" + "call 0\n" * 4 + "show 0\nack 0\n",
+    ).gave(0, "world 1 16\nbegun\nnumber 0\nnumber 0\n" + lines(STORE) + "shown\nstored 1\n")
     # Either case is read, and lower case is printed.
-    script = ["world 1 1", "begin 0 aBfF", *["look w0"] * 2, *["call 0"] * 4, "show 0", "scan 0", *["look s0"] * 2, "answer 0"]
+    script = [
+        "world 1 1", "begin 0 aBfF", *["look w0"] * 2, *["call 0"] * 4, "show 0", "scan 0", *["look s0"] * 2,
+        "answer 0",
+    ]
     run = snapd("script", stdin=lines(script))
     assert run.output.splitlines()[-1] == b"memory abff", run
     # The longest value, and one byte more.
@@ -200,8 +213,12 @@ def test_numbers_and_bytes(snapd, _):
 
 
 def test_what_may_not_come(snapd, _):
-    events = ["show 0", "ack 0", "answer 0", "look w0", "look s0", "begin 17 61", "scan 1", "begin 9999999999999999999 -"]
-    events += ["call 0", "fail 0 keep", "fail 9 at:5:-", "crash 00 keep", "restart", "recall", "refail at:9:a5", "serve"]
+    events = [
+        "show 0", "ack 0", "answer 0", "look w0", "look s0", "begin 17 61", "scan 1", "begin 9999999999999999999 -",
+    ]
+    events += [
+        "call 0", "fail 0 keep", "fail 9 at:5:-", "crash 00 keep", "restart", "recall", "refail at:9:a5", "serve",
+    ]
     snapd("script", stdin=lines(["world 1 1", *events])).gave(0, lines(["world 1 1", *["not now"] * len(events)]))
     down = ["begin 0 61", "scan 0", "recall", "serve", "refail keep"]
     snapd("script", stdin=lines(["world 1 1", "crash at:5:-", *down, "crash keep"])).gave(
@@ -213,9 +230,14 @@ def test_lines_that_cannot_be_read(snapd, _):
     first = ["world 0 1", "world 17 1", "world 1 17", "world 1", "world 1 1 1", "begin 0 61", "World 1 1", " world 1 1"]
     for line in first:
         snapd("script", stdin=line + "\nscan 0\n").failed_with(2, "line 1: ")
-    later = ["world 1 1", "begin 0 ", "begin 0", "begin 0 6", "begin 0 6g", "begin 00000000000000000000 61", "begin -1 61"]
+    later = [
+        "world 1 1", "begin 0 ", "begin 0", "begin 0 6", "begin 0 6g", "begin 00000000000000000000 61", "begin -1 61",
+    ]
     later += ["look 0", "look w", "look x0", "show", "show 0 0", " show 0", "show 0 ", "show  0", "show\t0", "show 0\r"]
-    later += ["crash", "crash 0", "crash keep keep ", "crash KEEP", "crash at:5:", "crash at::-", "fail 0", "refail", "serve 0"]
+    later += [
+        "crash", "crash 0", "crash keep keep ", "crash KEEP", "crash at:5:", "crash at::-", "fail 0", "refail",
+        "serve 0",
+    ]
     later += ["shout 0", "#", "\x00"]
     for line in later:
         run = snapd("script", stdin="world 1 1\n\nscan 0\n" + line + "\nscan 0\n")
@@ -226,8 +248,10 @@ def test_lines_that_cannot_be_read(snapd, _):
 def test_what_is_wrong_in_a_line_is_said(snapd, _):
     world = "the first line has to be `world N S`, with N and S from 1 to 16"
     for script, number, text in [
-        ("scan 0\n", 1, world), ("\nworld 17 1\n", 2, world), ("world 1 1\nworld 1 1\n", 2, "only the first line is `world N S`"),
-        ("world 1 1\n\nworld\n", 3, "only the first line is `world N S`"), ("world 1 1\nshout 0\n", 2, "no event begins with this word"),
+        ("scan 0\n", 1, world), ("\nworld 17 1\n", 2, world),
+        ("world 1 1\nworld 1 1\n", 2, "only the first line is `world N S`"),
+        ("world 1 1\n\nworld\n", 3, "only the first line is `world N S`"),
+        ("world 1 1\nshout 0\n", 2, "no event begins with this word"),
         ("world 1 1\nlook 0\n", 2, "expected `look wW` or `look sS`"), ("world 1 1\nserve 0\n", 2, "expected `serve`"),
     ]:
         run = snapd("script", stdin=script)

@@ -1,5 +1,5 @@
-"""Each kind of line of a script: what it prints, what is said where it can't be read, and whole scripts of them over inputs and outputs
-that come in pieces or fail."""
+"""Each kind of line of a script: what it prints, what is said where it can't be read, and whole scripts of them over
+inputs and outputs that come in pieces or fail."""
 
 from preload import library
 from program import Run
@@ -29,13 +29,15 @@ def ends(snapd, script, status, printed, said=""):
 
 NO_WORLD = "the first line has to be `world N S`, with N and S from 1 to 16"
 FIRST = [
-    "world", "world 1", "world 0 1", "world 1 0", "world 17 1", "world 1 17", "world 1 1 1", "world  1 1", "world 1 1\r", "World 1 1",
-    "restart", " ",
+    "world", "world 1", "world 0 1", "world 1 0", "world 17 1", "world 1 17", "world 1 1 1", "world  1 1",
+    "world 1 1\r", "World 1 1", "restart", " ",
 ]
 
 
 def test_first_lines(snapd, _):
-    for script, printed in (("", ""), ("\n\n\n", ""), ("world 1 1", "world 1 1\n"), ("\nworld 01 016\n\n", "world 1 16\n")):
+    for script, printed in (
+        ("", ""), ("\n\n\n", ""), ("world 1 1", "world 1 1\n"), ("\nworld 01 016\n\n", "world 1 16\n"),
+    ):
         ends(snapd, script, 0, printed)
     for line in FIRST:
         ends(snapd, "\n" + line, 2, "", f"line 2: {NO_WORLD}")
@@ -48,9 +50,10 @@ READ = [
     ("scan 00", "scanning"),
     ("pick 00 0003", "scanning"),
     *((line, "not now") for line in (
-        "begin 2 61", "begin 17 61", "begin 9999999999999999999 61", "look w0", "look s9999999999999999999", "show 0", "ack 0", "scan 1",
-        "pick 0 0004", "pick 0 fFFf", "answer 0", "call 0", "fail 0 keep", "fail 0 Ff", "fail 0 at:5:-", "fail 0 at:0005:6869",
-        "crash keep", "crash keep a5 at:0:-", "restart", "recall", "refail a5", "serve",
+        "begin 2 61", "begin 17 61", "begin 9999999999999999999 61", "look w0", "look s9999999999999999999", "show 0",
+        "ack 0", "scan 1",
+        "pick 0 0004", "pick 0 fFFf", "answer 0", "call 0", "fail 0 keep", "fail 0 Ff", "fail 0 at:5:-",
+        "fail 0 at:0005:6869", "crash keep", "crash keep a5 at:0:-", "restart", "recall", "refail a5", "serve",
     )),
 ]
 
@@ -66,20 +69,23 @@ UNREAD = {
     "only the first line is `world N S`": ["world 2 1"],
     "no event begins with this word": [" show 0", "SHOW 0", "show\t0", "restart\r", "shows 0"],
     "expected `show W`": [
-        "show", "show ", "show  0", "show 0 ", "show 0\r", "show 0 0", "show +0", "show -0", "show 0x0", "show 00000000000000000000",
+        "show", "show ", "show  0", "show 0 ", "show 0\r", "show 0 0", "show +0", "show -0", "show 0x0",
+        "show 00000000000000000000",
     ],
     "expected `begin W HEX`": ["begin 0", "begin 0 ", "begin 0 6", "begin 0 6g", "begin 0 --", "begin 61"],
     "expected `look wW` or `look sS`": ["look 0", "look W00", "look w", "look w 0"],
     "expected `ack W`": ["ack"],
     "expected `scan S`": ["scan s0"],
     "expected `pick S MASK`": [
-        "pick", "pick 0", "pick 0 ", "pick s0 0001", "pick 0001 0", "pick 0 001", "pick 0 00001", "pick 0 1", "pick 0 +001",
+        "pick", "pick 0", "pick 0 ", "pick s0 0001", "pick 0001 0", "pick 0 001", "pick 0 00001", "pick 0 1",
+        "pick 0 +001",
         "pick 0 -001", "pick 0 0x01", "pick 0 000g", "pick 0 -", "pick 0 00 01", "pick 0  0001", "pick 0 0001 ",
     ],
     "expected `answer S`": ["answer w0"],
     "expected `call W`": ["call"],
     "expected `fail W FILL`": [
-        "fail 0", "fail 0 Keep", "fail 0 a", "fail 0 a5a5", "fail 0 -", "fail 0 at:5:", "fail 0 at::61", "fail 0 at:5", "fail 0 at:5:61:61",
+        "fail 0", "fail 0 Keep", "fail 0 a", "fail 0 a5a5", "fail 0 -", "fail 0 at:5:", "fail 0 at::61", "fail 0 at:5",
+        "fail 0 at:5:61:61",
     ],
     "expected `crash FILL ..`": ["crash", "crash keep  keep", "crash keep stay"],
     "expected `restart`": ["restart 0"],
@@ -116,8 +122,10 @@ begin 0 61 > begun
 look w0 > number 0, number 0
 call 0 > called body, called sync, called open
 crash 00 > crashed
+serve > not now
 restart > restarting
-recall > called sync, called read
+serve > not now
+recall > called sync, called read, not now
 serve > memory -"""
 # A scan of segments 0 and 2, inside which segment 1 shows an update.
 OF_A_PART = """world 3 1
@@ -146,6 +154,57 @@ call 0 > called close, called body, called sync, called open, called sync
 show 0 > shown
 look s0 > number 0, number 2
 answer 0 > part 0=0a 2=-"""
+# Segment 0 is shown once inside a scan, which is clean after six looks, and answers once.
+CLEAN_AFTER_SIX = """world 2 1
+scan 0 > scanning
+look s0 > number 0, number 0
+begin 0 61 > begun
+call 0 > not now
+look w0 > number 0, number 0, number 0, number 0, not now
+show 0 > not now
+call 0 > called body, called sync, called open, called sync, not now
+show 0 > shown
+ack 0 > stored 1
+look s0 > number 1, number 0, number 1, number 0, not now
+answer 0 > memory 61 -, not now"""
+# The same with an update that was stored before the scan began, and with another segment's.
+LATE_SHOW = """world 2 1
+begin 0 61 > begun
+look w0 > number 0, number 0, number 0, number 0
+call 0 > called body, called sync, called open, called sync
+begin 1 62 > begun
+look w1 > number 0, number 0, number 0, number 0
+call 1 > called body, called sync, called open, called sync
+show 1 > shown
+ack 1 > stored 1
+scan 0 > scanning
+look s0 > number 0
+show 0 > shown
+ack 0 > stored 1
+look s0 > number 1, number 1, number 1, number 1, number 1
+answer 0 > memory 61 62"""
+# Segment 1 is shown between the end of the embedded scan whose view is borrowed and its publication: the view lacks it.
+SHOWN_BEHIND_THE_VIEW = """world 2 1
+scan 0 > scanning
+look s0 > number 0
+begin 0 61 > begun
+look w0 > number 0, number 0, number 0, number 0
+call 0 > called body, called sync, called open, called sync
+show 0 > shown
+ack 0 > stored 1
+look s0 > number 0, number 1
+begin 0 62 > begun
+look w0 > number 1, number 0, number 1, number 0
+call 0 > called close, called body, called sync, called open, called sync
+begin 1 63 > begun
+look w1 > number 1, number 0, number 1, number 0
+call 1 > called body, called sync, called open, called sync
+show 1 > shown
+ack 1 > stored 1
+show 0 > shown
+ack 0 > stored 2
+look s0 > number 1, number 2
+answer 0 > memory 61 -"""
 # A value longer than a piece of digits is printed in order, and in lower case.
 LONG_VALUE = f"""world 2 1
 begin 1 {"0A" * 65} > begun
@@ -171,7 +230,11 @@ SCRIPTS = [
     CLOSED_BY_A_CRASH,
     OF_A_PART,
     BORROWED_PART,
+    CLEAN_AFTER_SIX,
+    LATE_SHOW,
+    SHOWN_BEHIND_THE_VIEW,
     LONG_VALUE,
+    "world 1 1\nscan 0 > scanning\nlook s0 > number 0, number 0\nanswer 0 > memory -",
     TEN_UPDATES,
     # A part has to name a segment, and none that isn't there; and a scanner does one scan at a time.
     "world 3 1\npick 0 0008 > not now",
@@ -207,8 +270,10 @@ def test_scripts_in_pieces(snapd, _):
 def test_an_input_that_fails(snapd, _):
     """The lines whose ends were read before that were done and printed, however the reads cut them."""
     script, said = "world 1 1\nshow 0\nshow 0", f"snapd: standard input: {WHY}\n"
-    for count, printed in ((0, ""), (9, ""), (10, "world 1 1\n"), (12, "world 1 1\n"), (16, "world 1 1\n"), (17, "world 1 1\nnot now\n"),
-                           (22, "world 1 1\nnot now\n")):
+    for count, printed in (
+        (0, ""), (9, ""), (10, "world 1 1\n"), (12, "world 1 1\n"), (16, "world 1 1\n"), (17, "world 1 1\nnot now\n"),
+        (22, "world 1 1\nnot now\n"),
+    ):
         for step in (2, ALL):
             snapd("script", stdin=script, env=failing(0, count, step)).gave(1, printed, said)
 
@@ -228,7 +293,10 @@ def test_the_longest_value_is_printed(snapd, _):
     """Also where the output takes two bytes at once."""
     looks, stores = "look w0 > number 0, number 0", "call 0 > called body, called sync, called open, called sync"
     scans = "scan 0 > scanning\nlook s0 > number 1, number 1"
-    script, printed = of_rows(f"world 1 1\nbegin 0 {'7a' * 4_080} > begun\n{looks}\n{stores}\nshow 0 > shown\n{scans}\nanswer 0 > memory {'7a' * 4_080}")
+    script, printed = of_rows(
+        f"world 1 1\nbegin 0 {'7a' * 4_080} > begun\n{looks}\n{stores}\nshow 0 > shown\n{scans}\n"
+        f"answer 0 > memory {'7a' * 4_080}"
+    )
     for step in (2, ALL):
         snapd("script", stdin=script, env=failing(1, ALL, step)).gave(0, printed)
 
@@ -238,7 +306,9 @@ def test_each_allocation_is_refused(snapd, _):
     script, printed = (lines(it) for it in zip(*BORROWED))
     refused = 0
     for number in range(1, count_of(snapd, "script", stdin=script) + 1):
-        run = snapd("script", stdin=script, env={"LD_PRELOAD": library("allocations"), "ALLOCATIONS_REFUSE": str(number)})
+        run = snapd(
+            "script", stdin=script, env={"LD_PRELOAD": library("allocations"), "ALLOCATIONS_REFUSE": str(number)}
+        )
         if run.status == 0:
             run.gave(0, printed)
         else:

@@ -1,6 +1,6 @@
-"""Every call of a store and of a restart fails in a world, or is the last before a crash, with each fill that matters. What
-the next restart serves is compared with the table of the segment crate's sweep (what `try_parts segment-sweep` prints), which an
-independent model prints, and for a restart's own calls with the rule of the disk model."""
+"""Every call of a store and of a restart fails in a world, or is the last before a crash, with each fill that matters.
+What the next restart serves is compared with the table of the segment crate's sweep (what `try_parts segment-sweep`
+prints), which an independent model prints, and for a restart's own calls with the rule of the disk model."""
 
 import itertools
 import re

@@ -47,7 +47,8 @@ def test_report_of_each_kind_of_file(snapd, _):
     with Server(snapd, *segments(snapd, *held)) as server:
         assert server.report == (
             "segment 0 number 0 length 0 spare closed\nsegment 1 number 7 length 1 spare closed\n"
-            f"segment 2 number 8 length 4080 spare open\nsegment 3 number {2**63 - 1} length 3 spare closed\nsegments 4\n"
+            f"segment 2 number 8 length 4080 spare open\nsegment 3 number {2**63 - 1} length 3 spare closed\n"
+            "segments 4\n"
         )
         server.ask(SCAN, snapshot((0, b""), (7, b"x"), (8, longest), (2**63 - 1, b"end")))
         server.ask(update(3, 2**63, b"x"), refused(9, 2**63 - 1))
@@ -134,7 +135,10 @@ def file_faults(snapd):
         ("unformatted", 3, ["refused 11 Unformatted", remedy("11", "unformatted", **place)]),
         ("empty", 3, ["refused 14 WrongFile", remedy("14, no byte", "empty", **place)]),
         ("old", 3, ["refused 14 WrongFile", remedy("14, 20,480 bytes", "old", **place)]),
-        *[(name, 3, ["refused 14 WrongFile", remedy("14, any other file", name, **place)]) for name in ("short", "another")],
+        *[
+            (name, 3, ["refused 14 WrongFile", remedy("14, any other file", name, **place)])
+            for name in ("short", "another")
+        ],
     ]
 
 
@@ -228,7 +232,9 @@ def test_file_in_use(snapd, _):
     with Server(snapd, *files) as server:
         assert server.scan() == [(1, b"hi"), (1, b"ho")]
     # One file can't be two segments.
-    snapd("serve", "127.0.0.1:0", "S0", "S0").gave(1, errors="snapd: S0: it is the same file as S0: each file is named once\n")
+    snapd("serve", "127.0.0.1:0", "S0", "S0").gave(
+        1, errors="snapd: S0: it is the same file as S0: each file is named once\n"
+    )
 
 
 def test_a_stop_by_any_signal_keeps_all(snapd, _):
@@ -249,7 +255,8 @@ def state_of(process):
 
 
 def test_it_serves_on_behind_a_pause(snapd, _):
-    """As by a shell's Ctrl-Z and `fg`: what waits meanwhile is answered, on connections that are there and on new ones."""
+    """As by a shell's Ctrl-Z and `fg`: what waits meanwhile is answered,
+    on connections that are there and on new ones."""
     with Server(snapd, *two(snapd)) as server, server.connect() as beside:
         for number in (1, 2, 3):
             server.process.send_signal(signal.SIGSTOP)
@@ -377,7 +384,9 @@ def test_standard_output_that_is_closed_or_full(snapd, _):
 def test_what_was_stored_is_said_where_it_cannot_be_printed(snapd, _):
     with Server(snapd, *two(snapd)) as server, open("/dev/full", "wb") as full:
         run = snapd("call", server.address, "update", 1, 1, "00", stdout=full)
-        assert run.status == 1 and run.errors.startswith("snapd: stored 1, but standard output: No space left on device"), run
+        assert (
+            run.status == 1 and run.errors.startswith("snapd: stored 1, but standard output: No space left on device")
+        ), run
         snapd("call", server.address, "update", 1, 1, "00").gave(0, "stored 1\n")
 
 

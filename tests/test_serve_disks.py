@@ -1,5 +1,5 @@
-"""`snapd serve` on disks that fail, fill up, wait or are damaged: the segment is fenced, the others go on, scans show what was
-acknowledged, and a restart recovers."""
+"""`snapd serve` on disks that fail, fill up, wait or are damaged: the segment is fenced, the others go on, scans show
+what was acknowledged, and a restart recovers."""
 
 import contextlib
 import errno
@@ -49,12 +49,16 @@ def test_a_failed_call_fences_its_segment_alone(snapd, _):
             with Server(snapd, *files, env=disk.env) as server, server.connect() as stream:
                 disk.says(f"S0 {call} fail {why}")
                 stream.sendall(update(0, 2, b"new") + update(0, 2, b"new") + SCAN + STATUS)
-                wanted = refused(13, 1) + refused(6, 1) + snapshot((1, b"hi"), (1, b"hi")) + standings((1, True), (1, False))
+                wanted = (
+                    refused(13, 1) + refused(6, 1) + snapshot((1, b"hi"), (1, b"hi")) + standings((1, True), (1, False))
+                )
                 assert received(stream, len(wanted)) == wanted, (call, why)
                 disk.says()
                 # The disk is sound again, and the segment stays fenced. What needs no disk is answered as before.
                 server.ask(update(0, 2, b"new"), refused(6, 1))
-                server.ask(update(0, 1, b"hi") + update(0, 1, b"x") + update(0, 5), stored(1) + refused(4, 1) + refused(5, 1))
+                server.ask(
+                    update(0, 1, b"hi") + update(0, 1, b"x") + update(0, 5), stored(1) + refused(4, 1) + refused(5, 1)
+                )
                 server.ask(update(1, 2, b"on") + SCAN, stored(2) + snapshot((1, b"hi"), (2, b"on")))
             with Server(snapd, *files) as server:
                 assert server.scan()[0] in ((1, b"hi"), (2, b"new")) and server.scan()[1] == (2, b"on")
@@ -100,8 +104,9 @@ def test_a_start_on_a_failing_disk(snapd, _):
 # ---- a disk that waits ----
 
 def test_no_outcome_is_missed_by_a_worker_that_falls_asleep(snapd, _):
-    """A worker spins for less than a millisecond before it sleeps, and is woken only where it sleeps. Stores that take from less to more
-    than that have their outcomes come while it does the one, the other, or passes from one to the other."""
+    """A worker spins for less than a millisecond before it sleeps, and is woken only where it sleeps. Stores that take
+    from less to more than that have their outcomes come while it does the one, the other, or passes from one to the
+    other."""
     disk, number = Disk(snapd), 0
     with Server(snapd, *segments(snapd, FRESH), env=disk.env, scanners=1) as server, server.connect() as stream:
         for rest in range(0, 2000, 40):
@@ -224,7 +229,9 @@ def test_the_file_system_is_read_only(snapd, _):
     with file_system(snapd, "size=256k") as place:
         files = segments(snapd, TWO, TWO, folder="small")
         subprocess.run(["mount", "-o", "remount,ro", place], check=True)
-        snapd("serve", "127.0.0.1:0", *files).gave(1, errors=remedies.failed("small/S0", remedies.READ_ONLY, remedies.read_only("small/S0")))
+        snapd("serve", "127.0.0.1:0", *files).gave(
+            1, errors=remedies.failed("small/S0", remedies.READ_ONLY, remedies.read_only("small/S0"))
+        )
         # Commands that only read still work.
         snapd("get", "small/S0", "--index", 0, "--count", 2).gave(0, "hi")
         assert snapd("check", "small/S0").status == 0

@@ -66,8 +66,8 @@ def test_replies_keep_the_order_of_their_requests(snapd, _):
 def test_payloads_that_are_no_requests(snapd, _):
     with Server(snapd, *segments(snapd, HI)) as server, server.connect() as stream:
         for payload in [
-            b"", b"\0", b"\x01", b"\x01\0" + bytes(7), b"\x02\0", b"\x03\x03", b"\x04", b"\x81" + bytes(8), b"\xe0" + bytes(9),
-            b"\xff" * 66_000, b"\x02" * 66_000,
+            b"", b"\0", b"\x01", b"\x01\0" + bytes(7), b"\x02\0", b"\x03\x03", b"\x04", b"\x81" + bytes(8),
+            b"\xe0" + bytes(9), b"\xff" * 66_000, b"\x02" * 66_000,
         ]:
             stream.sendall(frame(payload) + STATUS)
             wanted = MALFORMED + standings((1, False))
@@ -76,7 +76,9 @@ def test_payloads_that_are_no_requests(snapd, _):
         for value in (b"v" * 65_990, b"v" * 4_081):
             stream.sendall(update(0, 2, value))
             assert received(stream, 14) == refused(3, len(value))
-        for number, answer in [(0, refused(5, 1)), (2**63 - 1, refused(5, 1)), (2**63, refused(5, 1)), (2**64 - 1, refused(5, 1))]:
+        for number, answer in [
+            (0, refused(5, 1)), (2**63 - 1, refused(5, 1)), (2**63, refused(5, 1)), (2**64 - 1, refused(5, 1)),
+        ]:
             stream.sendall(update(0, number, b"hi"))
             assert received(stream, 14) == answer
 
@@ -148,9 +150,14 @@ def test_a_client_that_vanishes_leaves_its_update(snapd, _):
 
 
 def test_two_connections_see_each_other(snapd, _):
-    """An update is answered on one; then a scan on another one, which made an update of another segment before, has it."""
+    """An update is answered on one; then a scan on another one, which made an update of another segment before,
+    has it."""
     for scanners in (1, 2, 4):
-        with Server(snapd, *fresh(snapd, 2), scanners=scanners) as server, server.connect() as one, server.connect() as other:
+        with (
+            Server(snapd, *fresh(snapd, 2), scanners=scanners) as server,
+            server.connect() as one,
+            server.connect() as other,
+        ):
             for number in range(1, 101):
                 other.sendall(update(1, number, b"b%d" % number))
                 assert received(other, 13) == stored(number)

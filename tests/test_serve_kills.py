@@ -1,4 +1,5 @@
-"""`kill -9` of the server under load, again and again: all that was acknowledged and all that a scan has shown is there."""
+"""`kill -9` of the server under load, again and again: all that was acknowledged and all that a scan has shown is
+there."""
 
 import subprocess
 import time

@@ -1,4 +1,5 @@
-"""`snapd serve` with more callers than it has room for: those wait, all others are served, and none is lost once there is room."""
+"""`snapd serve` with more callers than it has room for: those wait, all others are served,
+and none is lost once there is room."""
 
 import contextlib
 import errno
@@ -96,12 +97,14 @@ def test_a_disk_that_hangs_makes_it_deaf_to_nobody_for_long(snapd, _):
         server.ask(SCAN, snapshot((2, b"new"), (2, b"on")))
 
 
-# One listener alone has a descriptor for the next caller at once, while it waits for it. Of two the second counts as a connection.
+# One listener alone has a descriptor for the next caller at once, while it waits for it.
+# Of two the second counts as a connection.
 TWO_LISTENERS = ("--listen", LOOPBACK)
 
 
 def test_want_of_descriptors_where_nothing_is_open_is_told_each_time(snapd, _):
-    """No connection is there that could go and make room, and there is room all the same once the process may have more."""
+    """No connection is there that could go and make room, and there is room all the same once the process may have
+    more."""
     with Server(snapd, *fresh(snapd, 1), more=TWO_LISTENERS) as server:
         process, (soft, hard) = server.process.pid, resource.getrlimit(resource.RLIMIT_NOFILE)
         for times in range(1, 4):
@@ -133,7 +136,8 @@ def test_room_that_others_made_is_told(snapd, _):
 
 
 class Honest(threading.Thread):
-    """A client with an update for a segment of its own, which gives up soon and tries again, on a new connection each time."""
+    """A client with an update for a segment of its own, which gives up soon and tries again,
+    on a new connection each time."""
 
     TRIES = 3
 
@@ -158,7 +162,8 @@ def test_honest_clients_get_through_a_disk_that_hangs(snapd, _):
     disk, accepts = Disk(snapd), Accepts(snapd.folder)
     env = disk.env | accepts.env | {"LD_PRELOAD": f"{disk.env['LD_PRELOAD']}:{accepts.env['LD_PRELOAD']}"}
     files, before = segments(snapd, *[TWO] * 16), snapshot(*[(1, b"hi")] * 16)
-    # Beside the files and what the server needs there is room for more than all connections of a first call, and for few more.
+    # Beside the files and what the server needs there is room for more than all connections of a first call,
+    # and for few more.
     with Server(snapd, *files, env=env, scanners=2, descriptors=100) as server, server.connect() as there:
         assert answered(there, before)
         disk.says(*(f"{file} sync hold 0" for file in files))
@@ -232,14 +237,17 @@ def test_faults_that_pass_end_nothing(snapd, _):
 
 
 def test_a_listener_that_fails_for_good_ends_it(snapd, _):
-    """It says so at once and takes no more callers. A request that was begun is answered, and the process ends with its status.
-    The rests take a thousandth of their time here, and all of them more than three minutes without that."""
+    """It says so at once and takes no more callers. A request that was begun is answered, and the process ends with its
+    status. The rests take a thousandth of their time here, and all of them more than three minutes without that."""
     accepts = Accepts(snapd.folder, 2, 10**6, errno.EBADF)
     env = accepts.env | {"LD_PRELOAD": f"{accepts.env['LD_PRELOAD']}:{library('sleeps')}"}
     with Server(snapd, *fresh(snapd, 1), env=env) as server, server.connect() as stream, server.connect() as idle:
         request = update(0, 1, b"begun")
         stream.sendall(request[:9])
-        comes_to(["the listener fails: no more connections are taken, and the server stops"], lambda: server.logged("WARN", "accept"))
+        comes_to(
+            ["the listener fails: no more connections are taken, and the server stops"],
+            lambda: server.logged("WARN", "accept"),
+        )
         comes_to(True, lambda: refuses(server))
         stream.sendall(request[9:])
         assert received(stream, 13) == stored(1)
@@ -295,6 +303,16 @@ def test_silent_connections_are_let_go(snapd, _):
             comes_to(2, lambda: len(server.logged("DEBUG", "connection")))
             disk.says()
             assert received(waits, 13) == stored(2)
+
+
+def test_who_said_all_is_answered_before_it_is_let_go(snapd, _):
+    """Its connection ends by itself, and not for its silence."""
+    with Server(snapd, *fresh(snapd, 1), more=("--idle", 1, "--log", "debug")) as server, server.connect() as said:
+        name = "{}:{}".format(*said.getsockname())
+        said.sendall(SCAN)
+        said.shutdown(socket.SHUT_WR)
+        assert to_its_end(said) == snapshot((0, b""))
+        comes_to([f"{name} closed"], lambda: server.logged("DEBUG", "connection"))
 
 
 def readable(stream):

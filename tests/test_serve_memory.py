@@ -8,7 +8,8 @@ import time
 
 import segment_file as layout
 from preload import library
-from serving import FRESH, LOOPBACK, SCAN, STATUS, Server, comes_to, received, refused, segments, snapshot, stored, update
+from serving import FRESH, LOOPBACK, SCAN, STATUS, Server, comes_to, received, refused, segments, snapshot, stored
+from serving import update
 from talk import CLOSED, HELD, VALUE, asked, talked, told
 from test_serve_disks import Disk
 from waiting import wait_until
@@ -19,7 +20,10 @@ class Memory:
 
     def __init__(self, snapd, number):
         self.wanting = snapd.file("wanting")
-        self.env = {"LD_PRELOAD": library("allocations"), "ALLOCATIONS_REFUSE": str(number), "ALLOCATIONS_WHILE": str(self.wanting)}
+        self.env = {
+            "LD_PRELOAD": library("allocations"), "ALLOCATIONS_REFUSE": str(number),
+            "ALLOCATIONS_WHILE": str(self.wanting),
+        }
 
     def runs_out(self):
         self.wanting.write_bytes(b"")
@@ -84,8 +88,8 @@ def test_each_allocation_of_a_conversation_is_refused(snapd, _):
 
 
 def test_each_allocation_of_updates_that_queue_is_refused(snapd, _):
-    """The first update's store is held while the same update comes over more connections, so the queue to the store grows. An
-    update that finds no memory there waits for it a little: none is refused as if the segment were fenced."""
+    """The first update's store is held while the same update comes over more connections, so the queue to the store
+    grows. An update that finds no memory there waits for it a little: none is refused as if the segment were fenced."""
     wanted = stored(1)
     for number in itertools.count(1):
         disk, memory = Disk(snapd), Memory(snapd, number)

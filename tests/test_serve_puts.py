@@ -110,7 +110,9 @@ def test_the_same_update_is_sent_again_and_no_refused_one(snapd, _):
 
 def test_a_put_without_an_answer_names_its_number(snapd, _):
     with peer_of((STATUS, NUMBERS), (update(0, 5, b"hi"), None)) as peer:
-        why = f"snapd: {peer.address}: the connection ended before the reply: whether the request was done isn't known: "
+        why = (
+            f"snapd: {peer.address}: the connection ended before the reply: whether the request was done isn't known: "
+        )
         why += "send it again with --after 4, since an update is stored once\n"
         put(snapd, peer, 0, stdin="hi").gave(1, errors=why)
 
@@ -123,7 +125,9 @@ def test_the_value_comes_before_any_connection(snapd, _):
         run = snapd("call", nobody, "put", 0, stdin=unread)
     assert run == Run(1, b"", "snapd: standard input: Input/output error (os error 5)\n"), run
     run = snapd("call", nobody, "put", 0, stdin=b"x" * 4_080)
-    run.failed_with(1, f"snapd: {nobody}: no connection to the server could be made\n", f"snapd: {nobody}: Connection refused")
+    run.failed_with(
+        1, f"snapd: {nobody}: no connection to the server could be made\n", f"snapd: {nobody}: Connection refused"
+    )
 
 
 def test_a_get_asks_for_one_segment(snapd, _):

@@ -1,5 +1,5 @@
-"""`snapd serve` where calls of the system on its sockets fail, each in turn: the connection of that call may be closed, the others
-are served, and nothing that was acknowledged is lost."""
+"""`snapd serve` where calls of the system on its sockets fail, each in turn: the connection of that call may be closed,
+the others are served, and nothing that was acknowledged is lost."""
 
 import errno
 import itertools
@@ -47,7 +47,10 @@ class Sockets:
 
     def __init__(self, snapd, call, number, why):
         self.failing = snapd.file("failing")
-        self.env = {"LD_PRELOAD": library("sockets"), "SOCKETS_FAIL": f"{call} {number} {why}", "SOCKETS_WHILE": str(self.failing)}
+        self.env = {
+            "LD_PRELOAD": library("sockets"), "SOCKETS_FAIL": f"{call} {number} {why}",
+            "SOCKETS_WHILE": str(self.failing),
+        }
 
     def fail(self):
         self.failing.write_bytes(b"")
@@ -98,7 +101,9 @@ def test_each_call_of_a_start_fails(snapd, _):
         for number in itertools.count(1):
             sockets = Sockets(snapd, call, number, why)
             sockets.fail()
-            run = snapd("serve", LOOPBACK, *files, "--scanners", 2, "--connections", 0, "--log", "error", env=sockets.env)
+            run = snapd(
+                "serve", LOOPBACK, *files, "--scanners", 2, "--connections", 0, "--log", "error", env=sockets.env
+            )
             came = sockets.has_failed()
             # Without keepalive probes a vanished peer is found at the next write.
             if call == "setsockopt" and run.status == 0:
@@ -114,8 +119,8 @@ def test_each_call_of_a_start_fails(snapd, _):
 
 
 def test_a_worker_that_cannot_wait_ends_the_server(snapd, _):
-    """Its connections are closed. Those of the other worker are served until the next one is dealt to it: then no more are accepted,
-    a request that has begun is answered, and the server has failed."""
+    """Its connections are closed. Those of the other worker are served until the next one is dealt to it: then no more
+    are accepted, a request that has begun is answered, and the server has failed."""
     sockets, files = Sockets(snapd, "epoll_wait", 1, errno.EBADF), segments(snapd, FRESH, FRESH)
     with Server(snapd, *files, scanners=2, env=sockets.env) as server:
         with server.connect() as first, server.connect() as second:

@@ -149,8 +149,10 @@ def test_no_mode_is_given_back_where_others_could_put_a_link(snapd, _):
         # The owner of a folder can change it, whatever its mode.
         for owner in (NOBODY, 0):
             os.chown(where, owner, -1)
-            run = subprocess.run((*masked("077"), snapd.path, "serve", "unix:shared/a", *files, *mode, "--connections", "0"),
-                                 cwd=snapd.folder, capture_output=True, text=True, timeout=PATIENCE)
+            run = subprocess.run(
+                (*masked("077"), snapd.path, "serve", "unix:shared/a", *files, *mode, "--connections", "0"),
+                cwd=snapd.folder, capture_output=True, text=True, timeout=PATIENCE,
+            )
             assert (run.returncode, MASKED in run.stderr) == ((0, False) if owner == 0 else (1, True)), run
 
 
@@ -196,7 +198,10 @@ def test_nobody_connects_before_the_mode_is_set(snapd, _):
 def test_paths_that_no_socket_has(snapd, _):
     said = "an address of a Unix socket is unix:PATH, and the path is missing: give for example unix:snapd.sock"
     long = "a" * 108
-    too_long = "the path of a Unix socket has at most 107 bytes, and this one has 108: give a shorter one, from the folder where it is used"
+    too_long = (
+        "the path of a Unix socket has at most 107 bytes, and this one has 108: "
+        "give a shorter one, from the folder where it is used"
+    )
     for words in (("serve", "{}", "missing"), ("serve", LOOPBACK, "--listen", "{}", "missing"), ("call", "{}", "scan")):
         for path, why in (("", said), (long, too_long)):
             address = f"unix:{path}"
@@ -213,7 +218,10 @@ def test_the_longest_path(snapd, _):
 
 def test_a_folder_that_is_not_there(snapd, _):
     run = snapd("serve", "unix:none/a", *fresh(snapd, 1))
-    refused(run, "unix:none/a", "No such file or directory (os error 2): give a path in a folder where this user may make files")
+    refused(
+        run, "unix:none/a",
+        "No such file or directory (os error 2): give a path in a folder where this user may make files",
+    )
 
 
 # ---- what is at the path already ----
@@ -304,7 +312,9 @@ def test_anything_else_at_the_path_is_left(snapd, _):
             before = os.lstat(name)
             refused(snapd("serve", f"unix:{name}", *other), f"unix:{name}", NO_SOCKET)
             after = os.lstat(name)
-            assert (after.st_ino, after.st_mode, after.st_mtime_ns) == (before.st_ino, before.st_mode, before.st_mtime_ns), name
+            assert (
+                (after.st_ino, after.st_mode, after.st_mtime_ns) == (before.st_ino, before.st_mode, before.st_mtime_ns)
+            ), name
         assert pathlib.Path("file").read_bytes() == b"kept" and os.path.lexists("dead")
         assert os.readlink("link") == "alive" and asks("alive") == [(0, b"")]
 
@@ -335,7 +345,9 @@ def test_two_servers_start_at_one_path_at_once(snapd, _):
             with folder_of(snapd), socket.socket(socket.AF_UNIX) as left:
                 left.bind("snapd.sock")
         processes = [
-            subprocess.Popen([snapd.path, "serve", ADDRESS, *its], cwd=snapd.folder, stdout=subprocess.PIPE, stderr=subprocess.PIPE)
+            subprocess.Popen(
+                [snapd.path, "serve", ADDRESS, *its], cwd=snapd.folder, stdout=subprocess.PIPE, stderr=subprocess.PIPE
+            )
             for its in files
         ]
         try:
@@ -429,7 +441,9 @@ def test_each_call_of_a_start_fails(snapd, _):
                 assert run.status == (1 if came else 0), (call, number, run)
                 assert run.errors.startswith("snapd: ") == came and run.errors.count("\n") == came, (call, number, run)
                 assert (b"listening" in run.output) != came, (call, number, run)
-            assert left_over(snapd) == [] and before == [snapd.file(name).read_bytes() for name in files], (call, number)
+            assert (
+                left_over(snapd) == [] and before == [snapd.file(name).read_bytes() for name in files]
+            ), (call, number)
             if not came:
                 break
         assert number > 1, call
@@ -460,7 +474,9 @@ def test_sixteen_addresses_and_no_more(snapd, _):
         for number in range(15):
             snapd("call", f"unix:s{number}", "scan").gave(0, EMPTY)
     run = snapd("serve", ADDRESS, *files, *more, "--listen", LOOPBACK)
-    assert run.status == 2 and run.errors.startswith("snapd: error: the number of addresses 17 is not from 1 to 16\n"), run
+    assert (
+        run.status == 2 and run.errors.startswith("snapd: error: the number of addresses 17 is not from 1 to 16\n")
+    ), run
 
 
 def test_each_address_that_everybody_reaches_is_warned_of(snapd, _):
@@ -491,7 +507,9 @@ def test_the_most_connections_count_over_all_addresses(snapd, _):
                     third.settimeout(0.3)
                     with contextlib.suppress(TimeoutError):
                         assert not third.recv(1)
-            assert server.logged("WARN", "accept") == ["2 connections are open, and there is no room for more: callers wait"]
+            assert server.logged("WARN", "accept") == [
+                "2 connections are open, and there is no room for more: callers wait"
+            ]
             with tcp() as third:
                 third.sendall(SCAN)
                 first.close()
@@ -501,7 +519,10 @@ def test_the_most_connections_count_over_all_addresses(snapd, _):
 def test_no_descriptor_is_wanting(snapd, _):
     """With sixteen addresses of both kinds, and few descriptors: callers without room wait, and nothing fails."""
     more = [word for number in range(7) for word in ("--listen", f"unix:s{number}", "--listen", LOOPBACK)]
-    with AtSocket(snapd, *fresh(snapd, 2), more=more, descriptors=60, scanners=2) as server, contextlib.ExitStack() as opened:
+    with (
+        AtSocket(snapd, *fresh(snapd, 2), more=more, descriptors=60, scanners=2) as server,
+        contextlib.ExitStack() as opened,
+    ):
         server.printed(14)
         for _ in range(60):
             opened.enter_context(server.connect())

@@ -33,8 +33,12 @@ def test_a_part_is_the_lines_of_its_segments(snapd, _):
             snapd("call", server.address, "update", segment, 1, f"{segment:02x}").gave(0, "stored 1\n")
         snapd("call", server.address, "update", 3, 2, "6869").gave(0, "stored 2\n")
         scan = snapd("call", server.address, "scan")
-        snapd("call", server.address, "part", "0009").gave(0, "segment 0 number 1 value 00\nsegment 3 number 2 value 6869\n")
-        snapd("call", server.address, "part", "8002").gave(0, "segment 1 number 0 value -\nsegment 15 number 1 value 0f\n")
+        snapd("call", server.address, "part", "0009").gave(
+            0, "segment 0 number 1 value 00\nsegment 3 number 2 value 6869\n"
+        )
+        snapd("call", server.address, "part", "8002").gave(
+            0, "segment 1 number 0 value -\nsegment 15 number 1 value 0f\n"
+        )
         for mask in ("aBc0", "ABC0", "abc0", "0001", "8000", "5555", "FFFF"):
             named = [segment for segment in range(16) if int(mask, 16) >> segment & 1]
             snapd("call", server.address, "part", mask).gave(0, lines_of(scan, *named))
@@ -44,6 +48,8 @@ def test_a_part_is_the_lines_of_its_segments(snapd, _):
 def test_a_part_of_segments_that_are_not_there(snapd, _):
     """The refusal's detail is how many there are."""
     with Server(snapd, *fresh(snapd, 2)) as server:
-        snapd("call", server.address, "part", "0003").gave(0, "segment 0 number 0 value -\nsegment 1 number 0 value -\n")
+        snapd("call", server.address, "part", "0003").gave(
+            0, "segment 0 number 0 value -\nsegment 1 number 0 value -\n"
+        )
         for mask in ("0004", "0005", "8001", "ffff"):
             snapd("call", server.address, "part", mask).gave(3, errors="snapd: refused 2 NoSegment 2\n")

@@ -204,8 +204,8 @@ def answered_while_one_is_out(rest):
 
 
 def test_a_request_that_is_out_holds_nobody_up(_, __):
-    """A slow machine answers few in a second. If the request held the others up, each of them would wait for it, however long
-    it is out."""
+    """A slow machine answers few in a second. If the request held the others up, each of them would wait for it,
+    however long it is out."""
     assert any(answered_while_one_is_out(rest) >= 10 for rest in (1, 4, 16, 50))
 
 
@@ -223,6 +223,14 @@ def test_peers_that_vanish_harm_nobody(_, __):
         trial.ask(UPDATE + SCAN, STORED + SCANNED)
         ends, _, last = trial.end()
         assert len(ends) == 42 and last == "served 42"
+
+
+def test_an_update_whose_peer_is_gone_leaves_the_gate(_, __):
+    with Trial(1, 20_000, 2) as trial:
+        with trial.connect() as gone:
+            gone.sendall(UPDATE)
+        trial.ask(UPDATE, STORED)
+        assert trial.end()[1:] == ("entered 2, left 2", "served 2")
 
 
 def test_random_bytes(_, rng):

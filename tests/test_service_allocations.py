@@ -1,5 +1,6 @@
-"""Each allocation of a node's answers is refused in turn: a scan and a status are refused `NoMemory`, and updates ask for none.
-`try_parts bench-service` makes the requests and prints the last reply; the end-to-end tests want it built (`make programs`)."""
+"""Each allocation of a node's answers is refused in turn: a scan and a status are refused `NoMemory`, and updates ask
+for none. `try_parts bench-service` makes the requests and prints the last reply; the end-to-end tests want it built
+(`make programs`)."""
 
 import os
 import subprocess

@@ -88,7 +88,9 @@ def threads_of(server):
 def test_a_folder_is_served_by_each_of_its_words(snapd, _):
     """None of them is lost on the way from the folder to its files."""
     words = ("--listen", LOOPBACK, "--socket-mode", "0640", "--scanners", 3, "--connections", 4, "--clients-max", 2)
-    with AtSocket(snapd, address="unix:here", more=(*board(snapd), *words, "--idle", 1, "--log", "debug", "--http", LOOPBACK)) as server:
+    with AtSocket(
+        snapd, address="unix:here", more=(*board(snapd), *words, "--idle", 1, "--log", "debug", "--http", LOOPBACK)
+    ) as server:
         assert server.printed(1)[0].startswith("listening 127.0.0.1:")
         assert os.stat(server.path).st_mode & 0o777 == 0o640
         # Its own, that of the log, one for each segment, one for each scanner, and that of HTTP.
@@ -99,7 +101,10 @@ def test_a_folder_is_served_by_each_of_its_words(snapd, _):
             assert b'"segment"' in reply.read()
         with server.connect() as first, server.connect() as second, server.connect() as third:
             third.sendall(SCAN)
-            comes_to(["2 connections are open, and there is no room for more: callers wait"], lambda: server.logged("WARN", "accept"))
+            comes_to(
+                ["2 connections are open, and there is no room for more: callers wait"],
+                lambda: server.logged("WARN", "accept"),
+            )
             # Both say nothing for a second.
             assert first.recv(1) == b"" and second.recv(1) == b""
             assert received(third, len(EMPTY)) == EMPTY
@@ -138,6 +143,7 @@ def test_a_closed_stream_ends_a_server_before_it_opens_a_file(snapd, _):
                 stdin=subprocess.DEVNULL, stdout=subprocess.PIPE, stderr=subprocess.PIPE, timeout=PATIENCE,
                 preexec_fn=lambda: [os.close(it) for it in closed],
             )
-            said = b"" if 2 in closed else b"snapd: standard %s: Bad file descriptor (os error 9)\n" % (b"input" if 0 in closed else b"output")
+            stream = b"input" if 0 in closed else b"output"
+            said = b"" if 2 in closed else b"snapd: standard %s: Bad file descriptor (os error 9)\n" % stream
             assert (run.returncode, run.stdout, run.stderr) == (1, b"", said), (words, closed, run)
             assert [it.read_bytes() for it in held] == before, (words, closed)

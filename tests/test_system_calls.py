@@ -11,8 +11,8 @@ CALL = re.compile(r"^(\d+ +)?(\w+)\((.*)\) += (-?\d+)")
 
 
 def calls_of(snapd, *words, stdin=b"", file="F", folder="."):
-    """The calls on a file, its folder and the file `OLD` in order, as (name, offset and length), and those on the standard
-    streams."""
+    """The calls on a file, its folder and the file `OLD` in order, as (name, offset and length), and those on the
+    standard streams."""
     if shutil.which("strace") is None:
         raise Skipped("strace isn't installed")
     log = snapd.file("strace.log")
@@ -39,7 +39,9 @@ def calls_of(snapd, *words, stdin=b"", file="F", folder="."):
         if path is not None:
             on_file.append(("look at the name" + names[path[1]],))
         elif number in opened:
-            numbers = [int(word) for word in re.findall(r", (\d+)(?=,|$)", words_of_call)] if name.startswith("p") else []
+            numbers = (
+                [int(word) for word in re.findall(r", (\d+)(?=,|$)", words_of_call)] if name.startswith("p") else []
+            )
             on_file.append((name + opened[number], *numbers[-2:][::-1]))
             if name == "close":
                 del opened[number]
@@ -57,8 +59,10 @@ SYNCED = [("fdatasync",), LOOK, ("look at the name",)]
 SYNCED_ALONE = [("fdatasync",)]
 NAMED = [("open of the folder",), ("fsync of the folder",), ("close of the folder",)]
 RECOVERED = [*SYNCED, ("pread64", 0, 28_672)]
-# Before the first write of a process: whether the file has the length, the header, and the gates and numbers that it read.
-COMPARED = [("lseek",), ("pread64", 0, 4_096), *(("pread64", layout.gate_at(slot), 4_112) for slot in range(3))]
+# Before the first write of a process: whether the file has the length, the header and the heads of slots that it read.
+# Each part is read with the gate that follows it, and nothing follows the last.
+PARTS = ((0, 4_097), (4_096, 8_193), (12_288, 8_193), (20_480, 8_192))
+COMPARED = [("lseek",), *(("pread64", at, count) for at, count in PARTS)]
 # Of a file that is taken for a new segment: whether it is formatted, and the calls that format it.
 LOOKED_AT = [*SYNCED, ("pread64", 0, 4_096)]
 FILLED = [("pwrite64", 0, 4_095), ("pwrite64", 4_096, 24_576), *SYNCED_ALONE, ("pwrite64", 4_095, 1), *SYNCED]
@@ -158,4 +162,6 @@ def test_refused_calls_make_none(snapd, _):
             if data or command != "format":
                 snapd.file().write_bytes(data)
                 on_file, _ = calls_of(snapd, command, "F", stdin=b"hi")
-                assert on_file == (OPENED if command in ("format", "put") else READ) + [("close",)], (command, len(data), on_file)
+                assert (
+                    on_file == (OPENED if command in ("format", "put") else READ) + [("close",)]
+                ), (command, len(data), on_file)

@@ -15,8 +15,8 @@ import threading
 import time
 
 from preload import Accepts, library
-from serving import LOG_LINE, LOOPBACK, SCAN, STATUS, Server, frame, free_port, fresh, refused, reset, snapshot, standings, stored
-from serving import to_its_end, update
+from serving import LOG_LINE, LOOPBACK, SCAN, STATUS, Server, frame, free_port, fresh, refused, reset, snapshot
+from serving import standings, stored, to_its_end, update
 from talk import CLOSED, told
 from test_serve_disks import Disk
 from test_serve_memory import NO_THREAD
@@ -42,7 +42,11 @@ def all_sleep(server):
 def test_who_waits_sleeps(snapd, _):
     """Neither an idle server wants a processor, nor one whose only update waits for its disk."""
     disk = Disk(snapd)
-    with Server(snapd, *fresh(snapd, 2), scanners=2, env=disk.env) as server, server.connect() as idle, server.connect() as waits:
+    with (
+        Server(snapd, *fresh(snapd, 2), scanners=2, env=disk.env) as server,
+        server.connect() as idle,
+        server.connect() as waits,
+    ):
         assert told(idle, update(0, 1, b"a")) == stored(1) and told(waits, STATUS) == standings((1, False), (0, False))
         # A thread that spins before it sleeps does so for less than a millisecond each time, on an idle processor.
         wait_until(lambda: all_sleep(server), "the sleep of an idle server")
@@ -107,12 +111,16 @@ def ends_of(server):
 
 
 def test_how_connections_are_let_go_is_noted(snapd, _):
-    """Of those ends that no other test names: silence, a peer that left its update, a write that failed, and a server that stops."""
+    """Of those ends that no other test names: silence, a peer that left its update, a write that failed,
+    and a server that stops."""
     disk = Disk(snapd)
     with Server(snapd, *fresh(snapd, 1), env=disk.env, more=("--idle", 1, "--log", "debug")) as server:
         disk.says("S0 sync hold 0")
         with server.connect() as quiet, server.connect() as gone:
-            wanted = {name_of(quiet): "let go of: it said nothing for too long", name_of(gone): "lost while an update was under way"}
+            wanted = {
+                name_of(quiet): "let go of: it said nothing for too long",
+                name_of(gone): "lost while an update was under way",
+            }
             gone.sendall(update(0, 1, b"a"))
             disk.wait_for_hold()
             reset(gone)
@@ -122,7 +130,10 @@ def test_how_connections_are_let_go_is_noted(snapd, _):
         comes_to(0, server.connections)
         disk.says()
     sockets = Sockets(snapd, "send", 1, errno.EPIPE)
-    with Server(snapd, *fresh(snapd, 1), env=sockets.env, more=("--log", "debug")) as server, server.connect() as stream:
+    with (
+        Server(snapd, *fresh(snapd, 1), env=sockets.env, more=("--log", "debug")) as server,
+        server.connect() as stream,
+    ):
         sockets.fail()
         assert told(stream, SCAN) == CLOSED
         comes_to({name_of(stream): "lost while it was written"}, lambda: ends_of(server))
@@ -144,7 +155,10 @@ def test_who_talks_is_not_let_go_of(snapd, _):
     """Nor a peer that waits for its update, whether it sends something in between or not. Beside them a silent one is
     closed, not before its time, and one that began a request and sends no more."""
     disk, may, ended = Disk(snapd), 3, []
-    with Server(snapd, *fresh(snapd, 2), scanners=1, env=disk.env, more=("--idle", may)) as server, contextlib.ExitStack() as peers:
+    with (
+        Server(snapd, *fresh(snapd, 2), scanners=1, env=disk.env, more=("--idle", may)) as server,
+        contextlib.ExitStack() as peers,
+    ):
         disk.says("S0 sync hold 0", "S1 sync hold 0")
         began = time.monotonic()
         quiet, begun, waits, asks, *talking = (peers.enter_context(server.connect()) for _ in range(6))
@@ -180,7 +194,8 @@ def test_who_came_is_served_to_its_own_end(snapd, _):
 
 
 def test_want_of_room_is_told_once(snapd, _):
-    """And how many are open then; however often it is asked again whether there is room, which it is each hundredth of a second."""
+    """And how many are open then; however often it is asked again whether there is room,
+    which it is each hundredth of a second."""
     with Server(snapd, *fresh(snapd, 1), more=("--clients-max", 2)) as server:
         with server.connect() as first, server.connect() as second, server.connect() as third:
             assert [told(first, SCAN), told(second, SCAN)] == [EMPTY] * 2
@@ -209,7 +224,8 @@ def test_who_began_a_request_keeps_no_server_that_stops(snapd, _):
 
 
 def test_a_worker_that_failed_is_told_where_all_have_come(snapd, _):
-    """As many connections as were asked for were dealt before one of the workers failed: they aren't said to be served."""
+    """As many connections as were asked for were dealt before one of the workers failed:
+    they aren't said to be served."""
     sockets = Sockets(snapd, "epoll_wait", 1, errno.EBADF)
     with Server(snapd, *fresh(snapd, 1), scanners=2, connections=2, env=sockets.env) as server:
         with server.connect() as first, server.connect() as second:
@@ -237,8 +253,8 @@ NO_DELAY = f"setsockopt {socket.IPPROTO_TCP} {socket.TCP_NODELAY} 1"
 
 
 def test_what_is_asked_of_sockets(snapd, _):
-    """Of each connection the writing side alone is shut down, and of the listener both; no small write is delayed; and the queue of
-    callers is as long as the system lets it be."""
+    """Of each connection the writing side alone is shut down, and of the listener both; no small write is delayed; and
+    the queue of callers is as long as the system lets it be."""
     path, env = told_of(snapd)
     with Server(snapd, *fresh(snapd, 1), connections=3, env=env) as server:
         for _ in range(3):
@@ -270,7 +286,9 @@ def test_each_number_of_a_name_is_tried(snapd, _):
             server.ask(SCAN, EMPTY)
     with Server(snapd, *files) as server:
         port = server.place[1]
-        run = snapd("serve", f"several.test:{port}", *fresh(snapd, 1, folder=made(snapd)), env=env("192.0.2.1", "127.0.0.1"))
+        run = snapd(
+            "serve", f"several.test:{port}", *fresh(snapd, 1, folder=made(snapd)), env=env("192.0.2.1", "127.0.0.1")
+        )
         assert run.errors.startswith(f"snapd: several.test:{port}: can't listen there: Address already in use"), run
 
 
@@ -299,8 +317,10 @@ def test_a_migration_looks_before_it_opens(snapd, _):
     """At the standard streams, and at the limit on the length of files. It makes no file where one is in the way."""
     words = 'exec "$0" migrate missing new --index 0 --count 1'
     limit = "files may have 5120 bytes here, and a segment file has 28672: raise the limit (ulimit -f)"
-    for line, why in ((f"{words} <&-", "standard input: Bad file descriptor"), (f"{words} >&-", "standard output: Bad file descriptor"),
-                      (f"ulimit -f 10 && {words}", limit)):
+    for line, why in (
+        (f"{words} <&-", "standard input: Bad file descriptor"),
+        (f"{words} >&-", "standard output: Bad file descriptor"), (f"ulimit -f 10 && {words}", limit),
+    ):
         run = subprocess.run(["sh", "-c", line, snapd.path], cwd=snapd.folder, capture_output=True, text=True)
         assert (run.returncode, run.stdout) == (1, "") and run.stderr.startswith(f"snapd: {why}"), (line, run)
         assert not snapd.file("new").exists(), line
@@ -349,10 +369,13 @@ class Logged:
 
 
 def test_a_line_that_cannot_be_written_ends_no_log(snapd, _):
-    """Standard error takes no more for a while. Of each connection comes a line, or it is counted among those that were lost."""
+    """Standard error takes no more for a while. Of each connection comes a line,
+    or it is counted among those that were lost."""
     logged = Logged()
     words = [snapd.path, "serve", LOOPBACK, *fresh(snapd, 1), "--log", "debug"]
-    process = subprocess.Popen(words, cwd=snapd.folder, stdin=subprocess.DEVNULL, stdout=subprocess.PIPE, stderr=logged.writer)
+    process = subprocess.Popen(
+        words, cwd=snapd.folder, stdin=subprocess.DEVNULL, stdout=subprocess.PIPE, stderr=logged.writer
+    )
     try:
         address = [process.stdout.readline() for _ in range(3)][-1].decode().removeprefix("listening ").strip()
         for _ in range(100):

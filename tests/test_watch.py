@@ -1,4 +1,5 @@
-"""`snapd watch`: what it prints at its start and at each change, as text, as JSON and in a terminal, and what it does without a server."""
+"""`snapd watch`: what it prints at its start and at each change, as text, as JSON and in a terminal,
+and what it does without a server."""
 
 import contextlib
 import errno
@@ -66,7 +67,8 @@ class Watch:
         return self.errors.read_text().splitlines()
 
     def told(self):
-        """What the lines on standard error end in: what went before may be that no connection is made, or that one failed."""
+        """What the lines on standard error end in: what went before may be that no connection is made,
+        or that one failed."""
         assert all(re.fullmatch(r"snapd: \S+: .*", it) for it in self.notes()), self.notes()
         return [it.rpartition(": ")[2] for it in self.notes()]
 
@@ -151,7 +153,9 @@ def test_a_segment_that_the_server_lacks_is_refused(snapd, _):
 
 def test_addresses_that_lack_a_part(snapd, _):
     snapd("watch", "127.0.0.1").failed_with(1, "the port is missing")
-    snapd("serve", "127.0.0.1:0", "F", "--http", ":7071").failed_with(1, ":7071: an address is HOST:PORT or unix:PATH, and the host is missing")
+    snapd("serve", "127.0.0.1:0", "F", "--http", ":7071").failed_with(
+        1, ":7071: an address is HOST:PORT or unix:PATH, and the host is missing"
+    )
 
 
 def test_no_server_at_the_start(snapd, _):
@@ -186,7 +190,10 @@ def test_a_server_that_goes_away_and_comes_back(snapd, _):
 
 
 def test_a_connection_that_was_let_go_of_is_no_loss(snapd, _):
-    with Server(snapd, *fresh(snapd, 1), more=("--idle", "1")) as server, Watch(snapd, server.address, often=("--every", "2500")) as watch:
+    with (
+        Server(snapd, *fresh(snapd, 1), more=("--idle", "1")) as server,
+        Watch(snapd, server.address, often=("--every", "2500")) as watch,
+    ):
         assert watch.lines(1) == [row(0, 0, 'text ""')]
         server.ask(update(0, 1, b"x"), stored(1))
         assert watch.lines(1) == [row(0, 1, 'text "x"')] and watch.notes() == []
@@ -211,7 +218,8 @@ def test_an_output_that_is_closed_ends_it_at_rest(snapd, _):
 
 
 class Stalled:
-    """A peer that takes one connection, and answers nothing on it, or a byte of the answer to a status each half second."""
+    """A peer that takes one connection, and answers nothing on it,
+    or a byte of the answer to a status each half second."""
 
     def __init__(self, is_trickling):
         self.listener = socket.create_server(("127.0.0.1", 0))
@@ -288,12 +296,18 @@ def test_a_board_in_a_terminal(snapd, _):
         with watch:
             shown = terminal.board()
             assert shown[:3] == ["before", f"{server.address}: connected", HEAD] and not any(shown[5:]), shown
-            assert told(shown[3]) == ["0", "0", "-", "-", "ok", '""'] and told(shown[4]) == ["1", "1", "-", "-", "ok", '"hi"'], shown
+            assert (
+                told(shown[3]) == ["0", "0", "-", "-", "ok", '""']
+                and told(shown[4]) == ["1", "1", "-", "-", "ok", '"hi"']
+            ), shown
             assert shown[3] == '      0           0     -       -  ok      ""', shown
             server.ask(update(1, 2, bytes(range(256))), stored(2))
             shown = terminal.comes_to(lambda it: told(it[4])[1] == "2")
             assert told(shown[4])[5] == bytes(range(256)).hex()[:79 - 43], shown
-            server.ask(update(1, 3, "\x85\u00e9".encode()) + update(1, 4, b"\x7f") + update(1, 5, "\u00e9\n".encode()), stored(3) + stored(4) + stored(5))
+            server.ask(
+                update(1, 3, "\x85\u00e9".encode()) + update(1, 4, b"\x7f") + update(1, 5, "\u00e9\n".encode()),
+                stored(3) + stored(4) + stored(5),
+            )
             terminal.comes_to(lambda it: told(it[4])[1:] == ["5", "0s", told(it[4])[3], "ok", '"\u00e9\\n"'])
             terminal.comes_to(lambda it: told(it[4])[2] == "2s" and told(it[3])[2] == "-" and told(it[3])[3] == "0.0")
             assert terminal.screen.gone == [] and terminal.screen.line == 5
@@ -303,17 +317,29 @@ def test_a_board_in_a_terminal(snapd, _):
 def test_a_board_is_cut_by_width_and_height(snapd, _):
     """At each size: the first lines but one, each as wide as fits, and nothing that leaves the terminal at its top."""
     files = segments(snapd, *[[(0, b""), (1, b"v" * 4_080)]] * 16)
-    with Server(snapd, *files) as server, Terminal(200, 40) as terminal, Watch(snapd, server.address, output=terminal.side):
+    with (
+        Server(snapd, *files) as server,
+        Terminal(200, 40) as terminal,
+        Watch(snapd, server.address, output=terminal.side),
+    ):
         whole = terminal.comes_to(lambda it: told(it[17])[3:5] == ["0.0", "ok"])
         assert len(whole[17]) == 199 and not any(whole[18:]) and terminal.screen.gone == []
-        for columns, lines in [(80, 24), (80, 19), (80, 18), (80, 10), (80, 3), (44, 2), (20, 30), (2, 2), (1, 1), (200, 40)]:
+        for columns, lines in [
+            (80, 24), (80, 19), (80, 18), (80, 10), (80, 3), (44, 2), (20, 30), (2, 2), (1, 1), (200, 40),
+        ]:
             terminal.resize(columns, lines)
             gone = len(terminal.screen.gone)
             terminal.board()
             shown = terminal.board()
-            assert shown[: lines - 1] == [it[: columns - 1].rstrip() for it in whole[: lines - 1]], (columns, lines, shown)
+            assert (
+                shown[: lines - 1] == [it[: columns - 1].rstrip() for it in whole[: lines - 1]]
+            ), (columns, lines, shown)
             assert shown[lines - 1] == "" and len(terminal.screen.gone) == gone, (columns, lines)
-    with Server(snapd, *files) as server, Terminal(30, 5) as terminal, Watch(snapd, server.address, output=terminal.side):
+    with (
+        Server(snapd, *files) as server,
+        Terminal(30, 5) as terminal,
+        Watch(snapd, server.address, output=terminal.side),
+    ):
         shown = terminal.board()
         gone = len(terminal.screen.gone)
         assert shown[1] == HEAD[:29].rstrip() and gone <= 18 and not any(terminal.screen.gone)
@@ -327,7 +353,9 @@ def test_colours(snapd, _):
     with Server(snapd, *two(snapd), env=disk.env) as server:
         disk.says(f"S1 sync fail {errno.EIO}")
         server.ask(update(1, 2, b"x"), refused(13, 1))
-        for said, is_coloured in [({"NO_COLOR": "1"}, False), ({"NO_COLOR": "0"}, False), (COLOURED, True), (None, True)]:
+        for said, is_coloured in [
+            ({"NO_COLOR": "1"}, False), ({"NO_COLOR": "0"}, False), (COLOURED, True), (None, True),
+        ]:
             with Terminal() as terminal, Watch(snapd, server.address, output=terminal.side, env=said):
                 assert told(terminal.board()[3])[4:] == ["fenced", '"hi"']
                 assert ("\x1b[31mfenced\x1b[0m  " in terminal.told) == is_coloured, terminal.told
@@ -345,18 +373,26 @@ def ending(snapd, address, output):
 
 def test_the_terminal_is_given_back_at_any_end(snapd, _):
     for number in (signal.SIGINT, signal.SIGTERM, signal.SIGHUP, signal.SIGKILL):
-        with Server(snapd, *two(snapd)) as server, Terminal() as terminal, ending(snapd, server.address, terminal.side) as watch:
+        with (
+            Server(snapd, *two(snapd)) as server,
+            Terminal() as terminal,
+            ending(snapd, server.address, terminal.side) as watch,
+        ):
             shown = terminal.board()
             watch.process.send_signal(number)
             assert watch.process.wait(PATIENCE) == -number
             terminal.rest()
             assert terminal.screen.is_given_back() and terminal.screen.line == 4, number
-            assert terminal.screen.text()[0] == f"{server.address}: connected" and told(terminal.screen.text()[3])[1] == "1", shown
+            assert (
+                terminal.screen.text()[0] == f"{server.address}: connected"
+                and told(terminal.screen.text()[3])[1] == "1"
+            ), shown
 
 
 def test_a_board_of_a_server_that_goes_away_and_comes_back(snapd, _):
     files, address = two(snapd), f"127.0.0.1:{free_port()}"
-    lost = re.compile(re.escape(address) + r": (no connection to the server can be made|the connection failed before the answer came): trying again")
+    why = "no connection to the server can be made|the connection failed before the answer came"
+    lost = re.compile(rf"{re.escape(address)}: ({why}): trying again")
     with Terminal() as terminal:
         terminal.screen.take("before\r\n")
         with Server(snapd, *files, address=address):

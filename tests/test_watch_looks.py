@@ -50,7 +50,8 @@ LOOKS = [
         [*LINES, row(0, 0, 'text ""')],
     ),
     ("A 1 1", [FENCED, named((1, 2, b"ok"))], [STATUS, part(0x0002)], [row(1, 2, 'text "ok"', fenced=1)]),
-    ("A 3 0 3", [MANY, named((0, 1, b""), (3, 1, b""))], [STATUS, part(0x0009)], [row(0, 1, 'text ""'), row(3, 1, 'text ""')]),
+    ("A 3 0 3", [MANY, named((0, 1, b""), (3, 1, b""))], [STATUS, part(0x0009)],
+     [row(0, 1, 'text ""'), row(3, 1, 'text ""')]),
     ("A 15", [standings(*[(1, False)] * 16), named((15, 1, b"x"))], [STATUS, part(0x8000)], [row(15, 1, 'text "x"')]),
     (
         "A 0 1 12 --json", [MANY, named((0, 1, b"hi"), (1, 1, b""), (12, 9, b"\xff"))], [STATUS, part(0x1003)],
@@ -61,7 +62,11 @@ LOOKS = [
         ],
     ),
     (
-        "A --json", [NEW, HELD, standings((1, True), (0, False)), standings((1, True), (2**63 - 1, True)), snapshot((1, b"hi"), (2**63 - 1, b'"\\\t\xc2\x80'))],
+        "A --json",
+        [
+            NEW, HELD, standings((1, True), (0, False)), standings((1, True), (2**63 - 1, True)),
+            snapshot((1, b"hi"), (2**63 - 1, b'"\\\t\xc2\x80')),
+        ],
         [STATUS, SCAN, STATUS, STATUS, SCAN],
         [
             '{"segment":0,"number":1,"fenced":false,"text":"hi"}',
@@ -87,8 +92,10 @@ def test_what_a_look_asks_and_prints(snapd, _):
 ENDS = [
     ("watch A 5", [NEW, refused(2, 2)], 3, "refused 2 NoSegment 2"),
     ("watch A", [refused(2, 2)], 3, "refused 2 NoSegment 2"),
-    ("watch A", [], 1, "A: the connection ended before the reply: whether the request was done isn't known: start snapd serve there"),
-    ("watch A", [NEW, NEW], 1, "A: what came isn't an answer to the request: is a snapd at the other end?: check the address"),
+    ("watch A", [], 1,
+     "A: the connection ended before the reply: whether the request was done isn't known: start snapd serve there"),
+    ("watch A", [NEW, NEW], 1,
+     "A: what came isn't an answer to the request: is a snapd at the other end?: check the address"),
 ]
 
 
@@ -127,8 +134,12 @@ def test_a_board_is_drawn_in_place(snapd, _):
         ), terminal.told
 
 
-# By how many seconds the clock is ahead in all, and the age that a board has then: of a change that was seen before, a few seconds ago.
-AGES = [(0, r"\ds"), (50, r"5\ds"), (60, "1m"), (3_550, "59m"), (3_600, "1h"), (86_300, "23h"), (86_400, "1d"), (172_800, "2d")]
+# By how many seconds the clock is ahead in all, and the age that a board has then: of a change that was seen before,
+# a few seconds ago.
+AGES = [
+    (0, r"\ds"), (50, r"5\ds"), (60, "1m"), (3_550, "59m"), (3_600, "1h"), (86_300, "23h"), (86_400, "1d"),
+    (172_800, "2d"),
+]
 
 
 def test_an_age_is_in_the_unit_that_fits_it(snapd, _):
@@ -136,7 +147,11 @@ def test_an_age_is_in_the_unit_that_fits_it(snapd, _):
     ahead = snapd.file("ahead")
     ahead.touch()
     env = {"NO_COLOR": "1", "LD_PRELOAD": library("clock"), "CLOCK_AHEAD": str(ahead)}
-    with Server(snapd, *fresh(snapd, 1)) as server, Terminal() as terminal, Watch(snapd, server.address, output=terminal.side, env=env):
+    with (
+        Server(snapd, *fresh(snapd, 1)) as server,
+        Terminal() as terminal,
+        Watch(snapd, server.address, output=terminal.side, env=env),
+    ):
         assert terminal.board()[2].split()[2] == "-"
         server.ask(update(0, 1, b"a"), stored(1))
         for seconds, age in AGES:

@@ -15,7 +15,8 @@ from clients import Peer
 from http_place import ANSWERED
 from preload import library
 from program import Run
-from serving import FRESH, LOOPBACK, SCAN, STATUS, AtSocket, Server, frame, free_port, received, segments, snapshot, standings, update
+from serving import FRESH, LOOPBACK, SCAN, STATUS, AtSocket, Server, frame, free_port, received, segments, snapshot
+from serving import standings, update
 from test_call_answers import silent
 from test_doctor import STORES
 from test_dump import document, entries_in, loaded
@@ -53,7 +54,10 @@ def unexpected(word, usage):
 
 
 def unknown_option(word, usage):
-    return f"unexpected argument '{word}' found\n\n  tip: to pass '{word}' as a value, use '-- {word}'\n\nUsage: snapd {usage}"
+    return (
+        f"unexpected argument '{word}' found\n\n  tip: to pass '{word}' as a value, use '-- {word}'\n\n"
+        f"Usage: snapd {usage}"
+    )
 
 
 def missing(usage, *arguments):
@@ -88,7 +92,8 @@ def test_wrong_places_of_a_segment(snapd, _):
 
 
 def test_wrong_slots_of_a_check(snapd, _):
-    no_slot, alone = "the slot is not a number from 0 to 2", "--slot S and --value are given together, and without --json"
+    no_slot = "the slot is not a number from 0 to 2"
+    alone = "--slot S and --value are given together, and without --json"
     are_refused(
         snapd,
         ("check F --slot=3 --value", no_slot),
@@ -187,7 +192,10 @@ def test_wrong_addresses_of_a_server(snapd, _):
     no_mode = "the socket's mode is not an octal number from 0 to 777"
     are_refused(
         snapd,
-        *((f"serve A F --socket-mode={mode}", no_mode) for mode in ("1000", "8", "0o600", "", "-1", "u+rw", "7777", "99999999999999999999")),
+        *(
+            (f"serve A F --socket-mode={mode}", no_mode)
+            for mode in ("1000", "8", "0o600", "", "-1", "u+rw", "7777", "99999999999999999999")
+        ),
         ("serve A F --socket-mode=7 --socket-mode=7", twice("--socket-mode <MODE>", OF_SERVE)),
         ("serve A F --listen", wants_a_value("--listen <ADDR>")),
         (f"serve A F {'--listen=1 ' * 16}", not_in("the number of addresses 17 is", 1, 16)),
@@ -201,7 +209,8 @@ def test_wrong_requests(snapd, _):
     are_refused(
         snapd,
         *((f"call A {words}", NO_FORM) for words in (
-            "scan 0 1 61", "Update 0 1 61", "update", "update 0 1", "update 0 1 - -", "part", "part 0001 0002", "Part 0001", "0001", "scan 0001",
+            "scan 0 1 61", "Update 0 1 61", "update", "update 0 1", "update 0 1 - -", "part", "part 0001 0002",
+            "Part 0001", "0001", "scan 0001",
             "scan all", "status 0", "health 0", "health 1 00", "health health", "healthy", "Put 0", "gets 0",
         )),
         ("call", missing("call <ADDR> <WORD>...", "<ADDR>", "<WORD>...")),
@@ -215,7 +224,8 @@ def test_wrong_requests(snapd, _):
 
 
 def test_wrong_updates(snapd, _):
-    no_segment, no_number = "the update's segment is not a number from 0 to 255", f"the update's number is not a number from 0 to {2**64 - 1}"
+    no_segment = "the update's segment is not a number from 0 to 255"
+    no_number = f"the update's number is not a number from 0 to {2**64 - 1}"
     are_refused(
         snapd,
         ("call A update 256 1 61", no_segment),
@@ -253,7 +263,8 @@ def test_wrong_puts_and_gets(snapd, _):
         ("call A scan --value x", alone),
         ("call A status --after 1", alone),
         ("call A update 0 1 00 --after 0", alone),
-        (f"call A put 0 --value {'x' * 65_991}", "the update's value has 65991 bytes, and a request holds at most 65990"),
+        (f"call A put 0 --value {'x' * 65_991}",
+         "the update's value has 65991 bytes, and a request holds at most 65990"),
     )
     # With one byte less it is a value. What the address lacks is checked after the words.
     lacking = ":0: an address is HOST:PORT or unix:PATH, and the host is missing: give for example 127.0.0.1:7070"
@@ -263,7 +274,10 @@ def test_wrong_puts_and_gets(snapd, _):
 def test_wrong_masks(snapd, _):
     """Four hexadecimal digits that name a segment, and nothing else."""
     no_mask = "the part's mask is not four hexadecimal digits"
-    wrong = ("''", "1", "9", "001", "00001", "00000", "+001", "+0001", "' 001'", "'001 '", "'00 1'", "0x01", "000g", "00g1", "\u00e901")
+    wrong = (
+        "''", "1", "9", "001", "00001", "00000", "+001", "+0001", "' 001'", "'001 '", "'00 1'", "0x01", "000g", "00g1",
+        "\u00e901",
+    )
     are_refused(
         snapd,
         ("call A part 0000", "the part's mask names no segment"),
@@ -281,7 +295,8 @@ def test_wrong_layouts_and_times_of_a_call(snapd, _):
         ("call A scan --timeout=86401", timeout),
         ("call A scan --timeout=1.5", no_value("--timeout <SECONDS>", 1.5)),
         ("call A scan --json --text", "--text and --json are given, and an answer is printed in one way"),
-        ("call A scan --json=x", "unexpected value 'x' for '--json' found; no more were expected\n\nUsage: snapd call --json <ADDR> <WORD>..."),
+        ("call A scan --json=x",
+         "unexpected value 'x' for '--json' found; no more were expected\n\nUsage: snapd call --json <ADDR> <WORD>..."),
         ("call A get 0 --text", no_layout),
         ("call A put 0 --json", no_layout),
         ("call A update 0 1 - --json", no_layout),
@@ -289,7 +304,8 @@ def test_wrong_layouts_and_times_of_a_call(snapd, _):
 
 
 def test_wrong_words_of_a_watch(snapd, _):
-    no_segment, no_time = "a segment to show is not a number from 0 to 15", not_in("the milliseconds between looks are", 1, 86_400_000)
+    no_segment = "a segment to show is not a number from 0 to 15"
+    no_time = not_in("the milliseconds between looks are", 1, 86_400_000)
     are_refused(
         snapd,
         ("watch", missing("watch <ADDR> [SEGMENT]...", "<ADDR>")),
@@ -326,7 +342,8 @@ COMMANDS = [
     ("put --count=16 G --index 15", b"hi", "stored 1\n"),
     ("check G", b"", f"header index 15 count 16\n{HI}"),
     ("migrate OLD NEW", b"", "migrated 0 of 1 number 1\n"),
-    ("check NEW", b"", "header index 0 count 1\nslot 0 closed\nslot 1 open number 1 length 2\nslot 2 closed\nanswer number 1\n"),
+    ("check NEW", b"",
+     "header index 0 count 1\nslot 0 closed\nslot 1 open number 1 length 2\nslot 2 closed\nanswer number 1\n"),
     ("script", b"world 1 1\nscan 0\n", "world 1 1\nscanning\n"),
     ("init I1 --count=1", b"", made(1)),
     ("init --count=16 I2", b"", made(16)),
@@ -353,12 +370,16 @@ def test_a_doctor_measures_where_it_is_told_to(snapd, _):
     snapd("init", "D").gave(0, made(1))
     for words, is_measured in (("doctor D", False), ("doctor D --measure", True), ("doctor --measure D", True)):
         run = snapd(*words.split())
-        assert (run.status, run.errors) == (0, "") and bool(STORES.search(run.output.decode())) == is_measured, (words, run)
+        assert (
+            (run.status, run.errors) == (0, "") and bool(STORES.search(run.output.decode())) == is_measured
+        ), (words, run)
 
 
 def test_a_dump_asks_an_address_and_reads_a_folder(snapd, _):
     """Of an address it says what a call says, and of a folder what makes it."""
-    for address in ("A:1", ":0", "unix:", "unix:a", f"unix:{snapd.file('a')}", f"[::1]:{free_port()}", "a:b:70", "unix:a/b"):
+    for address in (
+        "A:1", ":0", "unix:", "unix:a", f"unix:{snapd.file('a')}", f"[::1]:{free_port()}", "a:b:70", "unix:a/b",
+    ):
         asked, run = snapd("call", address, "scan"), snapd("dump", address)
         assert run == asked and run.status == 1, (address, run)
     for folder in ("D", "./a:1", "a:1/", "a:", "a:1b", "7070", "unix", "a:1:"):
@@ -411,7 +432,10 @@ def at(address, words):
     return [address if it == "A" else it for it in shlex.split(words)]
 
 
-AGAIN = "the connection ended before the reply: whether the request was done isn't known: send it again, since an update is stored once"
+AGAIN = (
+    "the connection ended before the reply: whether the request was done isn't known: "
+    "send it again, since an update is stored once"
+)
 
 
 def test_what_a_call_sends(snapd, _):
@@ -429,7 +453,9 @@ def test_what_a_call_sends(snapd, _):
 def test_how_long_an_answer_is_waited_for(snapd, _):
     listener, address = silent()
     with listener:
-        for words, seconds in (("call A --json status --timeout=1", 1), ("call A get 0 --timeout=+2", 2), ("dump A --timeout 1", 1)):
+        for words, seconds in (
+            ("call A --json status --timeout=1", 1), ("call A get 0 --timeout=+2", 2), ("dump A --timeout 1", 1),
+        ):
             began = time.monotonic()
             run = snapd(*at(address, words))
             assert time.monotonic() - began > 0.9 * seconds, words
@@ -457,7 +483,10 @@ def test_what_files_and_scanners_a_server_has(snapd, _):
     for words, files, scanners, connections in SERVERS:
         first, *more = words.split()
         with Server(snapd, *more, address=first) as server:
-            assert server.report.endswith(f"segments {files}\n") and ("S0" in words) == ("segment 0 number 1 " in server.report), words
+            assert (
+                server.report.endswith(f"segments {files}\n")
+                and ("S0" in words) == ("segment 0 number 1 " in server.report)
+            ), words
             # Its own, the log's, one for each segment, and one for each scanner.
             comes_to(1 + 1 + files + scanners, lambda: threads_of(server))
             for _ in range(connections or 2):
@@ -471,7 +500,9 @@ def test_what_files_and_scanners_a_server_has(snapd, _):
     run = snapd("serve", "--scanners=16", LOOPBACK, "two/S0", "--connections", 0, "two/S1")
     assert run.status == 0 and run.output.endswith(b"\nserved 0\n"), run
     # Sixteen files are not too many.
-    snapd("serve", LOOPBACK, *["one/S0"] * 16).gave(1, errors="snapd: one/S0: it is the same file as one/S0: each file is named once\n")
+    snapd("serve", LOOPBACK, *["one/S0"] * 16).gave(
+        1, errors="snapd: one/S0: it is the same file as one/S0: each file is named once\n"
+    )
 
 
 # A server's words, the addresses of which it says that it listens there, and the mode of the socket `c`.
@@ -537,13 +568,19 @@ def test_what_a_server_lets_in_and_logs(snapd, _):
             snapd.file(str(number)).mkdir()
             # At the second address each warns that may.
             more = ("--listen", "0.0.0.0:0", *words.split())
-            servers.append((words, *wanted, begin(Server(snapd, *segments(snapd, FRESH, folder=str(number)), more=more))))
+            servers.append(
+                (words, *wanted, begin(Server(snapd, *segments(snapd, FRESH, folder=str(number)), more=more)))
+            )
         for words, waits, is_let_go, _, server in servers:
             began, first, second = time.monotonic(), begin(server.connect()), begin(server.connect())
             talks.append((words, waits, is_let_go, began, first, second))
             second.sendall(SCAN)
             # Once the first one is closed there is room.
-            assert is_quiet(second, 0.1) or time.monotonic() - began > 0.9 if waits else received(second, len(EMPTY)) == EMPTY, words
+            assert (
+                is_quiet(second, 0.1) or time.monotonic() - began > 0.9
+                if waits
+                else received(second, len(EMPTY)) == EMPTY
+            ), words
         for words, _, is_let_go, began, first, _ in talks:
             assert not is_let_go or first.recv(1) == b"" and time.monotonic() - began >= 1, words
         time.sleep(0.3)
@@ -610,7 +647,9 @@ def test_what_a_watch_shows_and_how_often_it_looks(snapd, _):
             assert watch.lines(len(wanted)) == wanted, words
         wait_until(lambda: len(all_times[0]) > 2 and len(all_times[2]) > 20, "the third look")
         usual, named, often, seldom, _ = map(gaps_in, all_times)
-        assert min(usual + named) > 0.95 and min(usual) < 5 and min(often) < 0.5 and not seldom, (usual, named, often, seldom)
+        assert (
+            min(usual + named) > 0.95 and min(usual) < 5 and min(often) < 0.5 and not seldom
+        ), (usual, named, often, seldom)
 
 
 def gaps_in(times):
@@ -632,7 +671,8 @@ HELP = [
     ("serve", "      --dir <DIR>           The folder of the files, in place of these"),
     ("serve", "      --clients-max <N>     The most connections that are open at once, 1 to 1000000"),
     ("serve", "      --idle <SECONDS>      Close a connection that was silent for this many seconds, 1 to 31536000"),
-    ("serve", "      --log <LEVEL>         The lowest level of a line on standard error: error, warn, info or debug [default: info]"),
+    ("serve", "      --log <LEVEL>         The lowest level of a line on standard error: "
+              "error, warn, info or debug [default: info]"),
     ("serve", "Killing it is a proper stop, by SIGTERM or any other signal that ends it, at any time: what was"),
     ("serve", "Exit status:"),
     ("call", "an update whose number is stored already isn't stored twice. A put asks twice, each up to T times."),
@@ -654,5 +694,7 @@ def test_lines_of_help(snapd, _):
     for command, line in HELP:
         run = snapd(command, "--help")
         lines = run.output.decode().splitlines()
-        assert (run.status, run.errors) == (0, "") and line in lines and {"Example:", "Examples:"} & set(lines), (command, line)
+        assert (
+            (run.status, run.errors) == (0, "") and line in lines and {"Example:", "Examples:"} & set(lines)
+        ), (command, line)
         assert snapd(command, "-h") == snapd("help", command) == run, command

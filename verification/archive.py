@@ -1,8 +1,8 @@
 """The proofs that this machine has made.
 
-A crate's proof is kept under the sum of all that it has read: the kit, HANDLES, the crate's line of crates.txt, its files
-without their comments, and the built libraries below it, byte for byte. What is kept is what the proof left in the
-crate's out/, with the sum of each file. It is used again only if these sums are still right.
+A crate's proof is kept under the sum of all that it has read: the kit, HANDLES, the crate's line of crates.txt, its
+files without their comments, and the built libraries below it, byte for byte. What is kept is what the proof left in
+the crate's out/, with the sum of each file. It is used again only if these sums are still right.
 
 The archive is the folder $XDG_CACHE_HOME/snapd-proofs, or ~/.cache/snapd-proofs. A user with write access to it can
 forge a proof, so it is used only if it belongs to this user and no other user can write to it.

@@ -1,4 +1,4 @@
-"""Prints the table of contracts: the public functions that have one, by room and crate, with the names of their clauses."""
+"""Prints the table of contracts: the public functions that have one, by room and crate, with their clauses' names."""
 
 import re
 
@@ -34,7 +34,7 @@ def contract_of(lines, first):
 
 
 def functions_of(folder):
-    """Each function that others may call and that has a contract: with its type's name before its own, its file, its clauses."""
+    """Each function that others may call and that has a contract: its name after its type's, its file, its clauses."""
     for file in sorted((folder / "src").rglob("*.rt")):
         text = file.read_text()
         for function in functions_in(text, file.name):
@@ -52,7 +52,8 @@ def document():
     for room, names in rooms():
         lines += ["", f"## {room}"]
         for name in names:
-            rows = [f"| [`{it}`]({file}) | `{'`, `'.join(clauses)}` |" for it, file, clauses in functions_of(TOP / "crates" / name)]
+            found = functions_of(TOP / "crates" / name)
+            rows = [f"| [`{it}`]({file}) | `{'`, `'.join(clauses)}` |" for it, file, clauses in found]
             lines += ["", f"| `{name}` | Clauses |", "|---|---|", *rows] if rows else []
     return "\n".join(lines) + "\n"
 

@@ -1,4 +1,4 @@
-"""Builds the program without its proofs, as bin/snapd, in a few minutes, and runs its first job; then it says what is on record.
+"""Builds the program without its proofs, as bin/snapd, in minutes, and runs its first job; then says what is on record.
 
     python3 verification/demo.py [--build]
 
@@ -15,7 +15,8 @@ from tree import TOP
 
 def closing(record):
     """What was proved of such a build, and what proves it."""
-    return (f"This build isn't proved here. {record.told()}", "What proves it, with all that it stands on: make prove (about 50 minutes on four processors)")
+    said = f"This build isn't proved here. {record.told()}"
+    return said, "What proves it, with all that it stands on: make prove (about 50 minutes on four processors)"
 
 
 def main():

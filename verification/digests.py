@@ -1,11 +1,12 @@
-"""What an edit's refusal rests on, as a digest: the edit, the function that it changes, and the contracts and definitions that
-this function names.
+"""What an edit's refusal rests on, as a digest: the edit, the function that it changes, and the contracts and
+definitions that this function names.
 
-Whether an edit has to be refused, a contract says: the function's clauses, what these mean, and what the functions that it
-calls promise. So a digest takes the edit, the function's own text, and each definition of `specs/`, each type, and each
-function's head with its clauses that the text names, with what these name in turn, and the kit's logic. No bodies of other
-functions count, and no proofs: a wrong body stays wrong however the right one is proved. A name counts by the file's imports;
-a method by its name, wherever a crate below has one.
+Whether an edit has to be refused, a contract says: the function's clauses, what these mean, and what the functions that
+it calls promise. So a digest takes the edit, the function's own text, and each definition of `specs/`, each type, and
+each function's head with its clauses that the text names, with what these name in turn, and the kit's logic. No bodies
+of other functions count, and no proofs: a wrong body stays wrong however the right one is proved. Nor do line breaks,
+and the file or crate where a text lies. A name counts by the file's imports; a method by its name, wherever a crate
+below has one.
 """
 
 import functools
@@ -17,9 +18,12 @@ from dataclasses import dataclass
 from source import applies, function_of, items_of, without_comments
 from tree import below, crates_of
 
-# The names that a file imports from a place, as a list or one by itself. (Of a place that is taken whole each name may be meant.)
+# The names that a file imports from a place, as a list or one by itself.
+# (Of a place that is taken whole each name may be meant.)
 ALIAS = re.compile(r"^\s*(?:pub )?(?:ghost )?use Rattle\.(\w+)\.[\w.]+ as (\w+)", re.M)
-IMPORTS = re.compile(r"^\s*(?:pub )?(?:ghost )?use (?:Rattle\.)?(\w+)(?:\.|::)(?:[\w.:]*(?:\.|::))?(?:\{([^{}]*)\}|(\w+))", re.M)
+IMPORTS = re.compile(
+    r"^\s*(?:pub )?(?:ghost )?use (?:Rattle\.)?(\w+)(?:\.|::)(?:[\w.:]*(?:\.|::))?(?:\{([^{}]*)\}|(\w+))", re.M
+)
 WORDS = re.compile(r"[^\s(){}\[\],;.:&|<>\"]+")
 CALLED = re.compile(r"(?:\.|::)(\w+)(?=\(|::)")
 HERE = ("crate", "super", "self")
@@ -32,6 +36,11 @@ def summed(*parts):
         part = part if isinstance(part, bytes) else part.encode()
         total.update(len(part).to_bytes(8, "big") + part)
     return total.hexdigest()
+
+
+def one_line(text):
+    """A text without its line breaks and indentation, which mean nothing."""
+    return " ".join(text.split())
 
 
 def words_of(text):
@@ -67,7 +76,8 @@ class Digests:
             for name in (names or one).split(","):
                 for it in words_of(name.split(" as ")[0].strip() + " " + name.split(" as ")[-1]):
                     found[it].add((crate if of in HERE else of, name.split(" as ")[0].strip()))
-        self.imports[path], self.aliases[path] = found, [(of, re.compile(rf"\b{name}\.(\w+)")) for of, name in ALIAS.findall(text)]
+        self.imports[path] = found
+        self.aliases[path] = [(of, re.compile(rf"\b{name}\.(\w+)")) for of, name in ALIAS.findall(text)]
         for names, body in items_of(text, path):
             piece = Piece(crate, path, body)
             for name in names:
@@ -103,12 +113,13 @@ class Digests:
         source, own = function_of(folder, path)
         # (a trait's method has the clauses of the trait's, too)
         methods = re.findall(r"\bfn (\w+)", own) if re.match(r"impl\b[^{]* for ", own) else []
-        again = [it for name in methods for lower in (crate, *self.below[crate]) for it in self.named.get((lower, name), [])]
+        crates = (crate, *self.below[crate])
+        again = [it for name in methods for lower in crates for it in self.named.get((lower, name), [])]
         seen, left = set(), [Piece(crate, f"{crate}/{source}", own), *again]
         while left:
             it = left.pop()
             if it not in seen:
                 seen.add(it)
                 left += self.meant(it.crate, it.path, it.text)
-        texts = sorted(f"{it.path}\n{it.text}" for it in seen)
-        return summed(self.logic, path.name, path.read_bytes(), own, *texts)
+        texts = sorted({one_line(it.text) for it in seen})
+        return summed(self.logic, path.name, one_line(path.read_text()), one_line(own), *texts)

@@ -32,12 +32,13 @@ def path():
 
 
 def load(*names):
-    """The command `rt` as a module. Ends the program where it lacks one of these parts, given by their names with dots."""
+    """The command `rt` as a module. Ends the program where it lacks one of these parts, which are named with dots."""
     loader = importlib.machinery.SourceFileLoader("rt_of_the_kit", str(path()))
     rt = importlib.util.module_from_spec(importlib.util.spec_from_loader("rt_of_the_kit", loader))
     loader.exec_module(rt)
     if missing := [it for it in names if not has(rt, it)]:
-        sys.exit(f"{identity()} has no {', '.join(missing)}, by which {pathlib.Path(sys.argv[0]).name} goes: look through it first")
+        program = pathlib.Path(sys.argv[0]).name
+        sys.exit(f"{identity()} has no {', '.join(missing)}, by which {program} goes: look through it first")
     return rt
 
 

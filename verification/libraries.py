@@ -32,7 +32,8 @@ def lay_all(top):
     rt = kit.load(*PARTS)
     rt.Crate.allowed = rt.handles_of(str(top))
     rt.rtlib.guarded()
-    crates = {it.name: it for crate in rt.rtlib.crates_below(str(top)) for it in [*crate.below(), *[crate] * crate.makes_rlib()]}
+    own = rt.rtlib.crates_below(str(top))
+    crates = {it.name: it for crate in own for it in [*crate.below(), *[crate] * crate.makes_rlib()]}
     archive, missing = Archive(top), []
     for crate in sorted(crates.values(), key=lambda it: len(it.below())):
         if any(it.name in missing for it in crate.below()) or not lay(archive, crate):

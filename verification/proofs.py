@@ -44,7 +44,8 @@ class Proofs:
     failures: list = field(default_factory=list)
 
     def told(self):
-        return f"proofs: {self.passed} crates passed in {self.took:.0f} s, {self.kept} of them from this machine's archive of earlier runs"
+        kept = f"{self.kept} of them from this machine's archive of earlier runs"
+        return f"proofs: {self.passed} crates passed in {self.took:.0f} s, {kept}"
 
 
 class Progress:
@@ -71,7 +72,8 @@ class Progress:
         if name not in self.kept:
             minutes = max(1, round(sum(self.left.values()) / self.lanes / 60))
             what = f"{self.seconds.get(name, 0)} s" + (" NOT PROVED" if came == "NOT PROVED" else "")
-            print(f"[{self.done} of {self.all}] {name} {what}" + (f", about {minutes} min left" if self.left else ""), flush=True)
+            left = f", about {minutes} min left" if self.left else ""
+            print(f"[{self.done} of {self.all}] {name} {what}{left}", flush=True)
 
 
 def prove(copy, log, anew=False):
@@ -94,7 +96,7 @@ def prove(copy, log, anew=False):
 
 
 def judged(lines, status):
-    """What a run came to, by its last line and its status: one that ends with no count, or with a status of failure, has failed."""
+    """What a run came to, by its last line and status: one with no count, or with a status of failure, has failed."""
     count = COUNT.fullmatch(lines[-1]) if lines else None
     passed, failed = (int(count[1]), int(count[2])) if count else (0, 1)
     came = Proofs(passed, max(failed, 1) if status else failed)
@@ -104,8 +106,9 @@ def judged(lines, status):
 
 
 def by_seconds(tasks, seconds):
-    """The kit's tasks with what each took when it was last proved in place of its lines, by which the longest chain is found."""
-    return {key: (waits, seconds.get(key[0]) or EACH_LINE * lines if key[1] == "proof" else 0, *rest) for key, (waits, lines, *rest) in tasks.items()}
+    """The kit's tasks with what each proof took last in place of its lines, by which the longest chain is found."""
+    took = {key: seconds.get(key[0]) or EACH_LINE * lines for key, (_, lines, *_) in tasks.items() if key[1] == "proof"}
+    return {key: (waits, took.get(key, 0), *rest) for key, (waits, _, *rest) in tasks.items()}
 
 
 def main():

@@ -21,8 +21,8 @@ from tree import TOP, crates_of, files_of, proved_crates, rows_of
 
 LOCK = "proofs.lock"
 HEAD = """\
-# Each crate that was proved whole, from nothing: the digest of all that the proof rests on, the kit's release, the day, and the
-# seconds that it took one processor. `make prove` writes it.
+# Each crate that was proved whole, from nothing: the digest of all that the proof rests on, the kit's release, the day,
+# and the seconds that it took one processor. `make prove` writes it.
 """
 
 
@@ -53,7 +53,8 @@ def digests_of(top, logic):
 
 def read_lock(top):
     """The record's lines, by crate."""
-    return {name: Proved(digest, release, day, int(seconds)) for name, digest, release, day, seconds in rows_of(top / LOCK)}
+    rows = rows_of(top / LOCK)
+    return {name: Proved(digest, release, day, int(seconds)) for name, digest, release, day, seconds in rows}
 
 
 @dataclass
@@ -77,7 +78,9 @@ class Record:
         found = [self.lines[it] for it in self.digests if it not in missing]
         days = sorted({it.day for it in found})
         line = f"{LOCK}: {len(found)} of {len(self.digests)} crates were proved as they are here"
-        line += f", by {', '.join(sorted({it.release for it in found}))}, {' to '.join(dict.fromkeys(days[:1] + days[-1:]))}" if found else ""
+        if found:
+            releases = ", ".join(sorted({it.release for it in found}))
+            line += f", by {releases}, {' to '.join(dict.fromkeys(days[:1] + days[-1:]))}"
         return line + (f"; not {', '.join(missing)}" if missing else "")
 
     def take(self, seconds, day=None):

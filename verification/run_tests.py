@@ -42,13 +42,15 @@ def run_tests(rt, built):
         if drop:
             os.chown(data, 65534, 65534)
         env = {"PATH": "/usr/local/bin:/usr/bin:/bin", "HOME": str(data), "TMPDIR": str(data), "LANG": "C.UTF-8"}
-        how = {"cwd": data, "env": env, "stdin": subprocess.DEVNULL, "stdout": subprocess.PIPE, "stderr": subprocess.STDOUT}
-        ran = subprocess.run([*drop, rt.rtlib.RUNNER, "--seconds", str(LIMIT), str(program)], text=True, errors="replace", **how)
+        words = [*drop, rt.rtlib.RUNNER, "--seconds", str(LIMIT), str(program)]
+        how = {"stdin": subprocess.DEVNULL, "stdout": subprocess.PIPE, "stderr": subprocess.STDOUT}
+        ran = subprocess.run(words, cwd=data, env=env, text=True, errors="replace", **how)
     return ran.stdout.rstrip("\n").split("\n"), ran.returncode
 
 
 def judged(name, lines, status):
-    """What came of a crate's tests: how many passed, and what is said of those that didn't. A run that ends with no count has failed."""
+    """What came of a crate's tests: how many passed, and what is said of those that didn't.
+    A run that ends with no count has failed."""
     result = next((found for it in lines if (found := RESULT.match(it))), None)
     passed, failed = (int(result[1]), int(result[2])) if result else (0, 1)
     said = [f"{name}: {it}" for it in lines if it.endswith("FAILED")] or [f"{name}: status {status}", *lines[-LAST:]]
@@ -56,7 +58,7 @@ def judged(name, lines, status):
 
 
 def build_and_run(tell=lambda it: print(it, flush=True)):
-    """Builds the program, the programs beside it and the crates' tests, each without proofs, and runs the crates' tests."""
+    """Builds the program, those beside it and the crates' tests, each without proofs, and runs the crates' tests."""
     rt, began = kit.load(*PARTS), time.monotonic()
     count = {"passed": 0, "failures": []}
 
@@ -70,10 +72,12 @@ def build_and_run(tell=lambda it: print(it, flush=True)):
         passed, failures = judged(built.name, *run_tests(rt, built))
         count["passed"] += passed
         count["failures"] += failures
-        tell(f"tests of {built.name}: built in {built.seconds:.0f} s, {passed} passed in {time.monotonic() - at:.0f} s" + (f", FAILED: {len(failures)}" if failures else ""))
+        took, failed = time.monotonic() - at, f", FAILED: {len(failures)}" if failures else ""
+        tell(f"tests of {built.name}: built in {built.seconds:.0f} s, {passed} passed in {took:.0f} s{failed}")
 
     wanted = [("snapd", False, PROGRAM), *((it, False, place(it, False)) for it in programs(TOP))]
-    tests = sorted(with_tests(TOP), key=lambda it: -sum(path.stat().st_size for path in (TOP / "crates" / it / "src").rglob("*.rt")))
+    sources = {it: (TOP / "crates" / it / "src").rglob("*.rt") for it in with_tests(TOP)}
+    tests = sorted(sources, key=lambda it: -sum(path.stat().st_size for path in sources[it]))
     build_all([*wanted, *((it, True, place(it, True)) for it in tests)], level=0, each=each)
     tell(f"tests of the crates: {count['passed']} passed; built and run in {time.monotonic() - began:.0f} s")
     return count["passed"], len(count["failures"]), count["failures"][-LAST:]

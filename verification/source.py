@@ -18,7 +18,11 @@ VARIANTS = re.compile(r"^    (\w+)[ ,({=]", re.M)
 
 def uncommented(text, kind):
     """A text without the lines that are a comment and nothing else."""
-    return COMMENT[kind].sub(lambda found: "" if found[0].endswith("\n") and found[0].lstrip(" ").startswith(("//", "--")) else found[0], text)
+    def kept(found):
+        is_comment = found[0].endswith("\n") and found[0].lstrip(" ").startswith(("//", "--"))
+        return "" if is_comment else found[0]
+
+    return COMMENT[kind].sub(kept, text)
 
 
 def without_comments(path):
@@ -74,8 +78,9 @@ def body_of(lines, function):
 
 
 def items_of(text, path):
-    """What a file says, as pairs of the names that it defines there and its text: definitions, types, and heads of functions
-    with their clauses. (A function that may be a constant's value has its body too, and so has a file that writes macros.)"""
+    """What a file says, as pairs of the names that it defines there and its text: definitions, types, and heads of
+    functions with their clauses. (A function that may be a constant's value has its body too, and so has a file that
+    writes macros.)"""
     if path.endswith(".antt"):
         blocks = re.split(r"\n\n+(?=\S)", text.strip("\n"))
         return [(defined_in(it), it) for it in blocks]
@@ -90,7 +95,8 @@ def items_of(text, path):
         taken.update(inside)
     rest = "\n".join("" if at in taken else line for at, line in enumerate(lines))
     for block in re.split(r"\n\n+(?=\S)", rest.strip("\n")):
-        names = set(DECLARED.findall(block)) | (set(VARIANTS.findall(block)) if re.search(r"\benum\b", block) else set())
+        variants = VARIANTS.findall(block) if re.search(r"\benum\b", block) else []
+        names = {*DECLARED.findall(block), *variants}
         impl = re.match(r"impl\b[^{]*", block)
         if names or impl:
             found.append((names | set(re.findall(r"\w+", impl[0]) if impl else ()), block))
@@ -98,7 +104,8 @@ def items_of(text, path):
 
 
 def defined_in(paragraph):
-    """The names that a paragraph may define: those at its lines' beginnings, and in a module or a list of variants the indented ones."""
+    """The names that a paragraph may define: those at its lines' beginnings,
+    and in a module or a list of variants the indented ones."""
     is_inside = re.match(r"(?:pub )?(?:abbrev )?(?:module|data|record)\b", paragraph) is not None
     return {name for indent, name in DEFINED.findall(paragraph) if is_inside or not indent}
 
@@ -130,13 +137,14 @@ def applies(folder, edit):
 
 
 def function_of(folder, edit):
-    """The file that an edit changes, and the text of the function that it lies in, with the head of its impl; where it lies in
-    several, or in none, the whole file's."""
+    """The file that an edit changes, and the text of the function that it lies in, with the head of its impl; where it
+    lies in several, or in none, the whole file's."""
     path = replacements(edit)[0][0]
     text, found = (folder / path).read_text(), set()
     for where, old, _ in replacements(edit):
         line = text[: text.find(old)].count("\n") + 1 if where == path and old in text else 0
-        found.add(max((it for it in functions_in(text, path) if it.first < line <= it.last), key=lambda it: it.first, default=None))
+        around = [it for it in functions_in(text, path) if it.first < line <= it.last]
+        found.add(max(around, key=lambda it: it.first, default=None))
     whole = without_comments(folder / path)
     if len(found) != 1 or None in found:
         return path, whole

@@ -1,7 +1,7 @@
-"""Writes into a built program what `snapd --version` says of it: the commit, the kit, and whether this build was proved.
+"""Writes into a built program what `snapd --version` says of it: the commit, the kit, and whether it was proved.
 
-The program has 100 bytes for that line (crates/snap_args/src/grammar.rt). They are written over once it is built, so that a proof
-and its record rest on no commit.
+The program has 100 bytes for that line (crates/snap_args/src/grammar.rt). They are written over once it is built, so
+that a proof and its record rest on no commit.
 """
 
 import shutil
@@ -29,7 +29,8 @@ def stamp(program, state):
 
 
 def take_program(copy, name):
-    """Takes a program that was proved and built in a copy: `snapd` to bin/, others to their crate's out/. Never the one of an earlier run."""
+    """Takes a program that was proved and built in a copy: `snapd` to bin/, others to their crate's out/.
+    Never the one of an earlier run."""
     built = copy / "crates" / name / "out" / name
     to = TOP / "bin" / name if name == "snapd" else TOP / "crates" / name / "out" / name
     to.unlink(missing_ok=True)

@@ -1,8 +1,8 @@
 /* snapd.h: a client of the snapd server in one header. C99 and POSIX sockets; it allocates nothing. Only the system
  * may, where snapd_open looks up a host name.
  *
- * It speaks with `snapd serve` in the frames of docs/FORMATS.md, "Frames and messages". snapd_segment.h beside it has calls on
- * one segment, and a wait for numbers.
+ * It speaks with `snapd serve` in the frames of docs/FORMATS.md, "Frames and messages". snapd_segment.h beside it has
+ * calls on one segment, and a wait for numbers.
  *
  *     #define _POSIX_C_SOURCE 200809L     // before the first include of a file that is compiled with -std=c99
  *     #include "snapd.h"
@@ -21,8 +21,9 @@
  * value that a scan or a get returns is within the client. It is valid until the client's next snapd_scan,
  * snapd_scan_some or snapd_get, whatever its result. All other calls leave it, so it may be stored again.
  *
- * One thread at a time uses a client, and snapd_close is such a use. A process that is forked off makes a connection of its own,
- * and a program that is executed inherits none. Signals shorten no call and no rest, and it never raises SIGPIPE.
+ * One thread at a time uses a client, and snapd_close is such a use. A process that is forked off makes a connection of
+ * its own, and a program that is executed inherits none. Signals shorten no call and no rest, and it never raises
+ * SIGPIPE.
  *
  * All functions are static and inline. With SNAPD_LINKED defined before the include they are only declared: link with
  * libsnapd, or compile snapd.c with the program.
@@ -83,7 +84,8 @@ typedef enum {
     SNAPD_NOT_ANSWERED, /* no try had an answer: error of the client is the last errno, or 0 where the server hung up */
     SNAPD_TIMED_OUT,    /* the last try had no whole answer within the timeout */
     SNAPD_BAD_REPLY,    /* what came isn't an answer to the request, or says that another number was stored than was
-                         * sent, or has other segments than were named. It isn't tried again: check the address, and scan */
+                         * sent, or has other segments than were named. It isn't tried again: check the address, and
+                         * scan */
     SNAPD_BAD_CALL,     /* a value, a mask or an address that no message or socket can say; nothing was sent */
     SNAPD_NO_ADDRESS    /* snapd_open found no address of the host name; nothing was sent */
 } snapd_result;
@@ -93,7 +95,8 @@ typedef enum {
     SNAPD_MALFORMED = 1,
     SNAPD_NO_SEGMENT = 2,     /* detail: how many segments there are */
     SNAPD_TOO_LONG = 3,       /* detail: the value's length */
-    SNAPD_CONFLICT = 4,       /* the number is there with another value; detail of 4, 5, 6, 7, 9, 13, 17: the segment's number */
+    SNAPD_CONFLICT = 4,       /* the number is there with another value; detail of 4, 5, 6, 7, 9, 13, 17: the
+                               * segment's number */
     SNAPD_OUT_OF_STEP = 5,    /* an update takes the segment's number plus one */
     SNAPD_FENCED = 6,         /* a store failed before: check the disk, start the server again, send the update again */
     SNAPD_FULL = 7,
@@ -522,8 +525,8 @@ static inline snapd_result snapd_try(snapd_client *client, snapd_request *reques
     return *length > request->room ? SNAPD_BAD_REPLY : snapd_receive(client, request->reply, *length, end);
 }
 
-/* The payload of the reply, over as many connections as it may take. It rests for a tenth of a second after the first one, and
- * after each other one twice as long. */
+/* The payload of the reply, over as many connections as it may take. It rests for a tenth of a second after the first
+ * one, and after each other one twice as long. */
 static inline snapd_result snapd_ask(snapd_client *client, snapd_request *request, size_t *length)
 {
     for (int made = 1;; made++) {
@@ -587,15 +590,16 @@ SNAPD_API snapd_result snapd_update(snapd_client *client, unsigned segment, uint
     result = snapd_ask(client, &request, &came);
     if (result != SNAPD_OK)
         return result;
-    if (came != 9 || client->reply[0] != 0x81 || !snapd_is_number(number) || snapd_read_number(client->reply + 1, 8) != number)
+    if (came != 9 || client->reply[0] != 0x81 || !snapd_is_number(number)
+        || snapd_read_number(client->reply + 1, 8) != number)
         return snapd_other(client, client->reply, came);
     *stored = number;
     return SNAPD_OK;
 }
 
 /* Sends a request that is a head alone, of `bytes` bytes after the first four. */
-static inline snapd_result snapd_ask_head(snapd_client *client, uint64_t head, int bytes, unsigned char *reply, size_t room,
-                                          size_t *length)
+static inline snapd_result snapd_ask_head(snapd_client *client, uint64_t head, int bytes, unsigned char *reply,
+                                          size_t room, size_t *length)
 {
     snapd_request request;
     snapd_write_number(request.head, (uint64_t)bytes, 4);
@@ -644,7 +648,9 @@ SNAPD_API snapd_result snapd_scan(snapd_client *client, snapd_snapshot *snapshot
     snapshot->count = 0;
     if (result != SNAPD_OK)
         return result;
-    return snapd_read_snapshot(client->values, length, snapshot) ? SNAPD_OK : snapd_other(client, client->values, length);
+    if (!snapd_read_snapshot(client->values, length, snapshot))
+        return snapd_other(client, client->values, length);
+    return SNAPD_OK;
 }
 
 /* The entries of these segments, in ascending order; 0 where the payload isn't a scan of them. */

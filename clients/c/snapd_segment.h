@@ -4,9 +4,9 @@
  *     snapd_entry mine;
  *     uint64_t number, wanted[SNAPD_MAX_SEGMENTS] = {18, 17};
  *     snapd_status_list seen;
- *     if (snapd_get(&client, 0, &mine) == SNAPD_OK                                // where the job was
- *         && snapd_put(&client, 0, "step 18", 7, &number) == SNAPD_OK)            // it is on the server's disk
- *         snapd_wait(&client, 1u << 0 | 1u << 1, wanted, 30000, &seen);           // segment 0 has come to 18, and 1 to 17
+ *     if (snapd_get(&client, 0, &mine) == SNAPD_OK                            // where the job was
+ *         && snapd_put(&client, 0, "step 18", 7, &number) == SNAPD_OK)        // it is on the server's disk
+ *         snapd_wait(&client, 1u << 0 | 1u << 1, wanted, 30000, &seen);       // segment 0 has come to 18, and 1 to 17
  */
 #ifndef SNAPD_SEGMENT_H
 #define SNAPD_SEGMENT_H

@@ -1,8 +1,8 @@
 """Judges what clients saw of a memory whose segments have one writer each: is there one order of all updates and scans
 that explains it, and keeps the order of those that followed each other?
 
-It is written from the definition alone and knows nothing of the server. The rules are those of J. Anderson's shrinking lemma
-for composite registers (1993), which are together the same as such an order:
+It is written from the definition alone and knows nothing of the server. The rules are those of J. Anderson's shrinking
+lemma for composite registers (1993), which are together the same as such an order:
 
     value     a scan shows under each number the value that was updated under it
     past      an update that ended before a scan began is in the scan

@@ -1,9 +1,9 @@
 #!/usr/bin/env python3
 """Works out what `try_parts restart-sweep` must print, from the disk model and the order of an opening's calls alone.
 
-Of three files only the second has an open place: the gate that its store opened, which was not synced. So all that has to
-be known of it is that gate's byte, and what a fault or a crash leaves there. Of random bytes all that has to be known is the
-byte of the header's gate: where it is open, what lies before it is no header.
+Of three files only the second has an open place: the gate that its store opened, which was not synced. So all that has
+to be known of it is that gate's byte, and what a fault or a crash leaves there. Of random bytes all that has to be
+known is the byte of the header's gate: where it is open, what lies before it is no header.
 """
 
 FILLS = {"keep": None, "00": 0x00, "a5": 0xA5}
@@ -28,7 +28,8 @@ class Gate:
 
 
 def after_fault(call, fill):
-    """The gate after an opening of which the call failed. Calls 2 and 3 are the sync and the read of the second file."""
+    """The gate after an opening of which the call failed. Calls 2 and 3 are the sync and the read of the second
+    file."""
     gate = Gate()
     if call == 2:
         gate.fill(fill)

@@ -1,8 +1,8 @@
 #!/usr/bin/env python3
 """Works out what `try_parts segment-sweep` must print, from the disk model and the format of a segment file alone.
 
-It is written from docs/FORMATS.md ("Segment file", "The old format") and docs/PROMISES.md (the disk model) and shares nothing
-with the program: bytes are a bytearray, open places are a set.
+It is written from docs/FORMATS.md ("Segment file", "The old format") and docs/PROMISES.md (the disk model) and shares
+nothing with the program: bytes are a bytearray, open places are a set.
 """
 
 import struct
@@ -291,7 +291,8 @@ def main():
         "2 yo",
     )
     sweep(
-        f"migration of number 1 and hi to a file of zeros; {after} of both, an opening of the new file, and a second migration",
+        "migration of number 1 and hi to a file of zeros; "
+        f"{after} of both, an opening of the new file, and a second migration",
         9,
         run_migrate,
         "1 hi",

@@ -1,9 +1,10 @@
-"""The server in plain Python, for the tests of the clients: segments in memory, and in a file each where a folder is given.
+"""The server in plain Python, for the tests of the clients: segments in memory,
+and in a file each where a folder is given.
 
     python3 server.py --segments N [--folder F] [--port P] [--fence I ..]
 
-It prints `listening ADDRESS` and serves until it is killed. It is written from docs/FORMATS.md alone, knows nothing of the
-program's code, and promises nothing about crashes of the machine.
+It prints `listening ADDRESS` and serves until it is killed. It is written from docs/FORMATS.md alone, knows nothing of
+the program's code, and promises nothing about crashes of the machine.
 """
 
 import argparse

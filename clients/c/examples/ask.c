@@ -2,10 +2,11 @@
  *
  *     cc -std=c99 -O2 -I .. -o ask ask.c
  *     ./ask HOST PORT TIMEOUT TRIES update SEGMENT NUMBER TEXT | scan | part MASK | status
- *                                   | put SEGMENT TEXT | get SEGMENT | wait MILLISECONDS SEGMENT NUMBER [SEGMENT NUMBER ..]
+ *                                   | put SEGMENT TEXT | get SEGMENT
+ *                                   | wait MILLISECONDS SEGMENT NUMBER [SEGMENT NUMBER ..]
  *
- * MASK is hexadecimal, and its bit i names segment i. HOST is `unix:PATH` and PORT 0 where the server listens on a Unix socket.
- * It prints `stored NUMBER`, or a line for each segment. Status 0 done, 1 no answer, 2 the words, 3 refused.
+ * MASK is hexadecimal, and its bit i names segment i. HOST is `unix:PATH` and PORT 0 where the server listens on a Unix
+ * socket. It prints `stored NUMBER`, or a line for each segment. Status 0 done, 1 no answer, 2 the words, 3 refused.
  */
 #define _POSIX_C_SOURCE 200809L
 #include "snapd_segment.h"
@@ -120,7 +121,8 @@ static int status_of(snapd_result result)
     if (result == SNAPD_OK)
         return 0;
     if (result == SNAPD_REFUSED) {
-        fprintf(stderr, "refused %d %s %" PRIu64 "\n", client.refusal, snapd_refusal_name(client.refusal), client.detail);
+        const char *name = snapd_refusal_name(client.refusal);
+        fprintf(stderr, "refused %d %s %" PRIu64 "\n", client.refusal, name, client.detail);
         return 3;
     }
     fprintf(stderr, "%s\n", snapd_result_name(result));
@@ -152,7 +154,7 @@ int main(int argc, char **argv)
         return status_of(get(argv[6]));
     if (argc >= 9 && argc % 2 == 1 && strcmp(argv[5], "wait") == 0)
         return status_of(wait_for(argv[6], argc - 7, argv + 7));
-    fprintf(stderr, "%s: none of update SEGMENT NUMBER TEXT, scan, part MASK, status, put SEGMENT TEXT, get SEGMENT and wait "
-            "MILLISECONDS SEGMENT NUMBER [SEGMENT NUMBER ..]\n", argv[5]);
+    fprintf(stderr, "%s: none of update SEGMENT NUMBER TEXT, scan, part MASK, status, put SEGMENT TEXT, get SEGMENT "
+            "and wait MILLISECONDS SEGMENT NUMBER [SEGMENT NUMBER ..]\n", argv[5]);
     return 2;
 }

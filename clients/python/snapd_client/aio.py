@@ -15,7 +15,8 @@ import math
 import os
 import socket
 from types import TracebackType
-from typing import Any, Callable, Coroutine, Deque, Dict, Iterable, Mapping, Optional, Tuple, Type, TypeVar, Union, overload
+from typing import Any, Callable, Coroutine, Deque, Dict, Iterable, Mapping, Optional, Tuple, Type, TypeVar, Union
+from typing import overload
 
 from . import addresses, messages, questions
 from .addresses import Address, OfHost, Place, Places
@@ -54,7 +55,8 @@ async def _within(waited: "asyncio.Future[Answer]", end: float) -> Answer:
 
 
 class _Turns:
-    """Lets in one task at a time, in the order in which they came. It belongs to a loop only while one of its tasks is in."""
+    """Lets in one task at a time, in the order in which they came.
+    It belongs to a loop only while one of its tasks is in."""
 
     def __init__(self) -> None:
         self._is_taken = False
@@ -98,8 +100,8 @@ class Client(Caller):
     under way. One that is cancelled in its own call ends the connection, so that no other task gets its reply, and the
     next call makes a new one; an update may have been stored all the same.
 
-    Loops after one another may use one client, as `asyncio.run` makes them; a call while one of another loop is under way is a
-    `RuntimeError`. The loop has `add_reader`, as all have but the one of Windows that is called proactor.
+    Loops after one another may use one client, as `asyncio.run` makes them; a call while one of another loop is under
+    way is a `RuntimeError`. The loop has `add_reader`, as all have but the one of Windows that is called proactor.
     """
 
     def __init__(self, address: Address, *, timeout: float = 5.0, tries: int = 3, pause: float = 0.1) -> None:
@@ -253,7 +255,8 @@ class Client(Caller):
 
 
 class Segment:
-    """One segment of a client, with its number, as `snapd_client.Segment` is. Calls of several tasks wait for each other."""
+    """One segment of a client, with its number, as `snapd_client.Segment` is.
+    Calls of several tasks wait for each other."""
 
     def __init__(self, client: Client, segment: int) -> None:
         """Use `Client.segment`."""

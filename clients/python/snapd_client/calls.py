@@ -1,7 +1,7 @@
 """What a call does, whichever client makes it.
 
-It is written once, as coroutines. The client of asyncio awaits them. The waits of the other one block and never suspend, so that a
-coroutine comes to its end in one step (`completed`).
+It is written once, as coroutines. The client of asyncio awaits them. The waits of the other one block and never
+suspend, so that a coroutine comes to its end in one step (`completed`).
 """
 
 import abc
@@ -174,7 +174,8 @@ class Caller(abc.ABC):
         return self._socket
 
     async def _connection(self, end: float) -> socket.socket:
-        """A new one. Each place gets its share of the time that is left: one that says nothing leaves some for the next."""
+        """A new one. Each place gets its share of the time that is left:
+        one that says nothing leaves some for the next."""
         places = addresses.known(self._address)
         if places is None:
             assert isinstance(self._address, OfHost)

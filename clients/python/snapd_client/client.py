@@ -26,13 +26,13 @@ class Client(Caller):
     sends the same bytes each time: an update under one number is stored once, however often it is sent. The timeout is
     of a whole try, with the look-up of a name and all of its addresses, which share what is left of it.
 
-    Calls may come from several threads; they wait for each other. A process that is forked off makes a connection of its
-    own at its first call, also where it was forked during another thread's call.
+    Calls may come from several threads; they wait for each other. A process that is forked off makes a connection of
+    its own at its first call, also where it was forked during another thread's call.
     """
 
     def __init__(self, address: Address, *, timeout: float = 5.0, tries: int = 3, pause: float = 0.1) -> None:
-        """`address` is "HOST:PORT", a pair of both, or "unix:PATH" of a Unix socket. Nothing is sent yet. `ValueError` where a word
-        is out of range."""
+        """`address` is "HOST:PORT", a pair of both, or "unix:PATH" of a Unix socket. Nothing is sent yet. `ValueError`
+        where a word is out of range."""
         self._lock = threading.RLock()
         self._is_taken = False
         super().__init__(address, timeout, tries, pause)
@@ -55,9 +55,10 @@ class Client(Caller):
     def scan(self, segments: Optional[Iterable[int]] = None) -> Union[Tuple[Entry, ...], Dict[int, Entry]]:
         """Number and value of every segment, all of one moment between the call and its return.
 
-        With `segments`, as in `scan(segments=[0, 3])`, of these alone: a dict of the entries by segment, in ascending order.
-        One that is named twice counts once. `NoSegment` where the server hasn't one of them. Before a byte is sent comes
-        `TypeError` where a segment isn't an integer, and `ValueError` where it isn't 0 to 15 or none is named.
+        With `segments`, as in `scan(segments=[0, 3])`, of these alone: a dict of the entries by segment, in ascending
+        order. One that is named twice counts once. `NoSegment` where the server hasn't one of them. Before a byte is
+        sent comes `TypeError` where a segment isn't an integer, and `ValueError` where it isn't 0 to 15 or none is
+        named.
         """
         if segments is None:
             return self._ask(questions.scan())
@@ -68,8 +69,8 @@ class Client(Caller):
         return self._ask(questions.status())
 
     def segment(self, segment: int) -> "Segment":
-        """One segment, which knows its number. Nothing is sent yet. `TypeError` where it isn't an integer, `ValueError` where it
-        isn't 0 to 15."""
+        """One segment, which knows its number. Nothing is sent yet. `TypeError` where it isn't an integer, `ValueError`
+        where it isn't 0 to 15."""
         return Segment(self, segment)
 
     def wait(self, numbers: Mapping[int, int], timeout: float) -> Dict[int, int]:
@@ -91,8 +92,8 @@ class Client(Caller):
         return completed(reached(self, wanted, timeout))
 
     def close(self) -> None:
-        """Ends the connection, once the call has ended that another thread makes. A later call makes a new one, and so does the one
-        that this thread makes, where a signal's handler closes."""
+        """Ends the connection, once the call has ended that another thread makes. A later call makes a new one, and so
+        does the one that this thread makes, where a signal's handler closes."""
         with self._lock:
             self._drop()
 
@@ -110,8 +111,8 @@ class Client(Caller):
     # ---- turns ----
 
     def _in_turn(self, call: Callable[[], Coroutine[Any, Any, Answer]], until: float = math.inf) -> Answer:
-        """Makes a call once no other thread is in one. `OutOfTime` where that isn't before `until`, `RuntimeError` where this thread is
-        in one itself: in a signal's handler, whose call would take the reply to that one."""
+        """Makes a call once no other thread is in one. `OutOfTime` where that isn't before `until`, `RuntimeError`
+        where this thread is in one itself: in a signal's handler, whose call would take the reply to that one."""
         left = min(max(until - time.monotonic(), 0), threading.TIMEOUT_MAX)
         if not self._lock.acquire(timeout=left):
             raise OutOfTime(f"{self._address}: another call was under way")
@@ -184,8 +185,8 @@ class Segment:
 
     @property
     def number(self) -> int:
-        """The number of the value that was stored or read last. The first use asks the server, by a status: `NoSegment` where it
-        hasn't this segment."""
+        """The number of the value that was stored or read last. The first use asks the server, by a status: `NoSegment`
+        where it hasn't this segment."""
         known = self._numbered.number
         return self._client._in_turn(self._numbered.learned) if known is None else known
 
@@ -199,7 +200,8 @@ class Segment:
         After `NotAnswered` and `BadReply` the value may have been stored; the number stays. `put` it again and it is
         stored once. Another value instead is refused as `Conflict` if the first one was stored; a `get` shows which.
 
-        Before a byte is sent comes `TypeError` where the value isn't bytes-like, and `ValueError` where it has above 65,990 bytes.
+        Before a byte is sent comes `TypeError` where the value isn't bytes-like,
+        and `ValueError` where it has above 65,990 bytes.
         """
         held = messages.value_of(value)
         return self._client._in_turn(lambda: self._numbered.put(held))
@@ -207,6 +209,7 @@ class Segment:
     def get(self) -> bytes:
         """The value. `number` is its number then, also where another job stored it.
 
-        `NoSegment` where the server hasn't this segment. `BadReply` where its number is below the one that was known; that stays.
+        `NoSegment` where the server hasn't this segment. `BadReply` where its number is below the one that was known;
+        that stays.
         """
         return self._client._in_turn(self._numbered.get)

@@ -56,8 +56,8 @@ def frame(payload: bytes) -> bytes:
 
 
 def value_of(value: Bytes) -> bytes:
-    """The bytes of a value. `bytes` itself would make zeros of a number, and take a list. `TypeError` where it isn't bytes-like,
-    `ValueError` where no frame can carry it."""
+    """The bytes of a value. `bytes` itself would make zeros of a number, and take a list. `TypeError` where it isn't
+    bytes-like, `ValueError` where no frame can carry it."""
     try:
         held = memoryview(value).tobytes()
     except TypeError:
@@ -68,7 +68,8 @@ def value_of(value: Bytes) -> bytes:
 
 
 def update(segment: int, number: int, value: Bytes) -> bytes:
-    """The frame that asks to store a value. `TypeError` where a word is of another kind, `ValueError` where no frame can say it."""
+    """The frame that asks to store a value. `TypeError` where a word is of another kind,
+    `ValueError` where no frame can say it."""
     segment, number, value = operator.index(segment), operator.index(number), value_of(value)
     if not 0 <= segment <= 255:
         raise ValueError(f"a segment is 0 to 255, not {segment}")
@@ -83,8 +84,8 @@ def scan() -> bytes:
 
 
 def named(segments: Iterable[int], by: str = "a scan of some segments") -> Tuple[int, ...]:
-    """The segments that a call of this kind names, in ascending order; one that comes twice counts once. `TypeError` where one
-    isn't an integer, `ValueError` where it isn't 0 to 15, or there is none."""
+    """The segments that a call of this kind names, in ascending order; one that comes twice counts once. `TypeError`
+    where one isn't an integer, `ValueError` where it isn't 0 to 15, or there is none."""
     names = sorted({operator.index(segment) for segment in segments})
     if not names:
         raise ValueError(f"{by} names one or more")
@@ -95,8 +96,8 @@ def named(segments: Iterable[int], by: str = "a scan of some segments") -> Tuple
 
 
 def wanted(numbers: Mapping[int, int]) -> Dict[int, int]:
-    """The numbers that are waited for, in ascending order of their segments, which are as `named` takes them. `TypeError` where
-    one isn't an integer, `ValueError` where no segment can have it."""
+    """The numbers that are waited for, in ascending order of their segments, which are as `named` takes them.
+    `TypeError` where one isn't an integer, `ValueError` where no segment can have it."""
     named(numbers, "a wait")
     found = {operator.index(segment): operator.index(number) for segment, number in numbers.items()}
     for number in found.values():

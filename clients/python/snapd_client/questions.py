@@ -23,7 +23,8 @@ class Question(Generic[Answer]):
         self.segments = tuple(segments)
 
     def answer(self, payload: bytes) -> Union[Answer, Refused]:
-        """What the payload of a reply answers, or by what it refuses. `BadReply` where it is no reply to this question."""
+        """What the payload of a reply answers, or by what it refuses.
+        `BadReply` where it is no reply to this question."""
         message = messages.reply(payload)
         return message if isinstance(message, Refused) else self._read(message)
 

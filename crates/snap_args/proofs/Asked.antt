@@ -1,8 +1,10 @@
 -- The command that the parser found, in terms of the grammar.
-use Rattle.std.proofs.Common.{◌≡◌, ◌∙◌, ◌↔◌, IsTrue, List, None, Option, Some, [], ℕ, ap, arith, codes, inl, inr, option_map, refl, subst, sym, true}
+use Rattle.std.proofs.Common.{◌≡◌, ◌∙◌, ◌↔◌, IsTrue, List, None, Option, Some, [], ℕ, ap, arith, codes, inl, inr}
+use Rattle.std.proofs.Common.{option_map, refl, subst, sym, true}
 use Rattle.std.proofs.Common.{unwrap_or}
 use Rattle.std.proofs.Math.Path.{fun_ext}
-use Rattle.clap.specs.Words.{App, HasKind, HasMatchesOf, Row, Text, fault_of, first_value, found_of, is_simple, is_simple_and_free}
+use Rattle.clap.specs.Words.{App, HasKind, HasMatchesOf, Row, Text, fault_of, first_value, found_of, is_simple}
+use Rattle.clap.specs.Words.{is_simple_and_free}
 use Rattle.clap.specs.Words.{kind_of, rows_of, subcommand_name_of, subcommand_of, subcommand_rows_of}
 use Rattle.clap.specs.declared.ArgMatches.{ArgMatches}
 use Rattle.clap.specs.declared.error.Error.{Error}
@@ -12,7 +14,8 @@ use Rattle.clap.proofs.OnLiterals.{clap_on_literals}
 use Rattle.clap.proofs.WalkLemmas.{first_value-rows, raw_values-rows}
 use Rattle.snap_order.specs.declared.order.FileOrder.{FileOrder}
 use Rattle.snap_order.specs.declared.order.FileOrder.TheVariants.{Check, Slot}
-use Rattle.snap_args.specs.Faults.{AreFileNumbersOf, HasWord, IsCommandName, IsFaultOf, IsLaterFault, IsMissing, IsParseFault}
+use Rattle.snap_args.specs.Faults.{AreFileNumbersOf, HasWord, IsCommandName, IsFaultOf, IsLaterFault, IsMissing}
+use Rattle.snap_args.specs.Faults.{IsParseFault}
 use Rattle.snap_args.specs.Grammar.{grammar_of}
 use Rattle.snap_args.specs.Numbers.{IsGiven, IsLargeNumberOf, IsNumberOf}
 use Rattle.snap_args.specs.Orders.{IsCheckOf, IsCommand, IsFileAskedBy, IsNamed, IsPair}
@@ -53,7 +56,7 @@ pub word_is : {words : List Text} {name : Text} {found : Found} → HasCommand w
     → (what : Text) → first_value found what ≡ word_of words what
 word_is {words} {name} {found} has what = rw has.is (first_value-rows found what)
 
--- so are all arguments of one name
+-- all arguments of one name that the parser found are the command's
 pub words_are : {words : List Text} {name : Text} {found : Found} → HasCommand words name found
     → (what : Text) → all_values found what ≡ words_of words what
 words_are {words} {name} {found} has what =
@@ -96,7 +99,7 @@ pub number_is : {words : List Text} {name : Text} {found : Found} → HasCommand
     → IsNumberOf (word_of words what) n
 number_is its what n is = by_words its (λ of all. IsNumberOf (of what) n) is
 
--- so is an optional number
+-- an optional number that the parser found is that of the command's argument
 pub large_number_is : {words : List Text} {name : Text} {found : Found}
     → HasCommand words name found → (what : Text) (n : Option ℕ)
     → IsLargeNumberOf (first_value found what) n → IsLargeNumberOf (word_of words what) n

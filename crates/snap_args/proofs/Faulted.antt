@@ -4,14 +4,18 @@ use Rattle.std.proofs.Common.{◌≡◌, ◌≢◌, ◌⊎◌, ◌∙◌, List, 
 use Rattle.std.proofs.lemmas.Grind.{common_steps}
 use Rattle.clap.specs.Words.{Text, first_value}
 use Rattle.clap.specs.declared.parser.matches.Found.{Found}
-use Rattle.snap_args.specs.Faults.{HasWord, IsCallingFault, IsDumpingFault, IsExaminationFault, IsFaultOf, IsFolderFault}
+use Rattle.snap_args.specs.Faults.{HasWord, IsCallingFault, IsDumpingFault, IsExaminationFault, IsFaultOf}
+use Rattle.snap_args.specs.Faults.{IsFolderFault}
 use Rattle.snap_args.specs.Faults.{IsFoundingFault, IsLoadingFault, IsMigrationFault, IsWatchingFault}
-use Rattle.snap_args.specs.Faults.{IsAnswerFault, IsPathFault, IsPatienceFault, IsServiceFault, IsServingFault, IsSlotFault}
+use Rattle.snap_args.specs.Faults.{IsAnswerFault, IsPathFault, IsPatienceFault, IsServiceFault, IsServingFault}
+use Rattle.snap_args.specs.Faults.{IsSlotFault}
 use Rattle.snap_args.specs.Requests.{IsRequestFault}
-use Rattle.snap_args.specs.Numbers.{IsCountFault, IsEveryFault, IsNoNumber, IsNumberFault, IsPlaceFault, IsSegmentsFault}
+use Rattle.snap_args.specs.Numbers.{IsCountFault, IsEveryFault, IsNoNumber, IsNumberFault, IsPlaceFault}
+use Rattle.snap_args.specs.Numbers.{IsSegmentsFault}
 use Rattle.snap_args.specs.Words.{HasCommand, OfCommand, all_values, word_of, words_of}
 use Rattle.snap_args.specs.declared.fault.WordFault.{WordFault}
-use Rattle.snap_args.specs.declared.fault.WordFault.TheVariants.{Count, Index, Memory, Missing, NoFiles, Number, Request, Scanners, Segment, Slot, SlotAlone, Tries}
+use Rattle.snap_args.specs.declared.fault.WordFault.TheVariants.{Count, Index, Memory, Missing, NoFiles, Number}
+use Rattle.snap_args.specs.declared.fault.WordFault.TheVariants.{Request, Scanners, Segment, Slot, SlotAlone, Tries}
 use Rattle.snap_args.proofs.Asked.{by_words, missing, named, word_is}
 
 -- a missing path
@@ -156,7 +160,7 @@ request_fault words (Request why) is = is
 request_fault words Memory is = tt
 request_fault words why is = absurd is
 
--- the times and the layout of a call
+-- the times and the output format of a call
 answer_fault : (words : List Text) (why : WordFault)
     → IsAnswerFault (word_of words) (words_of words) why → IsFaultOf words why
 answer_fault words why (inl is) = patience_fault words why is
@@ -193,7 +197,7 @@ migration_fault its named why (inr (inl is)) =
 migration_fault its named why (inr (inr is)) =
     path_fault its (codes "new") (migrate_takes _ _ named (inl (inr refl))) why is
 
--- The same lemmas about what the parser found, for each name of a command.
+-- The lemmas above for the command that the parser found, one for each name of a command.
 pub serve_fault : {name : Text} (found : Found) → name ≡ codes "serve" → (why : WordFault)
     → first_value found (codes "dir") ≡ None
     → IsServingFault (first_value found) (all_values found) why

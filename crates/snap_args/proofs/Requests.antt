@@ -3,8 +3,10 @@ use Rattle.std.proofs.Common.{◌≡◌, ◌≢◌, List, [], ◌∷◌, length,
 use Rattle.clap.specs.Words.{Text}
 use Rattle.std.proofs.Common.{◌⊎◌, Some, codes, refl, slice_get, subst, sym}
 use Rattle.std.proofs.lemmas.Option.{get_or_from_slice_get, slice_get_within}
-use Rattle.snap_args.specs.Requests.{HasNoSegment, IsGetFault, IsOfNoForm, IsPartFault, IsPutFault, IsRequestFault, IsUpdateFault}
-use Rattle.snap_args.specs.declared.fault.RequestFault.TheVariants.{Form, Mask, NoSegment, OneSegment, GetSegment, PutSegment, After, NotPut, TooLong}
+use Rattle.snap_args.specs.Requests.{HasNoSegment, IsGetFault, IsOfNoForm, IsPartFault, IsPutFault, IsRequestFault}
+use Rattle.snap_args.specs.Requests.{IsUpdateFault}
+use Rattle.snap_args.specs.declared.fault.RequestFault.TheVariants.{Form, Mask, NoSegment, OneSegment, GetSegment}
+use Rattle.snap_args.specs.declared.fault.RequestFault.TheVariants.{PutSegment, After, NotPut, TooLong}
 use Rattle.snap_args.specs.declared.fault.WordFault.{WordFault}
 use Rattle.snap_args.specs.declared.fault.WordFault.TheVariants as word
 
@@ -16,14 +18,14 @@ part_fault words v a m e (word.Request Mask) is = (m, e, is)
 part_fault words v a m e (word.Request NoSegment) is = (m, e, is)
 part_fault words v a m e why is = absurd is
 
--- so is one of a get
+-- a fault of a get is one of its request
 pub get_fault : (words : List Text) (value after : Option Text) (segment : Text)
     → words ≡ codes "get" ∷ segment ∷ [] → (why : WordFault) → IsGetFault segment why
     → IsRequestFault words value after why
 get_fault words v a s e (word.Request GetSegment) is = (s, e, is)
 get_fault words v a s e why is = absurd is
 
--- so is one of a put
+-- a fault of a put is one of its request
 pub put_fault : (words : List Text) (value after : Option Text) (segment : Text)
     → words ≡ codes "put" ∷ segment ∷ [] → (why : WordFault) → IsPutFault segment value after why
     → IsRequestFault words value after why

@@ -1,10 +1,11 @@
 -- The order `dump`: which arguments ask for which source.
-use Rattle.std.specs.Prelude.{◌≡◌, ◌⊎◌, ℕ, Bool, true, false, ◌&&◌, ◌||◌, not, List, [], ◌∷◌, ◌++◌, nat_eq, Option, Some, None, codes, length}
+use Rattle.std.specs.Prelude.{◌≡◌, ◌⊎◌, ℕ, Bool, true, false, ◌&&◌, ◌||◌, not, List, [], ◌∷◌, ◌++◌, nat_eq, Option}
+use Rattle.std.specs.Prelude.{Some, None, codes, length}
 use Rattle.std.specs.Int.{is_in_range}
 use Rattle.std.specs.List.{list_any}
 use Rattle.clap.specs.Words.{Text}
-use Rattle.snap_order.specs.declared.order.Holder.{Holder}
-use Rattle.snap_order.specs.declared.order.Holder.TheVariants.{Server, Folder}
+use Rattle.snap_order.specs.declared.order.DumpSource.{DumpSource}
+use Rattle.snap_order.specs.declared.order.DumpSource.TheVariants.{Server, Folder}
 
 -- only digits
 abbrev pub are_digits : List ℕ → Bool
@@ -27,7 +28,7 @@ IsAddressWord word = ((path : Text) × (word ≡ codes "unix:" ++ path))
     ⊎ ((list_any (λ b. nat_eq b 47) word ≡ false) × (ends_in_port word ≡ true))
 
 -- the argument names this source: a server's address, or else a folder
-abbrev pub IsHolderOf : Option Text → Holder → Type 0
+abbrev pub IsHolderOf : Option Text → DumpSource → Type 0
 IsHolderOf None h = ⊥
 IsHolderOf (Some word) (Server address) = (address.now ≡ word) × IsAddressWord word
 IsHolderOf (Some word) (Folder folder) = (folder.now ≡ word) × (IsAddressWord word → ⊥)

@@ -11,12 +11,14 @@ use Rattle.snap_order.specs.declared.order.Order.{Order}
 use Rattle.snap_order.specs.declared.order.Order.TheVariants as order
 use Rattle.snap_order.specs.declared.order.FileOrder.{FileOrder}
 use Rattle.snap_order.specs.declared.order.FileOrder.TheVariants.{Format, Put, Get, Check, Slot}
-use Rattle.snap_order.specs.declared.order.Calling.{Calling}
-use Rattle.snap_order.specs.declared.order.Dumping.{Dumping}
-use Rattle.snap_order.specs.declared.order.Question.{Question}
+use Rattle.snap_order.specs.declared.order.CallOptions.{CallOptions}
+use Rattle.snap_order.specs.declared.order.DumpOptions.{DumpOptions}
+use Rattle.snap_order.specs.declared.order.CallRequest.{CallRequest}
 use Rattle.snap_args.specs.Grammar.{grammar_of}
-use Rattle.snap_args.specs.Numbers.{IsClientsFault, IsConnectionsFault, IsCountFault, IsEveryFault, IsGiven, IsIdleFault, IsLargeNumberOf}
-use Rattle.snap_args.specs.Numbers.{IsLayoutFault, IsLevelFault, IsModeFault, IsNoNumber, IsNumberOf, IsPlaceFault, IsScannersFault}
+use Rattle.snap_args.specs.Numbers.{IsClientsFault, IsConnectionsFault, IsCountFault, IsEveryFault, IsGiven}
+use Rattle.snap_args.specs.Numbers.{IsIdleFault, IsLargeNumberOf}
+use Rattle.snap_args.specs.Numbers.{IsLayoutFault, IsLevelFault, IsModeFault, IsNoNumber, IsNumberOf, IsPlaceFault}
+use Rattle.snap_args.specs.Numbers.{IsScannersFault}
 use Rattle.snap_args.specs.Numbers.{IsNoNumberBelow, IsSegmentsFault, IsTimeoutFault, IsTriesFault, IsWaitFault}
 use Rattle.snap_args.specs.Orders.{IsNamed}
 use Rattle.snap_args.specs.Requests.{IsNoRequest, IsQuestionOf, IsRequestFault}
@@ -96,17 +98,17 @@ abbrev pub IsFolderFault : (of : Text → Option Text) (all : Text → List Text
 IsFolderFault of all why =
     ((why ≡ fault.FilesAndFolder) × (all (codes "files") ≢ [])) ⊎ IsServiceFault of all why
 
--- a layout is given, and the reply to the request lists no segments
+-- an output format is given, and the reply to the request lists no segments
 abbrev pub IsUnlisted : (text json : Option Text) → List Text → (value after : Option Text) → Type 0
 IsUnlisted text json words value after = (IsGiven text ⊎ IsGiven json)
-    × ((q : Question) × IsQuestionOf words value after q × (lists_segments q ≡ false))
+    × ((q : CallRequest) × IsQuestionOf words value after q × (lists_segments q ≡ false))
 
 -- a fault of `--wait` or `--timeout`
 abbrev pub IsPatienceFault : (of : Text → Option Text) → WordFault → Type 0
 IsPatienceFault of why =
     IsWaitFault (of (codes "wait")) why ⊎ IsTimeoutFault (of (codes "timeout")) why
 
--- a fault of a call's times or layout
+-- a fault of a call's times or output format
 abbrev pub IsAnswerFault : (of : Text → Option Text) (all : Text → List Text) → WordFault → Type 0
 IsAnswerFault of all why = IsPatienceFault of why
     ⊎ (IsLayoutFault (of (codes "text")) (of (codes "json")) why
@@ -281,13 +283,13 @@ AreFileNumbersOf words (Check file is_json) = Unit {0}
 AreFileNumbersOf words (Slot file slot) = IsNumberOf (word_of words (codes "slot")) slot
 
 -- a call's numbers are those of its arguments
-pub record AreCallingNumbersOf (words : List Text) (c : Calling) : Type 0 where
+pub record AreCallingNumbersOf (words : List Text) (c : CallOptions) : Type 0 where
   pub tries : IsNumberOf (word_of words (codes "tries")) c.tries
   pub wait : IsLargeNumberOf (word_of words (codes "wait")) c.wait
   pub timeout : IsLargeNumberOf (word_of words (codes "timeout")) c.timeout
 
 -- a dump's numbers are those of its arguments
-pub record AreDumpingNumbersOf (words : List Text) (d : Dumping) : Type 0 where
+pub record AreDumpingNumbersOf (words : List Text) (d : DumpOptions) : Type 0 where
   pub tries : IsNumberOf (word_of words (codes "tries")) d.tries
   pub wait : IsLargeNumberOf (word_of words (codes "wait")) d.wait
   pub timeout : IsLargeNumberOf (word_of words (codes "timeout")) d.timeout

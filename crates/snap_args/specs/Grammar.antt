@@ -65,7 +65,7 @@ flag_rule name = record (new_rule name) { long = Some name; action = Some SetTru
 abbrev pub filed : App → App
 filed app = with_rule app (word_rule (codes "file"))
 
--- adds the arguments of `check`: a file, the layout, and a slot whose value is printed
+-- adds the arguments of `check`: a file, the output format, and a slot whose value is printed
 abbrev pub checked : App → App
 checked app = with_rule (with_rule (with_rule (filed app) (flag_rule (codes "json")))
     (text_rule (codes "slot"))) (flag_rule (codes "value"))
@@ -115,7 +115,7 @@ served app = limited (with_rule (with_rule (reached (supplied (addressed app)))
 abbrev pub stored : App → App
 stored app = with_rule (with_rule app (text_rule (codes "value"))) (large_number_rule (codes "after"))
 
--- adds the layout of a reply
+-- adds the output format of a reply
 abbrev pub printed : App → App
 printed app = with_rule (with_rule app (flag_rule (codes "text"))) (flag_rule (codes "json"))
 

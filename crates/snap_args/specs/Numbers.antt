@@ -1,11 +1,12 @@
 -- The numbers among the arguments of a command, and their faults.
-use Rattle.std.specs.Prelude.{◌≡◌, ◌≢◌, ◌⊎◌, ℕ, ◌-◌, ◌<◌, ◌≤◌, ◌^◌, List, length, slice_get, slice_index, Option, Some, None, codes}
+use Rattle.std.specs.Prelude.{◌≡◌, ◌≢◌, ◌⊎◌, ℕ, ◌-◌, ◌<◌, ◌≤◌, ◌^◌, List, length, slice_get, slice_index, Option}
+use Rattle.std.specs.Prelude.{Some, None, codes}
 use Rattle.std.specs.Str.Parse.{IsNumeral, digits_value, without_leading_plus}
 use Rattle.clap.specs.Words.{Text}
 use Rattle.snap_order.specs.Limits.{MAX_COUNT, MAX_SCANNERS, MAX_TRIES}
 use Rattle.snap_order.specs.Order.{IsOneTo}
-use Rattle.snap_order.specs.declared.order.Layout.{Layout}
-use Rattle.snap_order.specs.declared.order.Layout.TheVariants as layout
+use Rattle.snap_order.specs.declared.order.OutputFormat.{OutputFormat}
+use Rattle.snap_order.specs.declared.order.OutputFormat.TheVariants as layout
 use Rattle.snap_order.specs.declared.order.Level.{Level}
 use Rattle.snap_order.specs.declared.order.Level.TheVariants as level
 use Rattle.snap_order.specs.declared.order.TheConstants.{MAX_CLIENTS, MAX_EVERY, MAX_IDLE, MAX_TIMEOUT, MODE_BITS}
@@ -26,15 +27,15 @@ IsNoNumberBelow limit (Some word) =
     IsNumeral 10 (without_leading_plus word) × (digits_value 10 (without_leading_plus word) < limit)
     → ⊥
 
--- it is no number of 8 bits
+-- the argument is no number of 8 bits
 abbrev pub IsNoNumber : Option Text → Type 0
 IsNoNumber word = IsNoNumberBelow (2 ^ 8) word
 
--- it is no number of 64 bits
+-- the argument is no number of 64 bits
 abbrev pub IsNoLargeNumber : Option Text → Type 0
 IsNoLargeNumber word = IsNoNumberBelow (2 ^ 64) word
 
--- it is no number of 64 bits that has a next one
+-- the argument is no number of 64 bits that has a next one
 abbrev pub IsNoBehind : Option Text → Type 0
 IsNoBehind word = IsNoNumberBelow (2 ^ 64 - 1) word
 
@@ -147,8 +148,8 @@ level_word level.Debug = codes "debug"
 abbrev pub IsGiven : Option Text → Type 0
 IsGiven word = word ≡ Some (codes "true")
 
--- the layout that these flags ask for
-abbrev pub IsLayoutOf : (text json : Option Text) → Layout → Type 0
+-- the output format that these flags ask for
+abbrev pub IsLayoutOf : (text json : Option Text) → OutputFormat → Type 0
 IsLayoutOf text json layout.Lines = (IsGiven text → ⊥) × (IsGiven json → ⊥)
 IsLayoutOf text json layout.Text = IsGiven text × (IsGiven json → ⊥)
 IsLayoutOf text json layout.Json = IsGiven json × (IsGiven text → ⊥)

@@ -5,13 +5,13 @@ use Rattle.snap_order.specs.declared.order.Order.{Order}
 use Rattle.snap_order.specs.declared.order.Order.TheVariants as order
 use Rattle.snap_order.specs.declared.order.FileOrder.{FileOrder}
 use Rattle.snap_order.specs.declared.order.FileOrder.TheVariants.{Format, Put, Get, Check, Slot}
-use Rattle.snap_order.specs.declared.order.Founding.{Founding}
-use Rattle.snap_order.specs.declared.order.Examination.{Examination}
-use Rattle.snap_order.specs.declared.order.Serving.{Serving}
-use Rattle.snap_order.specs.declared.order.Calling.{Calling}
-use Rattle.snap_order.specs.declared.order.Dumping.{Dumping}
-use Rattle.snap_order.specs.declared.order.Loading.{Loading}
-use Rattle.snap_order.specs.declared.order.Watching.{Watching}
+use Rattle.snap_order.specs.declared.order.InitOptions.{InitOptions}
+use Rattle.snap_order.specs.declared.order.DoctorOptions.{DoctorOptions}
+use Rattle.snap_order.specs.declared.order.ServeOptions.{ServeOptions}
+use Rattle.snap_order.specs.declared.order.CallOptions.{CallOptions}
+use Rattle.snap_order.specs.declared.order.DumpOptions.{DumpOptions}
+use Rattle.snap_order.specs.declared.order.LoadOptions.{LoadOptions}
+use Rattle.snap_order.specs.declared.order.WatchOptions.{WatchOptions}
 use Rattle.snap_args.specs.Dumps.{IsHolderOf}
 use Rattle.snap_args.specs.Grammar.{grammar_of}
 use Rattle.snap_args.specs.Numbers.{AreSegmentsOf, IsGiven, IsLayoutOf, IsNumberOf}
@@ -64,53 +64,53 @@ IsCheckOf path of (Slot file slot) = (file.now ≡ path) × IsNumberOf (of (code
 IsCheckOf path of order = ⊥
 
 -- the arguments ask to make this folder
-pub record IsFoundingOf (words : List Text) (f : Founding) : Type 0 where
+pub record IsFoundingOf (words : List Text) (f : InitOptions) : Type 0 where
   pub command : IsNamed words (codes "init")
   pub folder : word_of words (codes "folder") ≡ Some f.folder.now
   pub missing_empty : IsTrue f.is_missing_empty ↔ IsGiven (word_of words (codes "missing-empty"))
 
 -- the arguments ask for a report on this folder
-pub record IsExaminationOf (words : List Text) (e : Examination) : Type 0 where
+pub record IsExaminationOf (words : List Text) (e : DoctorOptions) : Type 0 where
   pub command : IsNamed words (codes "doctor")
   pub folder : word_of words (codes "folder") ≡ Some e.folder.now
   pub measured : IsTrue e.is_measured ↔ IsGiven (word_of words (codes "measure"))
 
 -- the arguments ask for this server, with these files and no folder
-pub record IsServerOf (words : List Text) (s : Serving) : Type 0 where
+pub record IsServerOf (words : List Text) (s : ServeOptions) : Type 0 where
   pub command : IsNamed words (codes "serve")
   pub files : words_of words (codes "files") ≡ map (λ f. f.now) s.files.items
   pub no_folder : word_of words (codes "dir") ≡ None
   pub service : IsServiceOf (word_of words) (words_of words) s
 
 -- the arguments ask for this server, with this folder and no files
-pub record IsFolderServerOf (words : List Text) (path : Text) (s : Serving) : Type 0 where
+pub record IsFolderServerOf (words : List Text) (path : Text) (s : ServeOptions) : Type 0 where
   pub command : IsNamed words (codes "serve")
   pub folder : word_of words (codes "dir") ≡ Some path
   pub no_files : words_of words (codes "files") ≡ []
   pub service : IsServiceOf (word_of words) (words_of words) s
 
--- the arguments ask for this call: its address, request and layout
-pub record IsCallOf (words : List Text) (c : Calling) : Type 0 where
+-- the arguments ask for this call: its address, request and output format
+pub record IsCallOf (words : List Text) (c : CallOptions) : Type 0 where
   pub command : IsNamed words (codes "call")
   pub address : word_of words (codes "address") ≡ Some c.address.now
   pub request : IsQuestionOf (words_of words (codes "request")) (word_of words (codes "value"))
       (word_of words (codes "after")) c.question
   pub layout : IsLayoutOf (word_of words (codes "text")) (word_of words (codes "json")) c.layout
 
--- the arguments ask for this watch: its address, segments and layout
-pub record IsWatchOf (words : List Text) (w : Watching) : Type 0 where
+-- the arguments ask for this watch: its address, segments and output format
+pub record IsWatchOf (words : List Text) (w : WatchOptions) : Type 0 where
   pub command : IsNamed words (codes "watch")
   pub address : word_of words (codes "address") ≡ Some w.address.now
   pub segments : AreSegmentsOf (words_of words (codes "segments")) w.segments.items
   pub json : IsTrue w.is_json ↔ IsGiven (word_of words (codes "json"))
 
 -- the arguments ask for this dump
-pub record IsDumpOf (words : List Text) (d : Dumping) : Type 0 where
+pub record IsDumpOf (words : List Text) (d : DumpOptions) : Type 0 where
   pub command : IsNamed words (codes "dump")
   pub holder : IsHolderOf (word_of words (codes "holder")) d.holder
 
 -- the arguments ask to make this folder of this dump
-pub record IsLoadOf (words : List Text) (l : Loading) : Type 0 where
+pub record IsLoadOf (words : List Text) (l : LoadOptions) : Type 0 where
   pub command : IsNamed words (codes "load")
   pub folder : word_of words (codes "folder") ≡ Some l.folder.now
   pub dump : word_of words (codes "dump") ≡ Some l.dump.now

@@ -1,13 +1,13 @@
 -- Which arguments ask for which request.
 use Rattle.std.specs.Prelude.{◌≡◌, ◌≢◌, ◌⊎◌, ◌<◌, ℕ, List, [], ◌∷◌, length, Option, Some, None, codes}
 use Rattle.clap.specs.Words.{Text}
-use Rattle.snap_hex.specs.Text.{IsHex}
+use Rattle.snap_stream.specs.Hex.{IsHex}
 use Rattle.snap_order.specs.Limits.{MAX_COUNT, MAX_UPDATE_VALUE}
 use Rattle.snap_order.specs.request.Request.{Request}
 use Rattle.snap_order.specs.request.Request.TheVariants.{Update, Scan, Status, Part}
-use Rattle.snap_order.specs.declared.order.Question.{Question}
-use Rattle.snap_order.specs.declared.order.Question.TheVariants as question
-use Rattle.snap_order.specs.declared.order.Putting.{Putting}
+use Rattle.snap_order.specs.declared.order.CallRequest.{CallRequest}
+use Rattle.snap_order.specs.declared.order.CallRequest.TheVariants as question
+use Rattle.snap_order.specs.declared.order.PutOptions.{PutOptions}
 use Rattle.snap_order.specs.declared.order.Source.{Source}
 use Rattle.snap_order.specs.declared.order.Source.TheVariants as source
 use Rattle.snap_args.specs.Numbers.{IsLargeNumberOf, IsMask, IsNoBehind, IsNoLargeNumber, IsNoNumber, IsNoNumberBelow}
@@ -17,7 +17,7 @@ use Rattle.snap_args.specs.declared.fault.RequestFault.TheVariants as fault
 use Rattle.snap_args.specs.declared.fault.WordFault.{WordFault}
 use Rattle.snap_args.specs.declared.fault.WordFault.TheVariants as word_fault
 
--- they are an update's, and P holds of its segment, number and value
+-- the arguments are an update's, and P holds of its segment, number and value
 abbrev pub OfUpdate : List Text → (Text → Text → Text → Type 0) → Type 0
 OfUpdate words P = (segment : Text) × (number : Text) × (value : Text)
     × (words ≡ codes "update" ∷ segment ∷ number ∷ value ∷ []) × P segment number value
@@ -28,11 +28,11 @@ IsUpdateOf segment number value (Update i k bytes) =
     IsNumberOf (Some segment) i × IsNumberOf (Some number) k × IsHex value bytes
 IsUpdateOf segment number value request = ⊥
 
--- they are this name and one more, and P holds of that
+-- the arguments are this name and one more, and P holds of that one
 abbrev pub OfTwo : (name : Text) → List Text → (Text → Type 0) → Type 0
 OfTwo name words P = (word : Text) × (words ≡ name ∷ word ∷ []) × P word
 
--- they are those of a scan of some segments, and P holds of its mask
+-- the arguments are those of a scan of some segments, and P holds of its mask
 abbrev pub OfPart : List Text → (Text → Type 0) → Type 0
 OfPart words P = OfTwo (codes "part") words P
 
@@ -56,7 +56,7 @@ IsSourceOf (Some word) (source.Words bytes) = bytes ≡ word
 IsSourceOf word s = ⊥
 
 -- the put with this segment and these options
-pub record IsPutOf (i : Text) (text k : Option Text) (p : Putting) : Type 0 where
+pub record IsPutOf (i : Text) (text k : Option Text) (p : PutOptions) : Type 0 where
   pub segment : IsNumberOf (Some i) p.segment
   pub value : IsSourceOf text p.value
   pub after : IsLargeNumberOf k p.after
@@ -65,8 +65,8 @@ pub record IsPutOf (i : Text) (text k : Option Text) (p : Putting) : Type 0 wher
 abbrev pub HasNoOption : (value after : Option Text) → Type 0
 HasNoOption value after = (value ≡ None) × (after ≡ None)
 
--- The question of these arguments. A put's options are allowed for a put only.
-abbrev pub IsQuestionOf : List Text → (value after : Option Text) → Question → Type 0
+-- The call's request by these arguments. A put's options are allowed for a put only.
+abbrev pub IsQuestionOf : List Text → (value after : Option Text) → CallRequest → Type 0
 IsQuestionOf words value after (question.Request r) = IsRequestOf words r × HasNoOption value after
 IsQuestionOf words value after question.Health =
     (words ≡ codes "health" ∷ []) × HasNoOption value after

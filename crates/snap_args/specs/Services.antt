@@ -1,7 +1,7 @@
 -- Which arguments ask for which server, except for its files.
 use Rattle.std.specs.Prelude.{◌≡◌, List, ◌∷◌, Option, Some, None, codes, map, option_map}
 use Rattle.clap.specs.Words.{Text}
-use Rattle.snap_order.specs.declared.order.Serving.{Serving}
+use Rattle.snap_order.specs.declared.order.ServeOptions.{ServeOptions}
 use Rattle.snap_args.specs.Numbers.{IsLargeNumberOf, IsLevelOf, IsModeOf, IsNumberOf}
 
 -- these are the first address and the further ones, in order
@@ -10,7 +10,7 @@ AreAddressesOf None further addresses = ⊥
 AreAddressesOf (Some first) further addresses = addresses ≡ first ∷ further
 
 -- the server's addresses, numbers, log level and address for HTTP are those of these arguments
-pub record IsServiceOf (of : Text → Option Text) (all : Text → List Text) (s : Serving)
+pub record IsServiceOf (of : Text → Option Text) (all : Text → List Text) (s : ServeOptions)
     : Type 0 where
   pub addresses : AreAddressesOf (of (codes "address")) (all (codes "listen"))
       (map (λ a. a.now) s.addresses.items)

@@ -8,9 +8,9 @@ use thiserror::Error;
 /// The longest path of a Unix socket, in bytes.
 const MAX_SOCKET_PATH: usize = 107;
 
-/// What an address lacks. Its message also says what to give.
+/// The part that an address lacks. The message also says what to give.
 #[derive(Clone, Copy, Debug, PartialEq, Eq, Error)]
-pub enum Lack {
+pub enum AddressFault {
     #[error("an address is HOST:PORT or unix:PATH, and the host is missing: give for example 127.0.0.1:7070")]
     Host,
     #[error("an address is HOST:PORT or unix:PATH, and the port is missing: give for example 127.0.0.1:7070")]
@@ -19,40 +19,41 @@ pub enum Lack {
     Both,
     #[error("an address of a Unix socket is unix:PATH, and the path is missing: give for example unix:snapd.sock")]
     Path,
-    #[error("the path of a Unix socket has at most {max} bytes, and this one has {len}: give a shorter one, from the folder where it is used", max = MAX_SOCKET_PATH)]
+    #[error("the path of a Unix socket has at most {max} bytes, and this one has {len}: give a shorter one, from the \
+        folder where it is used", max = MAX_SOCKET_PATH)]
     ShortPath { len: usize },
 }
 
-/// What the path of a Unix socket's address lacks.
-fn lack_of_path(path: &str) -> Option<Lack> {
+/// The fault of the path in a Unix socket's address, if there is one.
+fn lack_of_path(path: &str) -> Option<AddressFault> {
     match path.len() {
-        0 => Some(Lack::Path),
-        len if len > MAX_SOCKET_PATH => Some(Lack::ShortPath { len }),
+        0 => Some(AddressFault::Path),
+        len if len > MAX_SOCKET_PATH => Some(AddressFault::ShortPath { len }),
         _ => None,
     }
 }
 
-/// What the address lacks: a host, a port or a path. `None` if it has all; whether they are valid,
-/// the system decides.
-pub fn lack_of(address: &str) -> Option<Lack> {
+/// The part that the address lacks: a host, a port or a path. `None` if it has all; the system decides whether they are
+/// valid.
+pub fn lack_of(address: &str) -> Option<AddressFault> {
     if let Some(path) = socket_path(address) {
         return lack_of_path(path);
     }
     if !address.is_empty() && address.bytes().all(|byte| byte.is_ascii_digit()) {
-        return Some(Lack::Host);
+        return Some(AddressFault::Host);
     }
     if address.starts_with('[') && address.ends_with(']') {
-        return Some(Lack::Port);
+        return Some(AddressFault::Port);
     }
     let (host, port) = match address.rsplit_once(':') {
         Some(parts) => parts,
         None => (address, ""),
     };
     match (host.is_empty(), port.is_empty()) {
-        (true, true) => Some(Lack::Both),
-        (true, false) => Some(Lack::Host),
-        (false, true) => Some(Lack::Port),
-        (false, false) if is_bare(address, host) => Some(Lack::Port),
+        (true, true) => Some(AddressFault::Both),
+        (true, false) => Some(AddressFault::Host),
+        (false, true) => Some(AddressFault::Port),
+        (false, false) if is_bare(address, host) => Some(AddressFault::Port),
         (false, false) => None,
     }
 }

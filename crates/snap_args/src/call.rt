@@ -13,11 +13,14 @@ use crate::numbers::{limit_of, tries_of};
 use crate::request::question_of;
 use crate::words::is;
 use clap::ArgMatches;
-use snap_order::{Calling, Layout, MAX_TIMEOUT};
+use snap_order::{CallOptions, MAX_TIMEOUT, OutputFormat};
 use std::alloc::Global;
 
 /// Parses the arguments of `call`.
-pub(crate) fn calling<'a>(alloc: Global, matches: &ArgMatches<'a>) -> Result<Calling<'a>, WordFault>
+pub(crate) fn calling<'a>(
+    alloc: Global,
+    matches: &ArgMatches<'a>,
+) -> Result<CallOptions<'a>, WordFault>
     ensures limits { IfOk result IsCallable }
     ensures address { IfOk result
         (λ c. Some c.address.now ≡ first_value (found_of matches.now) (codes "address")) }
@@ -44,10 +47,10 @@ pub(crate) fn calling<'a>(alloc: Global, matches: &ArgMatches<'a>) -> Result<Cal
     let timeout = limit_of(matches, "timeout", MAX_TIMEOUT, WordFault::Timeout)?;
     let layout = layout_of(matches)?;
     let question = question_of(alloc, matches)?;
-    if layout != Layout::Lines && !question.lists_segments() {
+    if layout != OutputFormat::Lines && !question.lists_segments() {
         return Err(WordFault::NoLayout);
     }
-    Ok(Calling {
+    Ok(CallOptions {
         address,
         question,
         tries,
@@ -57,17 +60,17 @@ pub(crate) fn calling<'a>(alloc: Global, matches: &ArgMatches<'a>) -> Result<Cal
     })
 }
 
-/// The layout of the printed reply.
-fn layout_of(matches: &ArgMatches<'_>) -> Result<Layout, WordFault>
+/// The output format of the reply.
+fn layout_of(matches: &ArgMatches<'_>) -> Result<OutputFormat, WordFault>
     ensures layout { IfOk result (IsLayoutOf (first_value (found_of matches.now) (codes "text"))
         (first_value (found_of matches.now) (codes "json"))) }
     ensures fault { IfErr result (IsLayoutFault (first_value (found_of matches.now) (codes "text"))
         (first_value (found_of matches.now) (codes "json"))) }
 {
     match (is_given(matches, "text"), is_given(matches, "json")) {
-        (false, false) => Ok(Layout::Lines),
-        (true, false) => Ok(Layout::Text),
-        (false, true) => Ok(Layout::Json),
+        (false, false) => Ok(OutputFormat::Lines),
+        (true, false) => Ok(OutputFormat::Text),
+        (false, true) => Ok(OutputFormat::Json),
         (true, true) => Err(WordFault::TwoLayouts),
     }
 }

@@ -10,10 +10,10 @@ ghost use Rattle.snap_args.specs.Numbers.{IsCountFault, IsLargeNumberOf, IsNumbe
 use crate::WordFault;
 use crate::numbers::{count_of, limit_of, tries_of};
 use clap::ArgMatches;
-use snap_order::{Dumping, Holder, Loading, MAX_TIMEOUT};
+use snap_order::{DumpOptions, DumpSource, LoadOptions, MAX_TIMEOUT};
 
 /// Parses the arguments of `dump`.
-pub(crate) fn dumping<'a>(matches: &ArgMatches<'a>) -> Result<Dumping<'a>, WordFault>
+pub(crate) fn dumping<'a>(matches: &ArgMatches<'a>) -> Result<DumpOptions<'a>, WordFault>
     ensures limits { IfOk result IsDumpable }
     ensures holder { IfOk result
         (λ d. IsHolderOf (first_value (found_of matches.now) (codes "holder")) d.holder) }
@@ -31,7 +31,7 @@ pub(crate) fn dumping<'a>(matches: &ArgMatches<'a>) -> Result<Dumping<'a>, WordF
     let tries = tries_of(matches)?;
     let wait = limit_of(matches, "wait", MAX_TIMEOUT, WordFault::Wait)?;
     let timeout = limit_of(matches, "timeout", MAX_TIMEOUT, WordFault::Timeout)?;
-    Ok(Dumping {
+    Ok(DumpOptions {
         holder: holder_of(word),
         tries,
         wait,
@@ -40,13 +40,13 @@ pub(crate) fn dumping<'a>(matches: &ArgMatches<'a>) -> Result<Dumping<'a>, WordF
 }
 
 /// The server or folder that this argument names.
-fn holder_of<'a>(word: &'a str) -> Holder<'a>
+fn holder_of<'a>(word: &'a str) -> DumpSource<'a>
     ensures { IsHolderOf (Some word.now) result }
 {
     if is_address_word(word) {
-        Holder::Server { address: word }
+        DumpSource::Server { address: word }
     } else {
-        Holder::Folder { folder: word }
+        DumpSource::Folder { folder: word }
     }
 }
 
@@ -92,7 +92,7 @@ fn are_digits(bytes: &[u8]) -> bool
 }
 
 /// Parses the arguments of `load`.
-pub(crate) fn loading<'a>(matches: &ArgMatches<'a>) -> Result<Loading<'a>, WordFault>
+pub(crate) fn loading<'a>(matches: &ArgMatches<'a>) -> Result<LoadOptions<'a>, WordFault>
     ensures limits { IfOk result IsLoadable }
     ensures folder { IfOk result
         (λ l. Some l.folder.now ≡ first_value (found_of matches.now) (codes "folder")) }
@@ -109,7 +109,7 @@ pub(crate) fn loading<'a>(matches: &ArgMatches<'a>) -> Result<Loading<'a>, WordF
         return Err(WordFault::Missing { what: "dump" });
     };
     let count = free_count_of(matches)?;
-    Ok(Loading {
+    Ok(LoadOptions {
         folder,
         dump,
         count,

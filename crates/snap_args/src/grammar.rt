@@ -18,8 +18,8 @@ use std::alloc::{AllocError, Global};
 /// The version of the program.
 pub const VERSION: &str = "0.2.0";
 
-/// What `--version` prints. Its second line is 100 bytes, over which verification/stamp.py writes in the built
-/// program what it was built from, and whether it was proved.
+/// The text of `--version`. Its second line has 100 bytes, which verification/stamp.py overwrites in the built program:
+/// with the source that it was built from, and whether it was proved.
 const VERSION_AND_BUILD: &str = "0.2.0
 it isn't known how this was built                                                                   ";
 

@@ -1,8 +1,8 @@
 //! Parses the command line of `snapd`.
 //!
-//! [`order`] returns the parsed order, or the reason why there is none. `clap` parses the
-//! arguments; `specs/Grammar.antt` has the grammar, and says which order or fault follows from
-//! which arguments. [`lack_of`] and [`is_everywhere`] check the text of an address.
+//! [`order`] returns the parsed command line, an `Order`, or the fault in the arguments. `clap` parses the arguments by
+//! the grammar in `specs/Grammar.antt`; `specs/Orders.antt` says which order they ask for, and `specs/Faults.antt`
+//! which fault they have. [`lack_of`] and [`is_everywhere`] check the text of an address.
 #![tactic(auto)]
 
 mod address;
@@ -17,7 +17,7 @@ mod serve;
 mod watch;
 mod words;
 
-pub use address::{Lack, is_everywhere, lack_of};
+pub use address::{AddressFault, is_everywhere, lack_of};
 pub use fault::{RequestFault, WordFault};
 pub use grammar::VERSION;
 pub use words::order;

@@ -4,7 +4,7 @@ ghost use Rattle.clap.specs.Words.{Text, first_value, found_of};
 ghost use Rattle.snap_order.specs.Messages.{IsAskable, max_payload, payload};
 ghost use Rattle.snap_order.specs.Limits.{MAX_COUNT};
 ghost use Rattle.snap_order.specs.Order.{FitsUpdate, IsWithin, request_of};
-ghost use Rattle.snap_order.specs.declared.order.Question.TheVariants as question;
+ghost use Rattle.snap_order.specs.declared.order.CallRequest.TheVariants as question;
 ghost use Rattle.snap_args.specs.Numbers.{IsNumberOf};
 ghost use Rattle.snap_args.specs.Requests.{IsGetFault, IsNoRequest, IsOfNoForm, IsPartFault};
 ghost use Rattle.snap_args.specs.Requests.{IsPartOf, IsPutFault, IsPutOf, IsQuestionOf};
@@ -17,12 +17,14 @@ use crate::words::is;
 use crate::{RequestFault, WordFault};
 use bytes::Bytes;
 use clap::ArgMatches;
-use snap_hex::read_hex;
-use snap_order::{MAX_COUNT, MAX_UPDATE_VALUE, Putting, Question, Request, SegmentSet, Source};
+use snap_order::{
+    CallRequest, MAX_COUNT, MAX_UPDATE_VALUE, PutOptions, Request, SegmentSet, Source,
+};
+use snap_stream::read_hex;
 use std::alloc::Global;
 
 /// Parses the request of a call, within the limits.
-pub(crate) fn question_of(alloc: Global, matches: &ArgMatches<'_>) -> Result<Question, WordFault>
+pub(crate) fn question_of(alloc: Global, matches: &ArgMatches<'_>) -> Result<CallRequest, WordFault>
     ensures question { IfOk result (IsQuestionOf
         (all_values (found_of matches.now) (codes "request"))
         (first_value (found_of matches.now) (codes "value"))
@@ -42,7 +44,11 @@ pub(crate) fn question_of(alloc: Global, matches: &ArgMatches<'_>) -> Result<Que
 }
 
 /// Parses these arguments as a request, with the options of a put.
-fn question(alloc: Global, words: &[&str], matches: &ArgMatches<'_>) -> Result<Question, WordFault>
+fn question(
+    alloc: Global,
+    words: &[&str],
+    matches: &ArgMatches<'_>,
+) -> Result<CallRequest, WordFault>
     ensures question { IfOk result (IsQuestionOf (map (λ w. w.now) words.now)
         (first_value (found_of matches.now) (codes "value"))
         (first_value (found_of matches.now) (codes "after"))) }
@@ -55,7 +61,7 @@ fn question(alloc: Global, words: &[&str], matches: &ArgMatches<'_>) -> Result<Q
 {
     if words.len() == 2 && is(words[0], "put") {
         let put = put(alloc, words[1], matches)?;
-        return Ok(Question::Put(put));
+        return Ok(CallRequest::Put(put));
     }
     if matches.get_str("value").is_some() || matches.get_str("after").is_some() {
         return Err(WordFault::Request(RequestFault::NotPut));
@@ -64,7 +70,7 @@ fn question(alloc: Global, words: &[&str], matches: &ArgMatches<'_>) -> Result<Q
 }
 
 /// Parses these arguments as a request other than a put, without its options.
-fn plain_question(alloc: Global, words: &[&str]) -> Result<Question, WordFault>
+fn plain_question(alloc: Global, words: &[&str]) -> Result<CallRequest, WordFault>
     requires other { (i : Text) → map (λ w. w.now) words.now ≢ codes "put" ∷ i ∷ [] }
     ensures question { IfOk result (IsQuestionOf (map (λ w. w.now) words.now) None None) }
     ensures fits { IfOk result (λ q. length (payload (request_of q)) ≤ max_payload) }
@@ -73,25 +79,25 @@ fn plain_question(alloc: Global, words: &[&str]) -> Result<Question, WordFault>
     ensures fault { IfErr result (IsRequestFault (map (λ w. w.now) words.now) None None) }
 {
     if words.len() == 1 && is(words[0], "scan") {
-        return Ok(Question::Request(Request::Scan));
+        return Ok(CallRequest::Request(Request::Scan));
     }
     if words.len() == 1 && is(words[0], "status") {
-        return Ok(Question::Request(Request::Status));
+        return Ok(CallRequest::Request(Request::Status));
     }
     if words.len() == 1 && is(words[0], "health") {
-        return Ok(Question::Health);
+        return Ok(CallRequest::Health);
     }
     if words.len() == 2 && is(words[0], "part") {
         let part = part(words[1])?;
-        return Ok(Question::Request(part));
+        return Ok(CallRequest::Request(part));
     }
     if words.len() == 2 && is(words[0], "get") {
         let segment = segment_to_get(words[1])?;
-        return Ok(Question::Get { segment });
+        return Ok(CallRequest::Get { segment });
     }
     if words.len() == 4 && is(words[0], "update") {
         let update = update(alloc, words[1], words[2], words[3])?;
-        return Ok(Question::Request(update));
+        return Ok(CallRequest::Request(update));
     }
     Err(WordFault::Request(form_fault(words)))
 }
@@ -123,7 +129,7 @@ fn segment_to_get(word: &str) -> Result<u8, WordFault>
 }
 
 /// Parses a put of this segment, with its options.
-fn put(alloc: Global, segment: &str, matches: &ArgMatches<'_>) -> Result<Putting, WordFault>
+fn put(alloc: Global, segment: &str, matches: &ArgMatches<'_>) -> Result<PutOptions, WordFault>
     ensures put { IfOk result (IsPutOf segment.now
         (first_value (found_of matches.now) (codes "value"))
         (first_value (found_of matches.now) (codes "after"))) }
@@ -137,7 +143,7 @@ fn put(alloc: Global, segment: &str, matches: &ArgMatches<'_>) -> Result<Putting
     };
     let after = after_of(matches)?;
     let value = source_of(alloc, matches)?;
-    Ok(Putting {
+    Ok(PutOptions {
         segment,
         value,
         after,

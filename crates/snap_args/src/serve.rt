@@ -12,11 +12,14 @@ use crate::WordFault;
 use crate::numbers::{connections_of, limit_of, mode_of, scanners_of};
 use crate::words::is;
 use clap::ArgMatches;
-use snap_order::{Level, MAX_ADDRESSES, MAX_CLIENTS, MAX_COUNT, MAX_IDLE, Serving};
+use snap_order::{Level, MAX_ADDRESSES, MAX_CLIENTS, MAX_COUNT, MAX_IDLE, ServeOptions};
 use std::alloc::{AllocError, Global};
 
 /// Parses the arguments of a server with files, which are in order of segment.
-pub(crate) fn serving<'a>(alloc: Global, matches: &ArgMatches<'a>) -> Result<Serving<'a>, WordFault>
+pub(crate) fn serving<'a>(
+    alloc: Global,
+    matches: &ArgMatches<'a>,
+) -> Result<ServeOptions<'a>, WordFault>
     ensures limits { IfOk result IsServable }
     ensures files { IfOk result (λ s. map (λ f. f.now) s.files.items
         ≡ all_values (found_of matches.now) (codes "files")) }
@@ -43,7 +46,7 @@ pub(crate) fn serving<'a>(alloc: Global, matches: &ArgMatches<'a>) -> Result<Ser
 pub(crate) fn folder_serving<'a>(
     alloc: Global,
     matches: &ArgMatches<'a>,
-) -> Result<Serving<'a>, WordFault>
+) -> Result<ServeOptions<'a>, WordFault>
     ensures limits { IfOk result KeepsLimits }
     ensures none { IfOk result (λ s. length s.files.items ≡ 0) }
     ensures unnamed { IfOk result (λ s. all_values (found_of matches.now) (codes "files") ≡ []) }
@@ -66,7 +69,7 @@ fn service_of<'a>(
     alloc: Global,
     matches: &ArgMatches<'a>,
     files: Vec<&'a str>,
-) -> Result<Serving<'a>, WordFault>
+) -> Result<ServeOptions<'a>, WordFault>
     ensures limits { IfOk result KeepsLimits }
     ensures files { IfOk result (λ s. s.files.items ≡ files.entry.items) }
     ensures service { IfOk result (IsServiceOf (first_value (found_of matches.now))
@@ -82,7 +85,7 @@ fn service_of<'a>(
     let idle = limit_of(matches, "idle", MAX_IDLE, WordFault::Idle)?;
     let log = level_of(matches)?;
     let http = matches.get_str("http");
-    Ok(Serving {
+    Ok(ServeOptions {
         addresses,
         socket_mode,
         files,

@@ -13,14 +13,14 @@ use crate::WordFault;
 use crate::call::is_given;
 use crate::numbers::limit_of;
 use clap::ArgMatches;
-use snap_order::{MAX_COUNT, MAX_EVERY, Watching};
+use snap_order::{MAX_COUNT, MAX_EVERY, WatchOptions};
 use std::alloc::Global;
 
 /// Parses the arguments of `watch`.
 pub(crate) fn watching<'a>(
     alloc: Global,
     matches: &ArgMatches<'a>,
-) -> Result<Watching<'a>, WordFault>
+) -> Result<WatchOptions<'a>, WordFault>
     ensures limits { IfOk result IsWatchable }
     ensures address { IfOk result
         (λ w. Some w.address.now ≡ first_value (found_of matches.now) (codes "address")) }
@@ -39,7 +39,7 @@ pub(crate) fn watching<'a>(
     let segments = segments_of(alloc, matches.get_strs("segments").unwrap_or(&[]))?;
     let every = limit_of(matches, "every", MAX_EVERY, WordFault::Every)?;
     let is_json = is_given(matches, "json");
-    Ok(Watching {
+    Ok(WatchOptions {
         address,
         segments,
         every,

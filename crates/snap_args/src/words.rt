@@ -21,7 +21,7 @@ use crate::serve::{folder_serving, serving};
 use crate::watch::watching;
 use clap::ArgMatches;
 use clap::error::ErrorKind;
-use snap_order::{Examination, FileOrder, Founding, Migration, Order, SLOT_COUNT};
+use snap_order::{DoctorOptions, FileOrder, InitOptions, MigrateOptions, Order, SLOT_COUNT};
 use std::alloc::Global;
 use std::convert::AsStr;
 
@@ -178,7 +178,7 @@ pub(crate) fn is(command: &str, name: &'static str) -> bool
 }
 
 /// Parses the arguments of `init`.
-fn founding<'a>(matches: &ArgMatches<'a>) -> Result<Founding<'a>, WordFault>
+fn founding<'a>(matches: &ArgMatches<'a>) -> Result<InitOptions<'a>, WordFault>
     ensures count { IfOk result (λ f. IsOneTo MAX_COUNT f.count) }
     ensures folder { IfOk result
         (λ f. Some f.folder.now ≡ first_value (found_of matches.now) (codes "folder")) }
@@ -193,7 +193,7 @@ fn founding<'a>(matches: &ArgMatches<'a>) -> Result<Founding<'a>, WordFault>
     };
     let count = count_of(matches)?;
     let is_missing_empty = is_given(matches, "missing-empty");
-    Ok(Founding {
+    Ok(InitOptions {
         folder,
         count,
         is_missing_empty,
@@ -201,7 +201,7 @@ fn founding<'a>(matches: &ArgMatches<'a>) -> Result<Founding<'a>, WordFault>
 }
 
 /// Parses the arguments of `doctor`.
-fn examination<'a>(matches: &ArgMatches<'a>) -> Result<Examination<'a>, WordFault>
+fn examination<'a>(matches: &ArgMatches<'a>) -> Result<DoctorOptions<'a>, WordFault>
     ensures folder { IfOk result
         (λ e. Some e.folder.now ≡ first_value (found_of matches.now) (codes "folder")) }
     ensures measured { IfOk result (λ e. IsTrue e.is_measured
@@ -212,14 +212,14 @@ fn examination<'a>(matches: &ArgMatches<'a>) -> Result<Examination<'a>, WordFaul
         return Err(WordFault::Missing { what: "folder" });
     };
     let is_measured = is_given(matches, "measure");
-    Ok(Examination {
+    Ok(DoctorOptions {
         folder,
         is_measured,
     })
 }
 
 /// Parses the arguments of `migrate`.
-fn migration<'a>(matches: &ArgMatches<'a>) -> Result<Migration<'a>, WordFault>
+fn migration<'a>(matches: &ArgMatches<'a>) -> Result<MigrateOptions<'a>, WordFault>
     ensures place { IfOk result (λ m. IsPlace m.index m.count) }
     ensures old { IfOk result
         (λ m. Some m.old.now ≡ first_value (found_of matches.now) (codes "old")) }
@@ -238,7 +238,7 @@ fn migration<'a>(matches: &ArgMatches<'a>) -> Result<Migration<'a>, WordFault>
         return Err(WordFault::Missing { what: "new" });
     };
     let (index, count) = place(matches)?;
-    Ok(Migration {
+    Ok(MigrateOptions {
         old,
         new,
         index,

@@ -1,5 +1,6 @@
 -- The answers of a board.
-use Rattle.std.specs.Prelude.{◌≡◌, ◌⊎◌, ◌||◌, ℕ, List, Option, Some, None, Bool, MatchBool, bytes_eq, codes, option_and_then, if◌then◌else◌}
+use Rattle.std.specs.Prelude.{◌≡◌, ◌⊎◌, ◌||◌, ℕ, List, Option, Some, None, Bool, MatchBool, bytes_eq, codes}
+use Rattle.std.specs.Prelude.{option_and_then, if◌then◌else◌}
 use Rattle.std.specs.List.{list_all, list_any}
 use Rattle.http.specs.declared.request.Request as http
 use Rattle.http.specs.Request.{head_of}
@@ -40,8 +41,8 @@ abbrev pub ShowsValues : Page → List SegmentValue → Response → Type 0
 ShowsValues pages.Scan values r = HasContent 200 (list_text (each_from value_tokens 0 values)) r
 ShowsValues page values r = ⊥
 
--- The page shows these statuses. The status is 503 for the health if a segment is fenced, and for
--- the readiness if each is. The texts of the metrics have no clause.
+-- The page shows these statuses. The status is 503 for the health if a segment is fenced, and for the readiness if all
+-- are. The texts of the metrics have no clause.
 abbrev pub ShowsStatuses : Page → List SegmentStatus → Response → Type 0
 ShowsStatuses pages.Metrics statuses r = r.status ≡ 200
 ShowsStatuses pages.Health statuses r =
@@ -86,7 +87,8 @@ abbrev pub named : http.Request (List ℕ) → Option Page
 named request = page_of (uri_path (head_of request).uri)
 
 -- the answer to a request
-abbrev pub Answers : {S : Type 0} → (S → Request → Reply → S → Type 0) → S → http.Request (List ℕ) → Response → S → Type 0
+abbrev pub Answers : {S : Type 0} → (S → Request → Reply → S → Type 0) → S → http.Request (List ℕ) → Response → S
+    → Type 0
 Answers gives old request r new = MatchBool (is_read (head_of request).method)
     (AnswersPath gives (named request) old r new)
     ((new ≡ old) × ((r.status ≡ 405) ⊎ (r.status ≡ 503)))

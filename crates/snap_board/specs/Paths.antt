@@ -1,7 +1,8 @@
 -- The page at each path.
 use Rattle.std.specs.Prelude.{ℕ, List, Option, Some, None, codes, bytes_eq, if◌then◌else◌}
 use Rattle.snap_board.specs.declared.page.Page.{Page}
-use Rattle.snap_board.specs.declared.page.Page.TheVariants.{Home, Style, Script, Metrics, Health, Live, Ready, Scan, Status, Stats, History}
+use Rattle.snap_board.specs.declared.page.Page.TheVariants.{Home, Style, Script, Metrics, Health, Live, Ready, Scan}
+use Rattle.snap_board.specs.declared.page.Page.TheVariants.{Status, Stats, History}
 
 abbrev pub page_of : List ℕ → Option Page
 page_of path =

@@ -2,7 +2,7 @@
 
 use std::fmt;
 
-/// The unit of a number: one, or a part of a second.
+/// The unit of a number: one, or a fraction of a second.
 #[derive(Clone, Copy)]
 pub(crate) enum Unit {
     Whole,
@@ -15,7 +15,7 @@ pub(crate) enum Unit {
 #[derive(Clone, Copy)]
 pub(crate) struct Amount(pub u64, pub Unit);
 
-/// Prints it in wholes or in seconds, as a decimal fraction such as `0.000016`.
+/// Prints the number in ones or in seconds, as a decimal fraction such as `0.000016`.
 impl fmt::Display for Amount {
     fn fmt<W: fmt::Write>(&self, f: &mut fmt::Formatter<W>) -> fmt::Result {
         let Amount(count, unit) = *self;

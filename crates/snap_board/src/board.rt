@@ -1,4 +1,4 @@
-//! The answers to HTTP requests.
+//! The board: answers HTTP requests.
 ghost use Rattle.std.specs.Prelude.{◌≡◌, [], Some, OnOk, OnErr, if◌then◌else◌};
 ghost use Rattle.std.specs.List.{list_all, list_any};
 ghost use Rattle.snap_board.specs.Pages as pages;
@@ -6,7 +6,8 @@ ghost use Rattle.snap_frame.specs.declared.request.Request.TheVariants as reques
 ghost use Rattle.snap_json.specs.Each.{each_from};
 ghost use Rattle.snap_json.specs.Documents.{health_text, list_text, status_tokens};
 
-use crate::facts::{Facts, millis_of};
+use crate::fact_source::FactSource;
+use crate::facts::{ServerFacts, millis_of};
 use crate::figures::figures_document;
 use crate::home::HOME;
 use crate::metrics::metrics_text;
@@ -15,14 +16,13 @@ use crate::process::process_text;
 use crate::reply::{Kind, fill, fill_with, give_up};
 use crate::script::SCRIPT;
 use crate::style::STYLE;
-use crate::surroundings::Surroundings;
 use bytes::Bytes;
 use http::{HeaderName, HeaderValue, Request, StatusCode, header};
 use http_server::Response;
 use httpdate::HttpDate;
-use snap_figures::Reading;
 use snap_frame::{Reply, SegmentStatus};
 use snap_json::{health_document, scan_document, status_document};
+use snap_metrics::MetricsSnapshot;
 use snap_session::Service;
 use std::alloc::{AllocError, Global};
 
@@ -39,25 +39,28 @@ const WELL: &[u8] = b"ok\n";
 /// The content of the answer if no segment takes an update.
 const ALL_FENCED: &[u8] = b"each segment is fenced\n";
 
-/// The content of the answer if the service gave none.
+/// The content of the answer if the service gave no reply.
 const NO_ANSWER: &[u8] = b"no answer\n";
 
-/// The page's content security policy: it may load its own style and script, and connect to its own server.
+/// The page's content security policy: it may load its own style and script, and connect to its own
+/// server.
 const POLICY: &str =
-    "default-src 'none'; style-src 'self'; script-src 'self'; connect-src 'self'; img-src data:; base-uri 'none'; form-action 'none'; frame-ancestors 'none'";
+    "default-src 'none'; style-src 'self'; script-src 'self'; connect-src 'self'; img-src data:; base-uri 'none'; \
+        form-action 'none'; frame-ancestors 'none'";
 
-/// Answers HTTP requests about a server. It asks the service for scans and statuses alone, under
-/// the key 0, and at most once per request. If memory for an answer runs out, the answer is 503
-/// without content, which takes no memory.
+/// Answers HTTP requests about a server.
+///
+/// It asks the service for scans and statuses alone, with the key 0, and at most once per request.
+/// If memory for an answer runs out, the answer is 503 without content, which allocates nothing.
 #[derive(Drop)]
-pub struct Board<S: Service + Drop, X: Surroundings + Drop> {
+pub struct Board<S: Service + Drop, X: FactSource + Drop> {
     pub alloc: Global,
     pub service: S,
     pub surroundings: X,
 }
 
-impl<S: Service + Drop, X: Surroundings + Drop> Board<S, X> {
-    /// A board of this service and these surroundings.
+impl<S: Service + Drop, X: FactSource + Drop> Board<S, X> {
+    /// A board of this service, and of the facts from `surroundings`.
     pub fn new(alloc: Global, service: S, surroundings: X) -> Board<S, X>
         ensures service { result.service ≡ service }
         ensures surroundings { result.surroundings ≡ surroundings }
@@ -76,7 +79,8 @@ impl<S: Service + Drop, X: Surroundings + Drop> Board<S, X> {
         response: &mut Response,
     ) -> Result<(), AllocError>
         requires { response.old.body.items ≡ [] }
-        ensures answers { OnOk result (pages.Answers S.gives self.old.service request.now response.new self.new.service) }
+        ensures answers { OnOk result
+            (pages.Answers S.gives self.old.service request.now response.new self.new.service) }
         ensures asks { OnErr result (pages.MayAskFor S.gives self.old.service request.now self.new.service) }
         ensures same { self.new.surroundings ≡ self.old.surroundings }
     {
@@ -142,7 +146,7 @@ impl<S: Service + Drop, X: Surroundings + Drop> Board<S, X> {
         }
     }
 
-    /// Answers with a page, by these statuses.
+    /// Answers with a page, from these statuses.
     fn tell(
         &self,
         page: Page,
@@ -215,7 +219,7 @@ impl<S: Service + Drop, X: Surroundings + Drop> Board<S, X> {
         }
     }
 
-    /// The date, as HTTP writes it.
+    /// The date, in the format of HTTP.
     fn date(&self) -> Option<HeaderValue> {
         let seconds = self.surroundings.now_millis()? / 1_000;
         let date = HttpDate::from_unix_secs(seconds).ok()?;
@@ -224,12 +228,12 @@ impl<S: Service + Drop, X: Surroundings + Drop> Board<S, X> {
 }
 
 /// All facts about a server, with these statuses.
-fn facts_of<'a, X: Surroundings>(
-    reading: &'a Reading,
+fn facts_of<'a, X: FactSource>(
+    reading: &'a MetricsSnapshot,
     surroundings: &'a X,
     statuses: &'a [SegmentStatus],
-) -> Facts<'a> {
-    Facts {
+) -> ServerFacts<'a> {
+    ServerFacts {
         reading,
         statuses,
         version: surroundings.version(),
@@ -254,7 +258,7 @@ fn tell_statuses(
     fill_with(response, StatusCode::OK, Kind::Json, text)
 }
 
-/// Answers with the segments' health: the status is 503 if one is fenced.
+/// Answers with the segments' health: the status is 503 if a segment is fenced.
 fn tell_health(
     alloc: Global,
     statuses: &[SegmentStatus],
@@ -279,14 +283,14 @@ fn health_status(statuses: &[SegmentStatus]) -> StatusCode
     }
 }
 
-/// Whether one of the segments is fenced.
+/// Whether at least one of the segments is fenced.
 fn is_any_fenced(statuses: &[SegmentStatus]) -> bool
     ensures { result ≡ list_any (λ s. s.is_fenced) statuses.now }
 {
     statuses.iter().any(|status| status.is_fenced)
 }
 
-/// Answers whether any segment takes updates: the status is 503 if each is fenced.
+/// Answers whether any segment takes updates: the status is 503 if all are fenced.
 fn tell_readiness(statuses: &[SegmentStatus], response: &mut Response) -> Result<(), AllocError>
     requires { response.old.body.items ≡ [] }
     ensures { OnOk result (response.new.status
@@ -305,7 +309,7 @@ fn tell_readiness(statuses: &[SegmentStatus], response: &mut Response) -> Result
     }
 }
 
-/// Whether each of the segments is fenced.
+/// Whether all segments are fenced.
 fn are_all_fenced(statuses: &[SegmentStatus]) -> bool
     ensures { result ≡ list_all (λ s. s.is_fenced) statuses.now }
 {
@@ -336,7 +340,7 @@ fn show_file(response: &mut Response, kind: Kind, content: &'static [u8]) -> Res
     fill(response, StatusCode::OK, kind, Bytes::from_static(content))
 }
 
-/// Answers with the service's refusal, or that it gave no answer.
+/// Answers with the service's refusal, or that it gave no reply.
 fn refuse(alloc: Global, response: &mut Response, reply: &Option<Reply>) -> Result<(), AllocError>
     requires { response.old.body.items ≡ [] }
     ensures { OnOk result (response.new.status ≡ 503) }
@@ -365,7 +369,7 @@ fn refuse_method(response: &mut Response) -> Result<(), AllocError>
     response.add_header(header::ALLOW, HeaderValue::from_static("GET, HEAD"))
 }
 
-/// Answers with the paths that there are.
+/// Refuses an unknown path, with a list of the paths.
 fn refuse_path(response: &mut Response) -> Result<(), AllocError>
     requires { response.old.body.items ≡ [] }
     ensures { OnOk result (response.new.status ≡ 404) }
@@ -378,11 +382,11 @@ fn refuse_path(response: &mut Response) -> Result<(), AllocError>
     )
 }
 
-impl<S: Service + Drop, X: Surroundings + Drop> http_server::Service for Board<S, X> {
+impl<S: Service + Drop, X: FactSource + Drop> http_server::Service for Board<S, X> {
     ghost use Rattle.std.specs.Prelude.{◌≡◌};
     ghost use Rattle.snap_board.specs.Pages.{Answers};
 
-    /// A query is ignored, and so is a body.
+    /// The query and the body of a request are ignored.
     ghost answers = { λ old request response new.
         Answers S.gives old.service request response new.service × (new.surroundings ≡ old.surroundings) };
 

@@ -1,20 +1,23 @@
-//! The metrics as a JSON document, for programs and for the page. No clause states this text:
-//! tests_server and tests/test_http.py compare it to the byte.
+//! The metrics as a JSON document, for programs and for the page.
+//!
+//! No clause states this text: tests_server and tests/test_http.py compare it byte by byte.
 
 use crate::document::{
     begin, begin_list, begin_object, end, put_counts, put_number, put_object, put_text,
 };
-use crate::facts::{Facts, name_of};
+use crate::facts::{ServerFacts, name_of};
+use crate::latency::{all, bound};
 use crate::metrics::{kinds, refusal_at};
-use crate::times::{all, bound};
 use json::Writer;
-use snap_figures::{BOUNDS, Distribution, SegmentReading, Tally};
+use snap_metrics::{BOUNDS, HistogramSnapshot, RequestCounts, SegmentSnapshot};
 use std::alloc::{AllocError, Global};
 
-/// All metrics and facts as one JSON document on one line. What isn't known is `null`. A histogram
-/// has for each bound the number of times up to it and above the bound before, and at last the
-/// number above all bounds.
-pub(crate) fn figures_document(alloc: Global, facts: &Facts) -> Result<Vec<u8>, AllocError> {
+/// Makes one JSON document, on one line, of all metrics and facts. Facts that aren't known are
+/// `null`.
+///
+/// A histogram has, for each bound, the number of times up to it and above the bound before; last,
+/// the number of times above all bounds.
+pub(crate) fn figures_document(alloc: Global, facts: &ServerFacts) -> Result<Vec<u8>, AllocError> {
     let mut writer = begin(alloc)?;
     put_server(&mut writer, facts)?;
     put_tally(&mut writer, &facts.reading.requests)?;
@@ -24,7 +27,7 @@ pub(crate) fn figures_document(alloc: Global, facts: &Facts) -> Result<Vec<u8>, 
 }
 
 /// Writes the facts about the server.
-fn put_server(writer: &mut Writer, facts: &Facts) -> Result<(), AllocError> {
+fn put_server(writer: &mut Writer, facts: &ServerFacts) -> Result<(), AllocError> {
     put_text(writer, "version", Some(facts.version))?;
     put_number(writer, "uptime_milliseconds", facts.uptime)?;
     put_number(writer, "now_milliseconds", facts.time)?;
@@ -47,7 +50,7 @@ fn put_addresses(writer: &mut Writer, addresses: &[String]) -> Result<(), AllocE
 }
 
 /// Writes the counts of requests.
-fn put_tally(writer: &mut Writer, tally: &Tally) -> Result<(), AllocError> {
+fn put_tally(writer: &mut Writer, tally: &RequestCounts) -> Result<(), AllocError> {
     put_object(writer, "requests", &kinds(tally))?;
     put_counts(
         writer,
@@ -88,7 +91,7 @@ fn put_bounds(writer: &mut Writer) -> Result<(), AllocError> {
     writer.end_array()
 }
 
-fn put_segments(writer: &mut Writer, facts: &Facts) -> Result<(), AllocError> {
+fn put_segments(writer: &mut Writer, facts: &ServerFacts) -> Result<(), AllocError> {
     begin_list(writer, "segments")?;
     for (index, segment) in facts.reading.segments.iter().enumerate() {
         put_segment(writer, facts, index, segment)?;
@@ -98,9 +101,9 @@ fn put_segments(writer: &mut Writer, facts: &Facts) -> Result<(), AllocError> {
 
 fn put_segment(
     writer: &mut Writer,
-    facts: &Facts,
+    facts: &ServerFacts,
     index: usize,
-    segment: &SegmentReading,
+    segment: &SegmentSnapshot,
 ) -> Result<(), AllocError> {
     writer.begin_object()?;
     put_standing(writer, facts, index)?;
@@ -117,7 +120,7 @@ fn put_segment(
 }
 
 /// Writes a segment's index, name and status.
-fn put_standing(writer: &mut Writer, facts: &Facts, index: usize) -> Result<(), AllocError> {
+fn put_standing(writer: &mut Writer, facts: &ServerFacts, index: usize) -> Result<(), AllocError> {
     let file = facts.files.get(index).copied();
     let name = match file {
         Some(file) => name_of(file),
@@ -134,7 +137,7 @@ fn put_standing(writer: &mut Writer, facts: &Facts, index: usize) -> Result<(), 
     writer.boolean(status.is_fenced)
 }
 
-fn put_all_times(writer: &mut Writer, segment: &SegmentReading) -> Result<(), AllocError> {
+fn put_all_times(writer: &mut Writer, segment: &SegmentSnapshot) -> Result<(), AllocError> {
     for (name, times) in [
         ("store", &segment.stores),
         ("value_wait", &segment.first_waits),
@@ -146,7 +149,7 @@ fn put_all_times(writer: &mut Writer, segment: &SegmentReading) -> Result<(), Al
 }
 
 /// Writes a histogram.
-fn put_times(writer: &mut Writer, name: &str, times: &Distribution) -> Result<(), AllocError> {
+fn put_times(writer: &mut Writer, name: &str, times: &HistogramSnapshot) -> Result<(), AllocError> {
     begin_object(writer, name)?;
     begin_list(writer, "counts")?;
     for count in &times.counts {

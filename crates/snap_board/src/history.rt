@@ -3,22 +3,23 @@
 use crate::document::{begin, begin_list, end, put_counts};
 use crate::facts::millis_of;
 use json::Writer;
-use snap_figures::{BOUNDS, Counter, Reading, SegmentReading};
+use snap_metrics::{BOUNDS, Counter, MetricsSnapshot, SegmentSnapshot};
 use std::alloc::{AllocError, Global};
 use std::array;
 use std::time::Duration;
 
-/// How many samples are kept: one for each second of three minutes, and the one before them.
+/// The number of samples that are kept: one for each second of three minutes, and the one before
+/// them.
 const SAMPLES: u64 = 181;
 
 /// The counts from the server's start up to one moment.
 #[derive(Drop)]
 struct Sample {
-    /// In milliseconds.
+    /// The time since the server's start, in milliseconds.
     uptime: Counter,
     scans: Counter,
     /// The histogram of the stores of all segments, as in a
-    /// [`Distribution`](snap_figures::Distribution).
+    /// [`HistogramSnapshot`](snap_metrics::HistogramSnapshot).
     stores: [Counter; BOUNDS + 1],
 }
 
@@ -31,7 +32,7 @@ impl Sample {
         }
     }
 
-    fn set(&self, reading: &Reading, uptime: Duration) {
+    fn set(&self, reading: &MetricsSnapshot, uptime: Duration) {
         let requests = &reading.requests;
         self.uptime.set(millis_of(uptime));
         self.scans
@@ -59,8 +60,8 @@ impl Sample {
     }
 }
 
-/// The stores of all segments at this place of the histogram.
-fn stored_at(segments: &[SegmentReading], place: usize) -> u64 {
+/// The number of stores of all segments in this bucket of the histogram.
+fn stored_at(segments: &[SegmentSnapshot], place: usize) -> u64 {
     let mut sum: u64 = 0;
     for segment in segments {
         if let Some(count) = segment.stores.counts.get(place) {
@@ -75,12 +76,12 @@ fn stored_at(segments: &[SegmentReading], place: usize) -> u64 {
 #[derive(Drop)]
 pub struct History {
     samples: Vec<Sample>,
-    /// How many samples were taken since the start.
+    /// The number of samples that were taken since the start.
     taken: Counter,
 }
 
 impl History {
-    /// An empty history. If memory for the samples runs out none is ever kept.
+    /// An empty history. If memory for the samples runs out, no sample is ever kept.
     pub fn new(alloc: Global) -> History {
         History {
             samples: match empty_samples(alloc) {
@@ -93,7 +94,7 @@ impl History {
 
     /// Takes a sample at `uptime`, the time since the server's start. It replaces the oldest one if
     /// there are 181.
-    pub fn take(&self, reading: &Reading, uptime: Duration) {
+    pub fn take(&self, reading: &MetricsSnapshot, uptime: Duration) {
         let taken = self.taken.get();
         if let Some(sample) = self.samples.get((taken % SAMPLES) as usize) {
             sample.set(reading, uptime);
@@ -101,7 +102,7 @@ impl History {
         }
     }
 
-    /// The samples as a JSON document on one line, the oldest first.
+    /// Makes a JSON document of the samples, on one line, the oldest first.
     pub fn document(&self, alloc: Global) -> Result<Vec<u8>, AllocError> {
         let mut writer = begin(alloc)?;
         begin_list(&mut writer, "samples")?;

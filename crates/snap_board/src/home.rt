@@ -19,7 +19,9 @@ pub(crate) const HOME: &[u8] = br##"<!doctype html>
 <p id="state" data-state="waits">waiting for the server</p>
 </header>
 <p id="news" role="status" aria-live="polite"></p>
-<noscript><p class="notice">This page needs its script. Without one there is <a href="/scan">/scan</a>, <a href="/stats">/stats</a>, <a href="/history">/history</a>, <a href="/status">/status</a>, <a href="/health">/health</a> and <a href="/metrics">/metrics</a>.</p></noscript>
+<noscript><p class="notice">This page needs its script. Without one there is
+<a href="/scan">/scan</a>, <a href="/stats">/stats</a>, <a href="/history">/history</a>, <a href="/status">/status</a>,
+<a href="/health">/health</a> and <a href="/metrics">/metrics</a>.</p></noscript>
 <main>
 <section aria-labelledby="now">
 <h2 id="now">Now</h2>
@@ -42,10 +44,13 @@ pub(crate) const HOME: &[u8] = br##"<!doctype html>
 </tr></thead>
 <tbody role="rowgroup" id="rows"></tbody>
 </table>
-<p id="rule" class="hint">A segment stands still when its number hasn't moved for ten times its usual rest and for five seconds at least, or, where this page has seen fewer than three of its rests, for a minute. One that doesn't move and got no update since the server's start is quiet, whether the page saw it move before that or not. Age is the time since the last update that was stored.</p>
+<p id="rule" class="hint">A segment stands still when its number hasn't moved for ten times its usual rest and for
+five seconds at least, or, where this page has seen fewer than three of its rests, for a minute.
+One that doesn't move and got no update since the server's start is quiet, whether the page saw it move before that
+or not. Age is the time since the last update that was stored.</p>
 </section>
 <section aria-labelledby="times">
-<h2 id="times">Times of stores since the start</h2>
+<h2 id="times">Latency of stores since the start</h2>
 <div class="wide" tabindex="0" role="region" aria-labelledby="times">
 <table role="table" class="plain">
 <thead role="rowgroup"><tr role="row">
@@ -67,7 +72,9 @@ pub(crate) const HOME: &[u8] = br##"<!doctype html>
 <p id="refusals">none</p>
 </section>
 </main>
-<footer><p>Also here: <a href="/scan">/scan</a> <a href="/stats">/stats</a> <a href="/history">/history</a> <a href="/status">/status</a> <a href="/health">/health</a> <a href="/livez">/livez</a> <a href="/readyz">/readyz</a> <a href="/metrics">/metrics</a></p></footer>
+<footer><p>Also here: <a href="/scan">/scan</a> <a href="/stats">/stats</a>
+<a href="/history">/history</a> <a href="/status">/status</a> <a href="/health">/health</a>
+<a href="/livez">/livez</a> <a href="/readyz">/readyz</a> <a href="/metrics">/metrics</a></p></footer>
 </body>
 </html>
 "##;

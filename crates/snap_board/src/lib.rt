@@ -1,18 +1,21 @@
-//! Answers HTTP requests about a server, for browsers and monitoring; each answer is a value.
+//! Answers HTTP requests about a server, for browsers and monitoring; each answer is a value. Begin
+//! with [`Board`] (board.rt), an [`http_server::Service`].
 //!
-//! [`Board`] is an [`http_server::Service`]. It asks a [`snap_session::Service`] for scans and
-//! statuses, which change no segment, and its [`Surroundings`] for the server's metrics, their history
-//! of three minutes, and the system's figures. It has no socket and doesn't block: `snap_http` moves
-//! the bytes. docs/FORMATS.md, "HTTP", has each path with its status and its content.
+//! A board asks a [`snap_session::Service`] for scans and statuses, which change no segment, and
+//! its [`FactSource`] for the server's metrics, their history of three minutes, and the process's
+//! resources. It has no socket and doesn't block: `snap_http` moves the bytes. page.rt has the
+//! paths; docs/FORMATS.md, "HTTP", has the status and the content of each.
 #![tactic(auto)]
 
 mod amount;
 mod board;
 mod document;
+mod fact_source;
 mod facts;
 mod figures;
 mod history;
 mod home;
+mod latency;
 mod metric;
 mod metrics;
 mod page;
@@ -21,11 +24,9 @@ mod reply;
 mod sample;
 mod script;
 mod style;
-mod surroundings;
-mod times;
 
 pub use board::Board;
+pub use fact_source::FactSource;
 pub use history::History;
 pub use page::Page;
 pub use process::Usage;
-pub use surroundings::Surroundings;

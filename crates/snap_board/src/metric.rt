@@ -1,4 +1,4 @@
-//! The metrics that Prometheus gets.
+//! The metrics for Prometheus: their names and texts.
 
 /// A metric: its name, its kind and a line of help.
 #[derive(Clone, Copy)]

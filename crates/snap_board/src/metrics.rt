@@ -1,20 +1,22 @@
-//! The metrics as text for Prometheus. No clause states this text: tests_server and
-//! tests/test_http.py compare it to the byte.
+//! The metrics as text for Prometheus.
+//!
+//! No clause states this text: tests_server and tests/test_http.py compare it byte by byte.
 
 use crate::amount::{Amount, Unit};
-use crate::facts::Facts;
+use crate::facts::ServerFacts;
+use crate::latency::{Latency, all, put_times};
 use crate::metric::{
     AGE, CONNECTIONS, FENCED, INFO, LOOKS, MEMORY, Metric, NUMBER, OPEN, RECEIVED, REFUSED,
     REPEATS, REQUESTS, SENT, UPDATES, UPTIME,
 };
 use crate::sample::{put_head, put_singles, put_version};
-use crate::times::{Times, all, put_times};
 use snap_disk::Refusal;
-use snap_figures::Tally;
+use snap_metrics::RequestCounts;
 use std::alloc::{AllocError, Global};
 
-/// All metrics, in version 0.0.4 of the text format of Prometheus. What isn't known has no line.
-pub(crate) fn metrics_text(alloc: Global, facts: &Facts) -> Result<String, AllocError> {
+/// Makes a text of all metrics, in version 0.0.4 of the text format of Prometheus. Facts that
+/// aren't known have no line.
+pub(crate) fn metrics_text(alloc: Global, facts: &ServerFacts) -> Result<String, AllocError> {
     let mut out = String::new(alloc);
     put_server(&mut out, facts)?;
     put_tally(&mut out, &facts.reading.requests)?;
@@ -23,7 +25,7 @@ pub(crate) fn metrics_text(alloc: Global, facts: &Facts) -> Result<String, Alloc
 }
 
 /// Appends the facts about the server.
-fn put_server(out: &mut String, facts: &Facts) -> Result<(), AllocError> {
+fn put_server(out: &mut String, facts: &ServerFacts) -> Result<(), AllocError> {
     put_version(out, &INFO, facts.version)?;
     put_singles(
         out,
@@ -37,7 +39,7 @@ fn put_server(out: &mut String, facts: &Facts) -> Result<(), AllocError> {
 }
 
 /// Appends the counts of requests.
-fn put_tally(out: &mut String, tally: &Tally) -> Result<(), AllocError> {
+fn put_tally(out: &mut String, tally: &RequestCounts) -> Result<(), AllocError> {
     put_requests(out, tally)?;
     put_refusals(out, &tally.refusals)?;
     put_singles(
@@ -50,8 +52,8 @@ fn put_tally(out: &mut String, tally: &Tally) -> Result<(), AllocError> {
     )
 }
 
-/// The count of requests of each kind.
-pub(crate) fn kinds(tally: &Tally) -> [(&'static str, u64); 4] {
+/// The number of requests of each kind.
+pub(crate) fn kinds(tally: &RequestCounts) -> [(&'static str, u64); 4] {
     [
         ("update", tally.updates),
         ("scan", tally.scans),
@@ -60,7 +62,7 @@ pub(crate) fn kinds(tally: &Tally) -> [(&'static str, u64); 4] {
     ]
 }
 
-fn put_requests(out: &mut String, tally: &Tally) -> Result<(), AllocError> {
+fn put_requests(out: &mut String, tally: &RequestCounts) -> Result<(), AllocError> {
     put_head(out, &REQUESTS)?;
     for (kind, count) in kinds(tally) {
         writeln!(out, "{}{{kind=\"{kind}\"}} {count}", REQUESTS.name)?;
@@ -85,18 +87,18 @@ fn put_refusals(out: &mut String, counts: &[u64]) -> Result<(), AllocError> {
     Ok(())
 }
 
-/// The refusal that is counted at this place.
+/// The refusal that is counted at this index.
 pub(crate) fn refusal_at(place: usize) -> Option<Refusal> {
     let code = u8::try_from(place).ok()?.checked_add(1)?;
     Refusal::of_code(code)
 }
 
 /// Appends the metrics and the status of each segment.
-fn put_segments(out: &mut String, facts: &Facts) -> Result<(), AllocError> {
+fn put_segments(out: &mut String, facts: &ServerFacts) -> Result<(), AllocError> {
     for number in [Number::Updates, Number::Repeats] {
         put_each(out, number, facts)?;
     }
-    for times in [Times::Stores, Times::ValueWaits, Times::GateWaits] {
+    for times in [Latency::Stores, Latency::ValueWaits, Latency::GateWaits] {
         put_times(out, times, &facts.reading.segments)?;
     }
     for number in [Number::Age, Number::Number, Number::Fenced] {
@@ -127,7 +129,7 @@ impl Number {
     }
 
     /// The number of one segment, if it is known.
-    fn of(self, facts: &Facts, segment: usize) -> Option<Amount> {
+    fn of(self, facts: &ServerFacts, segment: usize) -> Option<Amount> {
         let reading = facts.reading.segments.get(segment);
         let status = facts.statuses.get(segment);
         Some(match self {
@@ -140,8 +142,8 @@ impl Number {
     }
 }
 
-/// Appends a number of each segment.
-fn put_each(out: &mut String, number: Number, facts: &Facts) -> Result<(), AllocError> {
+/// Appends this number of each segment.
+fn put_each(out: &mut String, number: Number, facts: &ServerFacts) -> Result<(), AllocError> {
     let metric = number.metric();
     put_head(out, &metric)?;
     for segment in 0..facts.reading.segments.len().max(facts.statuses.len()) {

@@ -1,15 +1,15 @@
-//! The paths.
+//! The pages and their paths.
 ghost use Rattle.std.specs.Prelude.{◌≡◌};
 ghost use Rattle.snap_board.specs.Paths.{page_of};
 
-/// The page at a path.
+/// A page of the server, named by its path.
 #[derive(Clone, Copy, Debug, PartialEq, Eq)]
 pub enum Page {
     /// `/`: the page for people.
     Home,
-    /// `/board.css`: its style.
+    /// `/board.css`: the style of the page.
     Style,
-    /// `/board.js`: its script.
+    /// `/board.js`: the script of the page.
     Script,
     /// `/metrics`: the metrics, for Prometheus.
     Metrics,

@@ -1,8 +1,9 @@
-//! The metrics of the process and the segments' names, for Prometheus. No clause states this text:
-//! tests_server compares it to the byte.
+//! The metrics of the process and the segments' names, for Prometheus.
+//!
+//! No clause states this text: tests_server compares it byte by byte.
 
 use crate::amount::Unit;
-use crate::facts::{Facts, name_of};
+use crate::facts::{ServerFacts, name_of};
 use crate::metric::{
     ADDRESSES, BUILD, DESCRIPTORS, LOST_LINES, MOST_CLIENTS, MOST_DESCRIPTORS, NAMES, PROCESSORS,
     RESIDENT, STARTED,
@@ -15,24 +16,24 @@ use std::alloc::{AllocError, Global};
 pub struct Usage {
     /// The start of the process, in milliseconds since 1970.
     pub started: Option<u64>,
-    /// The processor time that it took, in nanoseconds.
+    /// The processor time that it has used, in nanoseconds.
     pub processors: Option<u64>,
     /// Its virtual memory, in bytes.
     pub addresses: Option<u64>,
-    /// How many descriptors are open.
+    /// The number of open descriptors.
     pub descriptors: Option<u64>,
-    /// How many descriptors may be open.
+    /// The limit of open descriptors.
     pub most_descriptors: Option<u64>,
-    /// How many connections of clients may be open.
+    /// The limit of clients' open connections.
     pub most_clients: u64,
-    /// How many lines of the log were lost.
+    /// The number of lines of the log that were lost.
     pub lost_lines: u64,
 }
 
-/// The metrics of the process, and the name of each segment.
+/// Makes a text of the metrics of the process and the name of each segment.
 pub(crate) fn process_text(
     alloc: Global,
-    facts: &Facts,
+    facts: &ServerFacts,
     usage: &Usage,
 ) -> Result<String, AllocError> {
     let mut out = String::new(alloc);

@@ -33,7 +33,8 @@ impl Kind {
     }
 }
 
-/// Fills a response with this content. The headers forbid browsers to cache it or to guess another kind.
+/// Fills a response with this content. The headers forbid browsers to cache it or to guess another
+/// kind.
 pub(crate) fn fill(
     response: &mut Response,
     status: StatusCode,
@@ -71,7 +72,7 @@ pub(crate) fn fill_with(
     fill(response, status, kind, content)
 }
 
-/// Makes the response an empty 503, since memory ran out. It takes no memory.
+/// Makes the response an empty 503, since memory ran out. It allocates nothing.
 pub(crate) fn give_up(response: &mut Response)
     ensures { HasContent 503 [] response.new }
 {

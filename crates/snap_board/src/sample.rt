@@ -1,4 +1,4 @@
-//! The lines of a metric.
+//! The lines of a metric, in the text format of Prometheus.
 
 use crate::amount::{Amount, Unit};
 use crate::metric::Metric;

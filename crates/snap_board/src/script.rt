@@ -1,8 +1,9 @@
 //! The script of the page.
 
-/// It polls `/scan` and `/stats` once a second while the page is visible, and `/history` whenever
-/// it begins to, and puts the results into the page: each value by `textContent` alone. Numbers
-/// lose no digit, as JavaScript's own would above 2^53.
+/// The script. It polls `/scan` and `/stats` once a second while the page is visible, and
+/// `/history` whenever the page becomes visible, and puts the results into the page: each value by
+/// `textContent` alone. Numbers keep all their digits, as JavaScript's own numbers above 2^53
+/// don't.
 pub(crate) const SCRIPT: &[u8] = br##""use strict";
 const REST = 1000, RETRY = 3000, PATIENCE = 5000;   // milliseconds between polls, after a failed one, and for one
 const POINTS = 180;                                 // of a plot: three minutes
@@ -43,7 +44,8 @@ const size = (bytes) => {
 
 // What a reader can't see, or what would turn the text around, is shown by its code.
 const HIDDEN = /[\u0000-\u001f\u007f-\u009f\u00ad\u061c\u200b-\u200f\u2028-\u202e\u2060-\u206f\ufeff]/g;
-const visible = (text) => text.replace(HIDDEN, (c) => c === "\n" ? "\u21b5\n" : "\\u{" + c.charCodeAt(0).toString(16) + "}");
+const visible = (text) =>
+  text.replace(HIDDEN, (c) => c === "\n" ? "\u21b5\n" : "\\u{" + c.charCodeAt(0).toString(16) + "}");
 const shown = (value) => {
   if ("text" in value) {
     const bytes = new TextEncoder().encode(value.text).length;
@@ -51,7 +53,8 @@ const shown = (value) => {
   }
   const raw = atob(value.base64);
   let hex = "";
-  for (let i = 0; i < raw.length; i += 1) hex += (i > 0 && i % 4 === 0 ? " " : "") + raw.charCodeAt(i).toString(16).padStart(2, "0");
+  for (let i = 0; i < raw.length; i += 1)
+    hex += (i > 0 && i % 4 === 0 ? " " : "") + raw.charCodeAt(i).toString(16).padStart(2, "0");
   return { text: hex, form: raw.length + " bytes, hex" };
 };
 
@@ -66,7 +69,8 @@ const quantile = (counts, bounds, part) => {
   }
   return null;
 };
-const within = (found, bounds) => found === null ? "\u2013" : found.ms === Infinity ? "> " + span(bounds[bounds.length - 1]) : span(found.ms);
+const within = (found, bounds) =>
+  found === null ? "\u2013" : found.ms === Infinity ? "> " + span(bounds[bounds.length - 1]) : span(found.ms);
 
 const tiles = new Map();
 const tile = (name, text) => {
@@ -100,20 +104,24 @@ class Plot {
     say(make("span", foot), "now");
   }
   clear() { this.points = this.points.map(() => []); }
-  add(values) { this.points.forEach((points, i) => { points.push(values[i]); if (points.length > POINTS) points.shift(); }); }
+  add(values) {
+    this.points.forEach((points, i) => { points.push(values[i]); if (points.length > POINTS) points.shift(); });
+  }
   draw(now, most) {
     const seen = this.points.flat().filter((x) => x !== null);
     const top = Math.max(...seen, 0) || 1;
     this.lines.forEach((line, i) => {
       const first = POINTS - this.points[i].length;
-      line.setAttribute("points", this.points[i].map((x, k) => x === null ? "" : (first + k) + "," + (98 - 94 * x / top).toFixed(1)).join(" "));
+      line.setAttribute("points", this.points[i].map((x, k) =>
+        x === null ? "" : (first + k) + "," + (98 - 94 * x / top).toFixed(1)).join(" "));
     });
     say(this.now, now);
     say(this.most, "top " + most(top));
     this.svg.setAttribute("aria-label", this.name + ": now " + now + ", at most " + most(top));
   }
 }
-const plots = [new Plot("Updates stored a second", 1), new Plot("Scans a second", 1), new Plot("A store: half within, and 99 % (dashed)", 2)];
+const plots = [new Plot("Updates stored a second", 1), new Plot("Scans a second", 1),
+  new Plot("A store: half within, and 99 % (dashed)", 2)];
 
 // One segment: its row, and what was seen of it.
 class Row {
@@ -130,7 +138,8 @@ class Row {
     this.cut = make("div", cell("value"), { class: "cut" });
     this.value = make("bdi", this.cut);
     this.form = make("small", this.cut);
-    this.button = make("button", this.cut, { type: "button", "aria-expanded": "false", "aria-label": "The whole value of segment " + index });
+    this.button = make("button", this.cut,
+      { type: "button", "aria-expanded": "false", "aria-label": "The whole value of segment " + index });
     say(this.button, "whole");
     this.button.addEventListener("click", () => {
       const opens = !this.cut.hasAttribute("data-open");
@@ -219,17 +228,23 @@ const state = (name, text) => {
   document.body.dataset.wrong = "";
 };
 // What an operator sees of a window that stands behind others.
-const title = (mark) => { const text = mark === "" ? "snapd" : mark + " \u2013 snapd"; if (document.title !== text) document.title = text; };
+const title = (mark) => {
+  const text = mark === "" ? "snapd" : mark + " \u2013 snapd";
+  if (document.title !== text) document.title = text;
+};
 
 // Only what changes is told: a screen reader says each once.
 let told = "";
 const tell = (text) => { if (text !== told) { told = text; say(byId("news"), text); } };
 const tellMarks = () => {
-  const listed = (mark, text) => rows.map((row, i) => row.state === mark ? text(row, i) : null).filter((it) => it !== null).join(", ");
+  const listed = (mark, text) =>
+    rows.map((row, i) => row.state === mark ? text(row, i) : null).filter((it) => it !== null).join(", ");
   const plain = (row, i) => i, named = (row, i) => i + (row.name.textContent && " (" + row.name.textContent + ")");
   const fenced = listed("fenced", named), still = listed("still", named);
-  title([fenced && "fenced " + listed("fenced", plain), still && "still " + listed("still", plain)].filter(Boolean).join(", "));
-  tell([fenced && "Fenced: segment " + fenced + ". It takes no update until a restart.", still && "Stands still: segment " + still + "."].filter(Boolean).join(" "));
+  title([fenced && "fenced " + listed("fenced", plain), still && "still " + listed("still", plain)]
+    .filter(Boolean).join(", "));
+  tell([fenced && "Fenced: segment " + fenced + ". It takes no update until a restart.",
+    still && "Stands still: segment " + still + "."].filter(Boolean).join(" "));
   document.body.dataset.wrong = fenced ? "fenced" : still ? "still" : "";
 };
 
@@ -294,17 +309,22 @@ const showRates = (stats, bounds, at) => {
 };
 
 const add = (updates, scans, counts, bounds) => {
-  const step = (part) => { const found = quantile(counts, bounds, part); return found === null ? null : found.place + 1; };
+  const step = (part) => {
+    const found = quantile(counts, bounds, part);
+    return found === null ? null : found.place + 1;
+  };
   plots[0].add([updates]);
   plots[1].add([scans]);
   plots[2].add([step(0.5), step(0.99)]);
 };
 
 const draw = (updates, scans, counts, bounds) => {
-  const bound = (x) => x - 1 < bounds.length ? span(bounds[Math.max(Math.round(x) - 1, 0)]) : "> " + span(bounds[bounds.length - 1]);
+  const bound = (x) =>
+    x - 1 < bounds.length ? span(bounds[Math.max(Math.round(x) - 1, 0)]) : "> " + span(bounds[bounds.length - 1]);
   plots[0].draw(updates, rounded);
   plots[1].draw(scans, rounded);
-  plots[2].draw(within(quantile(counts, bounds, 0.5), bounds) + ", " + within(quantile(counts, bounds, 0.99), bounds), bound);
+  plots[2].draw(
+    within(quantile(counts, bounds, 0.5), bounds) + ", " + within(quantile(counts, bounds, 0.99), bounds), bound);
 };
 
 class Refused extends Error {}
@@ -338,7 +358,8 @@ const ask = async () => {
       tell("The server is there and refuses: " + error.message);
     } else {
       state("gone", "the server has been gone since " + since.toLocaleTimeString());
-      tell("The server hasn't answered since " + since.toLocaleTimeString() + ". What stands here is from before; the page asks again every " + RETRY / 1000 + " seconds.");
+      tell("The server hasn't answered since " + since.toLocaleTimeString() + ". What stands here is from before; "
+        + "the page asks again every " + RETRY / 1000 + " seconds.");
     }
   } finally {
     clearTimeout(end);

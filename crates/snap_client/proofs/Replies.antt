@@ -7,7 +7,8 @@ use Rattle.snap_frame.specs.declared.reply.Reply.{Reply}
 use Rattle.snap_frame.specs.Messages.{payload, frame}
 use Rattle.snap_frame.specs.Stream.{Held}
 use Rattle.snap_client.specs.declared.fault.ClientFault.{ClientFault}
-use Rattle.snap_client.specs.declared.fault.ClientFault.TheVariants.{ConnectFailed, ReadFailed, WriteFailed, Ended, BadReply, NoMemory}
+use Rattle.snap_client.specs.declared.fault.ClientFault.TheVariants.{ConnectFailed, ReadFailed, WriteFailed, Ended}
+use Rattle.snap_client.specs.declared.fault.ClientFault.TheVariants.{BadReply, NoMemory}
 use Rattle.snap_client.specs.Calls.{ClientState, Answers, Reaches, Calls, client_of, talking, fault_of}
 use Rattle.snap_client.specs.Exchange.{Hears}
 

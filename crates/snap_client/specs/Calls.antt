@@ -8,7 +8,8 @@ use Rattle.snap_frame.specs.declared.reply.Reply.TheVariants as replies
 use Rattle.snap_frame.specs.Messages.{payload, frame, Says, SaysNothing}
 use Rattle.snap_frame.specs.Stream.{HasFrame, HasLongLength, IsPartial}
 use Rattle.snap_client.specs.declared.fault.ClientFault.{ClientFault}
-use Rattle.snap_client.specs.declared.fault.ClientFault.TheVariants.{ConnectFailed, ReadFailed, WriteFailed, Ended, BadReply, NoMemory}
+use Rattle.snap_client.specs.declared.fault.ClientFault.TheVariants.{ConnectFailed, ReadFailed, WriteFailed, Ended}
+use Rattle.snap_client.specs.declared.fault.ClientFault.TheVariants.{BadReply, NoMemory}
 
 -- a connection, the bytes that were read and belong to no reply that was returned, and why the
 -- client has failed

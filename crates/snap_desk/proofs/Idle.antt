@@ -2,7 +2,7 @@
 use Rattle.std.proofs.Common.{◌≡◌, Option, Some, None, refl}
 use Rattle.std.specs.Prelude.{IfNone}
 
--- if any value of `here` would be given, and none is given, then there is none
+-- if any value of `here` would be given, and none is given, then `here` is `None`
 pub lent_still : {A : Type 0} (here given : Option A)
     → ((w : A) → here ≡ Some w → given ≡ Some w) → given ≡ None → here ≡ None
 lent_still None given all none = refl

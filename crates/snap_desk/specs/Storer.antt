@@ -4,12 +4,12 @@ use Rattle.snap_memory.specs.Seat.{own_of}
 use Rattle.snap_service.specs.Writer.{WriterState, number_of}
 use Rattle.snap_service.specs.Updated.{IsUpdated}
 use Rattle.snap_service.specs.Counted.{next_count}
-use Rattle.snap_desk.specs.declared.standing.Standing.{Standing}
+use Rattle.snap_desk.specs.declared.writer_status.WriterStatus.{WriterStatus}
 use Rattle.snap_desk.specs.Came.{Came}
 use Rattle.snap_disk.specs.declared.disk.Disk as Disk
 
--- the status says the writer's segment, its number, and whether it is fenced
-pub record StandsAt {D : Type 0} (w : WriterState D) (stands : Standing) : Type 0 where
+-- the status has the writer's segment, its number, and whether it is fenced
+pub record StandsAt {D : Type 0} (w : WriterState D) (stands : WriterStatus) : Type 0 where
   pub own : own_of w.seat ≡ stands.segment
   pub number_is : number_of w ≡ stands.number
   pub fence_is : is_some w.segment.begun ≡ stands.is_fenced
@@ -19,19 +19,19 @@ pub record Queued : Type 0 where
   pub came : ℕ
   pub taken : ℕ
 
--- how many have arrived, if `taken` were taken, and one waits or none does
+-- how many updates have arrived, if `taken` were taken and one waits or none does
 abbrev pub came_by : ℕ → Bool → ℕ
 came_by taken true = next_count taken
 came_by taken false = taken
 
--- an update waits
+-- an update waits to be taken
 abbrev pub IsWaiting : Queued → Type 0
 IsWaiting q = q.came ≡ next_count q.taken
 
--- the writer, none while it is lent; its status when it was here last; and the queue of updates
+-- the writer (none while it is on loan), the status it had when it was here last, and the queue of updates
 pub record StorerState (D : Type 0) : Type 0 where
   pub writer : Option (WriterState D)
-  pub stands : Standing
+  pub stands : WriterStatus
   pub queue : Queued
 
 -- a new storer has this writer, and no update has arrived
@@ -52,8 +52,8 @@ pub record IsTaken {D : Type 0} (s : StorerState D) (w : WriterState D) : Type 0
   pub here : (x : WriterState D) → s.writer ≡ Some x → w ≡ x
   pub stands : StandsAt w s.stands
 
--- One job was taken, and no other one waits. The storer's writer was updated once, to that job's
--- number and value, with this result; it is lent in the state that it then has.
+-- One job was taken, and no other one waits. The storer's writer was updated once, to that job's number and value, with
+-- this result; it is lent in the state that it then has.
 pub record StoresOne {D : Type 0} (disk : Disk.Ghosts D) (old : StorerState D) (came : Came D)
     (new : StorerState D) : Type 0 where
   pub writer : WriterState D

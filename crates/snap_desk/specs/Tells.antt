@@ -1,4 +1,4 @@
--- What a reply says about an outcome.
+-- The reply by an outcome.
 use Rattle.std.specs.Prelude.{◌≡◌, ℕ, ◌<◌, List}
 use Rattle.snap_memory.specs.Rule.{segments}
 use Rattle.snap_memory.specs.Seat.{own_of}
@@ -15,12 +15,12 @@ pub record IsOutcomeOf {D : Type 0} (came : Came D) (i k : ℕ) (v : List ℕ) :
   pub number_is : came.job.number ≡ k
   pub value_is : came.job.value ≡ v
 
--- the reply to such an update says the writer's result, if there is such a segment
+-- the reply to such an update has the writer's result, if the segment exists
 abbrev pub TellsUpdate : {D : Type 0} → Came D → ℕ → ℕ → List ℕ → Reply → Type 0
 TellsUpdate came i k v reply = i < segments came.writer.seat.plan → IsOutcomeOf came i k v
     → reply ≡ reply_of (number_of came.writer) came.told
 
--- the reply to a request says the outcome's result; a scan and a status have no outcome
+-- The reply to a request has the outcome's result. A scan and a status have no outcome.
 abbrev pub Tells : {D : Type 0} → Came D → Request → Reply → Type 0
 Tells came (request.Update segment k v) reply = TellsUpdate came segment k v reply
 Tells came request.Scan reply = Unit {0}

@@ -1,4 +1,4 @@
-//! One worker's half of the service, which doesn't block on stores.
+//! The desk: a worker's service.
 ghost use Rattle.std.specs.Prelude.{◌≡◌, ℕ, ◌<◌, IfOk, IfSome, IfNone, length};
 ghost use Rattle.snap_memory.specs.Rule.{segments};
 ghost use Rattle.snap_frame.specs.Messages.{IsInLimits};
@@ -14,15 +14,15 @@ ghost use Rattle.snap_service.specs.Answers.{
   AnswersStatus,
 };
 
-use crate::job::Asked;
-use crate::lent::Outcome;
-use crate::lookout::Lookout;
-use crate::outbox::{Handed, Outbox, Window};
+use crate::job::Requested;
+use crate::outbox::{Outbox, Sent, StorerHandle};
+use crate::read_only_service::ReadOnlyService;
+use crate::writer_lease::Outcome;
 use bytes::Bytes;
 use snap_disk::{Disk, Refusal};
-use snap_figures::Looking;
 use snap_frame::{Reply, Request, SegmentSet};
 use snap_memory::Scanner;
+use snap_metrics::Looking;
 use snap_service::{Memory, answer_by_look, answer_part, answer_scan, refuse_place};
 use snap_session::Service;
 use std::alloc::{AllocError, Global};
@@ -30,10 +30,11 @@ use std::marker::{Brand, Model, PhantomData};
 use std::rt::Clock;
 use std::sync::Wait;
 
-/// A worker's [`Service`]: a scanner, and a window to each segment's storer, by which it sends updates.
+/// A worker's [`Service`]: answers scans and statuses itself, and sends updates to the segments'
+/// storers.
 ///
 /// Models what its scanner knows. It takes no lock and doesn't wait for a store. If memory for a
-/// job runs out, sending the update waits up to a tenth of a second for memory.
+/// job runs out, sending the update is tried again for up to a tenth of a second.
 #[derive(Drop)]
 pub struct Desk<R: Wait + Copy, M: Memory, D: Disk + Drop> {
     alloc: Global,
@@ -53,13 +54,14 @@ impl<R: Wait + Copy, M: Memory, D: Disk + Drop> Model for Desk<R, M, D> {
     ghost view = { λ d. d.scanner };
 
     ghost invariant = { λ d. IsOf M.table M.plan d.scanner
-        × (length d.outbox.windows ≡ segments d.scanner.plan) };
+        × (length d.outbox.handles ≡ segments d.scanner.plan) };
 }
 
-/// The reply to an update whose outcome has returned.
+/// Replies to an update by its outcome.
 ///
-/// The outcome's writer is idle meanwhile, and returns to its storer afterwards. If the outcome is
-/// another update's, it isn't used: the reply is a refusal of the place, or comes from one look.
+/// The outcome's writer is idle meanwhile, and returns to its storer afterwards. If the outcome
+/// belongs to another update, it isn't used: the reply then refuses the place of the update, or
+/// comes from one look.
 pub fn answer_outcome<R: Wait + Copy, M: Memory, D: Disk + Drop>(
     scanner: &mut Scanner,
     segment: usize,
@@ -84,9 +86,9 @@ pub fn answer_outcome<R: Wait + Copy, M: Memory, D: Disk + Drop>(
     }
 }
 
-/// Sends an update to its storer, once. If it can't be sent, the reply is a refusal of the place or
-/// comes from one look.
-fn ask<R: Wait + Copy + Clock, J: Asked>(
+/// Sends an update to its storer, once, and returns `None`. If it can't be sent, the reply refuses
+/// the place of the update or comes from one look.
+fn ask<R: Wait + Copy + Clock, J: Requested>(
     outbox: &mut Outbox<R>,
     scanner: &mut Scanner,
     segment: usize,
@@ -94,7 +96,7 @@ fn ask<R: Wait + Copy + Clock, J: Asked>(
     value: &Bytes,
     key: usize,
 ) -> Option<Reply>
-    requires windows { length outbox.old.windows ≡ segments scanner.old.plan }
+    requires handles { length outbox.old.handles ≡ segments scanner.old.plan }
     requires job { J.job ≡ job_of outbox.old.worker key number value.now }
     ensures answer { IfSome result (λ r.
         AnswersUpdate scanner.old segment number value.now r scanner.new) }
@@ -107,7 +109,7 @@ fn ask<R: Wait + Copy + Clock, J: Asked>(
     if let Some(reply) = refuse_place(scanner, segment, value.as_slice()) {
         return Some(reply);
     }
-    let handed: Option<Handed<J>> = outbox.hand_over(segment, number, value, key);
+    let handed: Option<Sent<J>> = outbox.hand_over(segment, number, value, key);
     if handed.is_some() {
         return None;
     }
@@ -115,66 +117,32 @@ fn ask<R: Wait + Copy + Clock, J: Asked>(
 }
 
 impl<R: Wait + Copy + Clock, M: Memory, D: Disk + Drop> Desk<R, M, D> {
-    /// A desk for `worker`, with a window for each segment.
+    /// A desk for the worker at index `worker`, with a handle for each segment.
     pub fn new(
         rt: R,
         alloc: Global,
         worker: usize,
-        windows: Vec<Window>,
+        handles: Vec<StorerHandle>,
         scanner: Scanner,
     ) -> Desk<R, M, D>
         requires memory { IsOf M.table M.plan scanner }
-        requires windows { length windows.items ≡ segments M.plan }
+        requires handles { length handles.items ≡ segments M.plan }
         ensures { result ≡ scanner }
     {
         Desk {
             alloc,
-            outbox: Outbox::new(rt, alloc, worker, windows),
+            outbox: Outbox::new(rt, alloc, worker, handles),
             scanner,
             of: PhantomData,
         }
     }
 
-    /// Sends an update to its storer; if it can't be sent, a look answers it, as [`ask`] has it.
-    fn update(&mut self, segment: usize, number: u64, value: &Bytes, key: usize) -> Option<Reply>
-        ensures answer { IfSome result (λ r.
-            AnswersUpdate self.old segment number value.now r self.new) }
-        ensures looks { LooksOnce self.old self.new }
-        ensures limits { IfSome result (λ r. IsInLimits r) }
-        ensures later { IfNone result (self.new ≡ self.old) }
-    {
-        ask::<R, Brand>(
-            &mut self.outbox,
-            &mut self.scanner,
-            segment,
-            number,
-            value,
-            key,
-        )
-    }
-
-    /// Answers an update whose outcome has returned.
-    fn finish_update(
-        &mut self,
-        segment: usize,
-        number: u64,
-        value: &[u8],
-        outcome: Outcome<R, M, D>,
-    ) -> Reply
-        ensures answer { AnswersUpdate self.old segment number value.now result self.new }
-        ensures looks { LooksOnce self.old self.new }
-        ensures limits { IsInLimits result }
-        ensures told { TellsUpdate outcome segment number value.now result }
-    {
-        answer_outcome(&mut self.scanner, segment, number, value, outcome)
-    }
-
-    /// Answers a status: the last published status of each segment.
+    /// Replies with the last published status of each segment.
     fn status(&mut self) -> Reply
         ensures answer { AnswersStatus self.old result self.new }
         ensures limits { IsInLimits result }
     {
-        // for its clause on the scanner (docs/DECISIONS.md, 180)
+        // Called for its clause on the scanner (docs/DECISIONS.md, 180).
         let _segments = self.scanner.segments();
         match self.outbox.list_statuses() {
             Ok(statuses) => Reply::Status(statuses),
@@ -200,10 +168,10 @@ impl<R: Wait + Copy + Clock, M: Memory, D: Disk + Drop> Desk<R, M, D> {
         answer_part(self.alloc, &mut self.scanner, set)
     }
 
-    /// A service for read-only clients, with this desk's scanner. The desk's windows are dropped,
-    /// so no storer waits for it any more.
-    pub fn into_lookout(self) -> Result<Lookout<M>, AllocError>
-        ensures { IfOk result (λ lookout. lookout ≡ self) }
+    /// Makes a service for read-only clients, with this desk's scanner. The desk's handles are
+    /// dropped, so no storer waits for it any more.
+    pub fn into_read_only(self) -> Result<ReadOnlyService<M>, AllocError>
+        ensures { IfOk result (λ service. service ≡ self) }
     {
         let Desk {
             alloc,
@@ -212,10 +180,11 @@ impl<R: Wait + Copy + Clock, M: Memory, D: Disk + Drop> Desk<R, M, D> {
             ..
         } = self;
         let standings = outbox.into_standings()?;
-        Ok(Lookout::new(alloc, scanner, standings))
+        Ok(ReadOnlyService::new(alloc, scanner, standings))
     }
 
-    /// The scanner, unchanged: a store can be closed once all its scanners and writers have come back.
+    /// Returns the scanner, unchanged. A store can be closed once all its scanners and writers were
+    /// returned.
     pub fn into_scanner(self) -> Scanner
         ensures scanner { result ≡ self }
         ensures memory { IsOf M.table M.plan result }
@@ -244,7 +213,14 @@ impl<R: Wait + Copy + Clock, M: Memory, D: Disk + Drop> Service for Desk<R, M, D
                 segment,
                 number,
                 value,
-            } => self.update(usize::from(*segment), *number, value, key),
+            } => ask::<R, Brand>(
+                &mut self.outbox,
+                &mut self.scanner,
+                usize::from(*segment),
+                *number,
+                value,
+                key,
+            ),
             Request::Scan => Some(self.scan()),
             Request::Status => Some(self.status()),
             Request::Part(set) => Some(self.part(*set)),
@@ -257,7 +233,13 @@ impl<R: Wait + Copy + Clock, M: Memory, D: Disk + Drop> Service for Desk<R, M, D
                 segment,
                 number,
                 value,
-            } => self.finish_update(usize::from(*segment), *number, value.as_slice(), outcome),
+            } => answer_outcome(
+                &mut self.scanner,
+                usize::from(*segment),
+                *number,
+                value.as_slice(),
+                outcome,
+            ),
             Request::Scan => self.scan(),
             Request::Status => self.status(),
             Request::Part(set) => self.part(*set),
@@ -266,7 +248,7 @@ impl<R: Wait + Copy + Clock, M: Memory, D: Disk + Drop> Service for Desk<R, M, D
 }
 
 impl<R: Wait + Copy + Clock, M: Memory, D: Disk + Drop> Looking for Desk<R, M, D> {
-    /// How many looks its scanner may still take.
+    /// The number of looks that its scanner may still take.
     ghost looks = { λ d. d.left };
 
     fn looks_left(&self) -> u64 {

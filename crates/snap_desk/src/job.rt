@@ -1,4 +1,4 @@
-//! Updates on their way to a storer.
+//! Jobs: updates that are sent to a storer.
 ghost use Rattle.std.specs.Prelude.{◌≡◌, IfOk};
 ghost use Rattle.snap_frame.specs.Limits.{IsShort};
 ghost use Rattle.snap_desk.specs.declared.job.Job.{Job};
@@ -8,8 +8,8 @@ use bytes::Bytes;
 use std::alloc::AllocError;
 use std::marker::{Brand, Model};
 
-/// An update's value on its way to its storer. It shares the bytes of the request, so sending it
-/// copies none of them.
+/// The value of an update that is sent to a storer. It shares the bytes of the request, so none of
+/// them is copied.
 #[derive(Drop)]
 pub struct Payload {
     bytes: Bytes,
@@ -45,7 +45,7 @@ impl Payload {
     }
 }
 
-/// An update, and where its outcome is to be sent: the desk's worker, and the key of its request.
+/// An update, and the receiver of its outcome: the desk's worker, and the key of its request.
 #[derive(Drop)]
 pub struct Job {
     pub worker: usize,
@@ -56,10 +56,10 @@ pub struct Job {
 
 /// A type that names one job, for proofs. It has no values: the proof of a call with `Brand` says
 /// which job it is.
-pub(crate) trait Asked {
+pub(crate) trait Requested {
     ghost job: { Job };
 }
 
-impl Asked for Brand {
+impl Requested for Brand {
     ghost job = { no_job };
 }

@@ -1,11 +1,11 @@
-//! A worker's side of the channels to the storers.
-ghost use Rattle.std.specs.Prelude.{◌≡◌, ◌<◌, length, All, IfOk, OnErr, IfSome, IfNone};
+//! The outbox: a worker's sending side of the channels to the storers.
+ghost use Rattle.std.specs.Prelude.{◌≡◌, ◌<◌, length, All, IfOk, IfSome, IfNone};
 ghost use Rattle.snap_frame.specs.Limits.{IsShort};
 ghost use Rattle.snap_frame.specs.Messages.{IsStatus};
 ghost use Rattle.snap_desk.specs.Handover.{HasHanded, job_of};
 
-use crate::job::{Asked, Job, Payload};
-use crate::standing::status_in;
+use crate::job::{Job, Payload, Requested};
+use crate::writer_status::status_in;
 use bytes::Bytes;
 use crossbeam_channel::{SendError, Sender};
 use snap_frame::SegmentStatus;
@@ -17,40 +17,41 @@ use std::sync::{Arc, Wait};
 use std::thread;
 use std::time::Duration;
 
-/// How long to sleep between two tries to send an update, if memory ran out, in milliseconds.
+/// The pause before a send is tried again after memory ran out, in milliseconds.
 const REST: u64 = 5;
 
-/// How often sending an update is tried if memory runs out: for a tenth of a second. A worker that
-/// waited longer couldn't close connections meanwhile, which may be what frees memory.
+/// The number of tries to send an update if memory runs out: a tenth of a second in all. A worker
+/// that waited longer couldn't close connections meanwhile, which may be what frees memory.
 const TRIES: u32 = 20;
 
 /// Why an update wasn't sent.
 #[derive(Drop)]
-enum Unsent {
+enum SendFault {
     /// Memory for it ran out.
     NoMemory,
-    /// The window is another segment's, or the storer has ended.
+    /// The handle is another segment's, or the storer has ended.
     Gone,
 }
 
-/// Proof that the job `J` was sent: only [`Window::send`] makes one, of the job that it sends.
+/// Proof that the job `J` was sent. Only [`StorerHandle::send`] makes it, from the job that it
+/// sends.
 #[derive(Drop)]
-pub(crate) struct Handed<J: Asked> {
+pub(crate) struct Sent<J: Requested> {
     of: PhantomData<J>,
 }
 
-/// A handle to one segment's storer: sends it jobs, and reads its last published status.
+/// A handle to one segment's storer: sends it jobs and reads its last published status.
 ///
-/// Models the segment's index. The storer runs until all its windows are dropped.
+/// Models the segment's index. The storer runs until every handle is dropped.
 #[derive(Drop)]
-pub struct Window {
+pub struct StorerHandle {
     segment: usize,
     jobs: Sender<Job>,
-    /// The storer's status in one word, as [`status_in`] reads it.
+    /// The storer's published status in one word, as [`status_in`] reads it.
     standing: Arc<AtomicU64, Global>,
 }
 
-impl Model for Window {
+impl Model for StorerHandle {
     ghost use Rattle.std.specs.Prelude.{ℕ};
 
     ghost Value = { ℕ };
@@ -58,33 +59,42 @@ impl Model for Window {
     ghost view = { λ w. w.segment };
 }
 
-impl Window {
-    pub(crate) fn new(segment: usize, jobs: Sender<Job>, standing: Arc<AtomicU64, Global>) -> Window
+impl StorerHandle {
+    pub(crate) fn new(
+        segment: usize,
+        jobs: Sender<Job>,
+        standing: Arc<AtomicU64, Global>,
+    ) -> StorerHandle
         ensures { result ≡ segment }
     {
-        Window {
+        StorerHandle {
             segment,
             jobs,
             standing,
         }
     }
 
-    /// Tries to send `job`, an update of `segment`, to the storer. An error means that it wasn't sent.
-    fn send<R: Wait, J: Asked>(&self, rt: &R, segment: usize, job: Job) -> Result<Handed<J>, Unsent>
+    /// Tries to send `job`, an update of `segment`, to the storer. After an error it wasn't sent.
+    fn send<R: Wait, J: Requested>(
+        &self,
+        rt: &R,
+        segment: usize,
+        job: Job,
+    ) -> Result<Sent<J>, SendFault>
         requires { job ≡ J.job }
         ensures { IfOk result (λ _. self.now ≡ segment) }
     {
         if self.segment != segment {
-            return Err(Unsent::Gone);
+            return Err(SendFault::Gone);
         }
         match self.jobs.send(rt, job) {
-            Ok(()) => Ok(Handed { of: PhantomData }),
-            Err(SendError::OutOfMemory(_)) => Err(Unsent::NoMemory),
-            Err(SendError::Disconnected(_)) => Err(Unsent::Gone),
+            Ok(()) => Ok(Sent { of: PhantomData }),
+            Err(SendError::OutOfMemory(_)) => Err(SendFault::NoMemory),
+            Err(SendError::Disconnected(_)) => Err(SendFault::Gone),
         }
     }
 
-    /// Reads the last status that the storer published.
+    /// Reads the status that the storer published last.
     fn status(&self) -> SegmentStatus
         ensures { IsStatus result }
     {
@@ -92,13 +102,13 @@ impl Window {
     }
 }
 
-impl Clone for Window {
+impl Clone for StorerHandle {
     ghost use Rattle.std.specs.Prelude.{◌≡◌};
 
-    ghost is_clone = { λ window copy. copy ≡ window };
+    ghost is_clone = { λ handle copy. copy ≡ handle };
 
-    fn clone(&self) -> Result<Window, AllocError> {
-        Ok(Window {
+    fn clone(&self) -> Result<StorerHandle, AllocError> {
+        Ok(StorerHandle {
             segment: self.segment,
             jobs: self.jobs.clone()?,
             standing: Arc::try_clone(&self.standing)?,
@@ -106,15 +116,15 @@ impl Clone for Window {
     }
 }
 
-/// Sends a worker's updates to the storers: a window for each segment.
+/// Sends a worker's updates to the storers, by one handle for each segment.
 ///
-/// Models the worker, the windows' segments, and how many updates were sent, modulo 2^64.
+/// Models the worker, the handles' segments, and the number of updates that were sent, modulo 2^64.
 #[derive(Drop)]
 pub(crate) struct Outbox<R: Wait + Copy> {
     rt: R,
     alloc: Global,
     worker: usize,
-    windows: Vec<Window>,
+    handles: Vec<StorerHandle>,
     sent: u64,
 }
 
@@ -123,114 +133,84 @@ impl<R: Wait + Copy> Model for Outbox<R> {
 
     ghost Value = { Handing };
 
-    ghost view = { λ o. record { worker = o.worker; windows = o.windows.items; sent = o.sent } };
+    ghost view = { λ o. record { worker = o.worker; handles = o.handles.items; sent = o.sent } };
 }
 
 impl<R: Wait + Copy> Outbox<R> {
     /// An outbox for `worker` that has sent nothing yet.
-    pub(crate) fn new(rt: R, alloc: Global, worker: usize, windows: Vec<Window>) -> Outbox<R>
-        ensures { result ≡ record { worker = worker; windows = windows.items; sent = 0 } }
+    pub(crate) fn new(rt: R, alloc: Global, worker: usize, handles: Vec<StorerHandle>) -> Outbox<R>
+        ensures { result ≡ record { worker = worker; handles = handles.items; sent = 0 } }
     {
         Outbox {
             rt,
             alloc,
             worker,
-            windows,
+            handles,
             sent: 0,
         }
     }
 
     /// Reads the last published status of each segment, without a look and without a lock.
     pub(crate) fn list_statuses(&self) -> Result<Vec<SegmentStatus>, AllocError>
-        ensures count { IfOk result (λ s. length s.items ≡ length self.now.windows) }
+        ensures count { IfOk result (λ s. length s.items ≡ length self.now.handles) }
         ensures limits { IfOk result (λ s. All IsStatus s.items) }
     {
         let mut statuses = Vec::new(self.alloc);
-        for window in &self.windows {
-            statuses.push(window.status())?;
+        for handle in &self.handles {
+            statuses.push(handle.status())?;
         }
         Ok(statuses)
     }
 
-    /// The published statuses of all segments. They outlive the outbox, and keep no storer running.
+    /// Returns the published statuses of all segments. They outlive the outbox, and keep no storer
+    /// running.
     pub(crate) fn into_standings(self) -> Result<Vec<Arc<AtomicU64, Global>>, AllocError>
-        ensures { IfOk result (λ s. length s.items ≡ length self.windows) }
+        ensures { IfOk result (λ s. length s.items ≡ length self.handles) }
     {
-        let mut standings = Vec::with_capacity(self.alloc, self.windows.len())?;
-        for window in &self.windows {
-            standings.push(Arc::try_clone(&window.standing)?)?;
+        let mut standings = Vec::with_capacity(self.alloc, self.handles.len())?;
+        for handle in &self.handles {
+            standings.push(Arc::try_clone(&handle.standing)?)?;
         }
         Ok(standings)
-    }
-
-    /// Makes the job for the request `key` of this worker: an update to this number and value.
-    fn job(&self, number: u64, value: &Bytes, key: usize) -> Result<Job, AllocError>
-        requires { IsShort value.now }
-        ensures { IfOk result (λ job. job ≡ job_of self.now.worker key number value.now) }
-    {
-        let value = Payload::of(value)?;
-        Ok(Job {
-            worker: self.worker,
-            key,
-            number,
-            value,
-        })
-    }
-
-    /// Tries to send a job by the window of `segment`. After an error nothing was sent.
-    fn send<J: Asked>(&mut self, segment: usize, job: Job) -> Result<Handed<J>, Unsent>
-        requires job { job ≡ J.job }
-        requires segment { segment < length self.old.windows }
-        ensures handed { IfOk result (λ _. HasHanded self.old segment self.new) }
-        ensures unsent { OnErr result (self.new ≡ self.old) }
-    {
-        let handed = self.windows[segment].send(&self.rt, segment, job)?;
-        self.sent = self.sent.wrapping_add(1);
-        Ok(handed)
-    }
-
-    /// Tries once to send an update to its storer. After an error nothing was sent.
-    fn offer<J: Asked>(
-        &mut self,
-        segment: usize,
-        number: u64,
-        value: &Bytes,
-        key: usize,
-    ) -> Result<Handed<J>, Unsent>
-        requires job { J.job ≡ job_of self.old.worker key number value.now }
-        requires segment { segment < length self.old.windows }
-        requires size { IsShort value.now }
-        ensures handed { IfOk result (λ _. HasHanded self.old segment self.new) }
-        ensures unsent { OnErr result (self.new ≡ self.old) }
-    {
-        let Ok(job) = self.job(number, value, key) else {
-            return Err(Unsent::NoMemory);
-        };
-        self.send(segment, job)
     }
 }
 
 impl<R: Wait + Copy + Clock> Outbox<R> {
-    /// Sends an update to its storer, once. `None` if the storer has ended, or memory is out for a
-    /// tenth of a second; then nothing was sent.
-    pub(crate) fn hand_over<J: Asked>(
+    /// Sends an update to its storer, once. `None` if the storer has ended, or if memory runs out
+    /// for a tenth of a second; then nothing was sent.
+    pub(crate) fn hand_over<J: Requested>(
         &mut self,
         segment: usize,
         number: u64,
         value: &Bytes,
         key: usize,
-    ) -> Option<Handed<J>>
+    ) -> Option<Sent<J>>
         requires job { J.job ≡ job_of self.old.worker key number value.now }
-        requires segment { segment < length self.old.windows }
+        requires segment { segment < length self.old.handles }
         requires size { IsShort value.now }
         ensures handed { IfSome result (λ _. HasHanded self.old segment self.new) }
         ensures unsent { IfNone result (self.new ≡ self.old) }
     {
         for _ in 0..TRIES {
-            match self.offer(segment, number, value, key) {
-                Ok(handed) => return Some(handed),
-                Err(Unsent::NoMemory) => thread::sleep(&self.rt, Duration::from_millis(REST)),
-                Err(Unsent::Gone) => return None,
+            let handed = match Payload::of(value) {
+                Ok(value) => {
+                    let job = Job {
+                        worker: self.worker,
+                        key,
+                        number,
+                        value,
+                    };
+                    self.handles[segment].send(&self.rt, segment, job)
+                }
+                Err(AllocError) => Err(SendFault::NoMemory),
+            };
+            match handed {
+                Ok(handed) => {
+                    self.sent = self.sent.wrapping_add(1);
+                    return Some(handed);
+                }
+                Err(SendFault::NoMemory) => thread::sleep(&self.rt, Duration::from_millis(REST)),
+                Err(SendFault::Gone) => return None,
             }
         }
         None

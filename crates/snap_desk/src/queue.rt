@@ -5,22 +5,22 @@ ghost use Rattle.snap_desk.specs.Storer.{IsWaiting};
 
 use crate::job::Job;
 use crossbeam_channel::{Receiver, TryRecvError};
-use snap_spin::Spin;
+use snap_session::Spin;
 use std::marker::Model;
 use std::sync::Wait;
 use std::thread;
 
-/// Polls without sleeping before a storer blocks: for about an eighth of a millisecond.
+/// Polls without sleeping before a storer blocks: about 125 us.
 const SPINS: u32 = 500;
 
-/// The updates that arrive at a storer, of which one can wait here until it is taken.
+/// A storer's receiving side, with at most one received update that wasn't taken yet.
 ///
-/// Models how many arrived and how many were taken, both modulo 2^64: they are equal, or one waits.
-/// So a contract can say that no update is dropped.
+/// Models how many updates arrived and how many were taken, both modulo 2^64: these are equal, or
+/// one update waits. So a contract can say that no update is dropped.
 #[derive(Drop)]
 pub(crate) struct Queue {
     jobs: Receiver<Job>,
-    /// The update that has arrived and isn't taken yet.
+    /// The update that has arrived and wasn't taken yet.
     next: Option<Job>,
     came: u64,
     taken: u64,
@@ -38,7 +38,7 @@ impl Model for Queue {
 }
 
 impl Queue {
-    /// A queue that receives from `jobs`. Nothing has arrived yet.
+    /// A queue that receives from `jobs`. No update has arrived yet.
     pub(crate) fn new(jobs: Receiver<Job>) -> Queue
         ensures { result ≡ record { came = 0; taken = 0 } }
     {
@@ -50,15 +50,7 @@ impl Queue {
         }
     }
 
-    /// Whether an update waits.
-    fn is_waiting(&self) -> bool
-        ensures yes { result ≡ true → IsWaiting self.now }
-        ensures no { result ≡ false → self.now.came ≡ self.now.taken }
-    {
-        self.next.is_some()
-    }
-
-    /// Enters an update that has arrived, which then waits.
+    /// Stores an update that has arrived, until it is taken.
     fn keep(&mut self, job: Job)
         requires { self.old.came ≡ self.old.taken }
         ensures waits { IsWaiting self.new }
@@ -68,7 +60,8 @@ impl Queue {
         self.came = self.came.wrapping_add(1);
     }
 
-    /// Receives an update without blocking, which then waits. After an error nothing has arrived.
+    /// Receives an update without blocking, which then waits to be taken. After an error no update
+    /// has arrived.
     fn look<R: Wait>(&mut self, rt: &R) -> Result<(), TryRecvError>
         requires { self.old.came ≡ self.old.taken }
         ensures one { OnOk result (IsWaiting self.new) }
@@ -80,8 +73,8 @@ impl Queue {
         Ok(())
     }
 
-    /// Blocks until an update arrives, which then waits; false if none ever will, since all windows
-    /// are dropped.
+    /// Blocks until an update arrives, which then waits to be taken. `false` if none will arrive,
+    /// since all handles are dropped.
     fn sleep<R: Wait>(&mut self, rt: &R) -> bool
         requires { self.old.came ≡ self.old.taken }
         ensures one { result ≡ true → IsWaiting self.new }
@@ -97,7 +90,8 @@ impl Queue {
         }
     }
 
-    /// Receives an update as [`Queue::sleep`] does, but spins before it sleeps, as long as that pays.
+    /// Receives an update as [`Queue::sleep`] does, but polls for a while before it sleeps, if
+    /// `spin` says so.
     fn receive<R: Wait>(&mut self, rt: &R, spin: &mut Spin) -> bool
         requires { self.old.came ≡ self.old.taken }
         ensures one { result ≡ true → IsWaiting self.new }
@@ -117,13 +111,14 @@ impl Queue {
         self.sleep(rt)
     }
 
-    /// Waits until there is an update; false if there is none and all windows are dropped.
+    /// Waits until there is an update to take; `false` if there is none and all handles are
+    /// dropped.
     pub(crate) fn wait<R: Wait>(&mut self, rt: &R, spin: &mut Spin) -> bool
         ensures one { result ≡ true → IsWaiting self.new }
         ensures taken { self.new.taken ≡ self.old.taken }
         ensures none { result ≡ false → self.new ≡ self.old }
     {
-        self.is_waiting() || self.receive(rt, spin)
+        self.next.is_some() || self.receive(rt, spin)
     }
 
     /// Takes the waiting update.

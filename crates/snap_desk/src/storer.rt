@@ -1,20 +1,22 @@
-//! The thread that stores for one segment.
+//! The storer: the thread that stores for one segment.
 ghost use Rattle.std.specs.Prelude.{◌≡◌, IfOk, IfSome, IfNone, Some, None};
+ghost use Rattle.snap_frame.specs.Limits.{IsNumber};
 ghost use Rattle.snap_memory.specs.Seat.{own_of};
+ghost use Rattle.snap_service.specs.Memory.{IsOf};
 ghost use Rattle.snap_service.specs.Updated.{IsUpdated};
 ghost use Rattle.snap_desk.specs.Storer.{IsNew, IsTaken, IsIdle, StandsAt, StoresOne};
 
 use crate::heap_writer::HeapWriter;
 use crate::job::Job;
-use crate::lent::{Lent, Outcome};
-use crate::outbox::Window;
+use crate::outbox::StorerHandle;
 use crate::queue::Queue;
-use crate::standing::{Standing, standing_of};
+use crate::writer_lease::{Outcome, WriterLease};
+use crate::writer_status::WriterStatus;
 use crossbeam_channel::{Receiver, Sender, bounded, unbounded};
 use snap_disk::Disk;
-use snap_service::{Memory, WriterOf};
-use snap_session::Done;
-use snap_spin::Spin;
+use snap_service::Memory;
+use snap_session::{Completion, Spin};
+use snap_writer::Writer;
 use std::alloc::{AllocError, Global};
 use std::marker::Model;
 use std::sync::atomic::{AtomicU64, Ordering};
@@ -31,35 +33,35 @@ pub fn store_one<R: Wait + Copy, M: Memory, D: Disk + Drop>(
     ensures updated { IsUpdated D.Disk writer result.writer job.number job.value result.told }
 {
     let told = writer.update(job.number, job.value.as_slice());
-    Outcome::new(job, told, Lent { rt, home, writer })
+    Outcome::new(job, told, WriterLease { rt, home, writer })
 }
 
-/// Makes a window of `segment`, with the two ends that its storer needs: the channel of jobs, and
-/// the place of its status, which begins as this word.
-fn window_of(
+/// Makes a handle to the storer of a writer with this status, and the two parts that the storer
+/// needs: the receiver of jobs, and the word in which it publishes its status.
+fn handle_of(
     alloc: Global,
-    segment: usize,
-    standing: u64,
-) -> Result<(Window, Receiver<Job>, Arc<AtomicU64, Global>), AllocError>
-    ensures { IfOk result (λ made. made.0 ≡ segment) }
+    stands: WriterStatus,
+) -> Result<(StorerHandle, Receiver<Job>, Arc<AtomicU64, Global>), AllocError>
+    requires low { IsNumber stands.number }
+    ensures { IfOk result (λ made. made.0 ≡ stands.segment) }
 {
-    let standing = Arc::new(alloc, AtomicU64::new(standing))?;
+    let standing = Arc::new(alloc, AtomicU64::new(stands.word()))?;
     let (to, jobs) = unbounded(alloc)?;
-    let window = Window::new(segment, to, Arc::try_clone(&standing)?);
-    Ok((window, jobs, standing))
+    let handle = StorerHandle::new(stands.segment, to, Arc::try_clone(&standing)?);
+    Ok((handle, jobs, standing))
 }
 
-/// The thread that stores for one segment: owns its writer, and the queue of its updates.
+/// A storer, which stores for one segment: owns its writer and the queue of its updates.
 ///
-/// Models the writer (`None` while it is lent), the writer's status when it was here last, and how
-/// many updates arrived and were taken.
+/// Models the writer (`None` while it is on loan), the status that the writer had when it was here
+/// last, and how many updates arrived and were taken.
 #[derive(Drop)]
 pub struct Storer<R: Wait + Copy, M: Memory, D: Disk + Drop> {
     rt: R,
-    /// `None` while it is lent.
+    /// `None` while it is on loan.
     writer: Option<HeapWriter<M, D>>,
-    /// The status of the writer, or its status when it was lent.
-    stands: Standing,
+    /// The status of the writer, or the status with which it was lent.
+    stands: WriterStatus,
     queue: Queue,
     spin: Spin,
     standing: Arc<AtomicU64, Global>,
@@ -80,18 +82,20 @@ impl<R: Wait + Copy, M: Memory, D: Disk + Drop> Model for Storer<R, M, D> {
 }
 
 impl<R: Wait + Copy, M: Memory, D: Disk + Drop> Storer<R, M, D> {
-    /// A storer with this writer, and a window to it, of the writer's segment.
+    /// A storer with `writer`, which belongs to the memory `M`, and a handle to it, which is of the
+    /// writer's segment.
     pub fn new(
         rt: R,
         alloc: Global,
-        writer: WriterOf<M, D>,
-    ) -> Result<(Storer<R, M, D>, Window), AllocError>
-        ensures window { IfOk result (λ made. made.1 ≡ own_of writer.seat) }
+        writer: Writer<D>,
+    ) -> Result<(Storer<R, M, D>, StorerHandle), AllocError>
+        requires memory { IsOf M.table M.plan writer.seat }
+        ensures handle { IfOk result (λ made. made.1 ≡ own_of writer.seat) }
         ensures storer { IfOk result (λ made. IsNew writer made.0) }
     {
         let (home, back) = bounded(alloc, 1)?;
-        let (window, jobs, standing) = window_of(alloc, writer.segment(), standing_of(&writer))?;
-        let stands = Standing::of(&writer);
+        let stands = WriterStatus::of(&writer);
+        let (handle, jobs, standing) = handle_of(alloc, stands)?;
         let storer = Storer {
             rt,
             writer: Some(HeapWriter::new(alloc, writer)?),
@@ -102,11 +106,11 @@ impl<R: Wait + Copy, M: Memory, D: Disk + Drop> Storer<R, M, D> {
             home,
             back,
         };
-        Ok((storer, window))
+        Ok((storer, handle))
     }
 
-    /// Takes the writer, and waits for it while it is lent. `None` if it won't come back, or if its
-    /// status isn't the one with which it was lent.
+    /// Takes the writer, and waits for it while it is on loan. `None` if it won't be returned, or
+    /// if its status isn't the one with which it was lent.
     fn take_writer(&mut self) -> Option<HeapWriter<M, D>>
         ensures taken { IfSome result (λ w. IsTaken self.old w) }
         ensures here { (w : _) → self.old.writer ≡ Some w → result ≡ Some w }
@@ -116,7 +120,7 @@ impl<R: Wait + Copy, M: Memory, D: Disk + Drop> Storer<R, M, D> {
             return Some(writer);
         }
         let writer = self.back.recv(&self.rt).ok()?;
-        if Standing::of(writer.as_ref()) != self.stands {
+        if WriterStatus::of(writer.as_ref()) != self.stands {
             return None;
         }
         Some(writer)
@@ -128,7 +132,7 @@ impl<R: Wait + Copy, M: Memory, D: Disk + Drop> Storer<R, M, D> {
         home: Sender<HeapWriter<M, D>>,
         writer: HeapWriter<M, D>,
         job: Job,
-    ) -> Done<Outcome<R, M, D>>
+    ) -> Completion<Outcome<R, M, D>>
         requires { self.old.writer ≡ None }
         ensures worker { result.worker ≡ job.worker }
         ensures key { result.key ≡ job.key }
@@ -142,20 +146,21 @@ impl<R: Wait + Copy, M: Memory, D: Disk + Drop> Storer<R, M, D> {
         let (worker, key) = (job.worker, job.key);
         let outcome = store_one(self.rt, home, writer, job);
         self.stands = outcome.stands();
-        self.standing
-            .store(outcome.standing_word(), Ordering::SeqCst);
-        Done {
+        self.standing.store(self.stands.word(), Ordering::SeqCst);
+        Completion {
             worker,
             key,
             outcome,
         }
     }
 
-    /// Waits for an update and for the writer, does the update, and lends the writer with the outcome.
+    /// Waits for an update and for the writer, does the update, and lends the writer with the
+    /// outcome.
     ///
-    /// `None` if all windows are dropped and no update is left; if the writer won't come back; or if
-    /// memory to lend it runs out. Then nothing was done, and an update that has arrived still waits.
-    pub fn next(&mut self) -> Option<Done<Outcome<R, M, D>>>
+    /// `None` if all handles are dropped and no update is left; if the writer won't be returned; or
+    /// if memory to lend it runs out. Then nothing was done, and an update that has arrived still
+    /// waits.
+    pub fn next(&mut self) -> Option<Completion<Outcome<R, M, D>>>
         ensures worker { IfSome result (λ t. t.worker ≡ t.outcome.job.worker) }
         ensures key { IfSome result (λ t. t.key ≡ t.outcome.job.key) }
         ensures stored { IfSome result (λ t.
@@ -174,10 +179,12 @@ impl<R: Wait + Copy, M: Memory, D: Disk + Drop> Storer<R, M, D> {
         Some(self.store(home, writer, job))
     }
 
-    /// The writer, once it is back; `None` if it won't come back, as at [`Storer::take_writer`].
-    pub fn into_writer(mut self) -> Option<WriterOf<M, D>>
+    /// Returns the writer, once it is here; `None` if it won't be returned, as in
+    /// [`Storer::take_writer`].
+    pub fn into_writer(mut self) -> Option<Writer<D>>
         ensures taken { IfSome result (λ w. IsTaken self w) }
         ensures here { (w : _) → self.writer ≡ Some w → result ≡ Some w }
+        ensures memory { IfSome result (λ w. IsOf M.table M.plan w.seat) }
     {
         Some(self.take_writer()?.into_inner())
     }

@@ -1,5 +1,6 @@
 -- One call more.
-use Rattle.std.proofs.Common.{◌≡◌, inl, inr, ⊎_elim, ℕ, List, ◌∷◌, length, sym, ◌∙◌, arith, replicate, ◌++◌, length-append}
+use Rattle.std.proofs.Common.{◌≡◌, inl, inr, ⊎_elim, ℕ, List, ◌∷◌, length, sym, ◌∙◌, arith, replicate, ◌++◌}
+use Rattle.std.proofs.Common.{length-append}
 use Rattle.std.proofs.Common.{length-take}
 use Rattle.std.proofs.lemmas.List.{length-replicate}
 use Rattle.snap_disk.specs.Device.{Elapses}

@@ -20,6 +20,6 @@ abbrev pub fused : Option Fault → Option Fill → ℕ → Option Fill
 fused None otherwise call = otherwise
 fused (Some fuse) otherwise call = if nat_lt fuse.call call then Some fuse.fill else otherwise
 
--- what the call of this number leaves where it is to fail
+-- the fill that the call of this number leaves, if it is planned to fail
 abbrev pub planned_fill : FaultPlan → ℕ → Option Fill
 planned_fill plan call = fused (planned_fuse plan) (fault_at (planned_faults plan) call) call

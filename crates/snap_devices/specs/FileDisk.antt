@@ -1,4 +1,4 @@
--- What an open file is as a device, and before the first call.
+-- An open file as a device, and before its first call.
 use Rattle.std.specs.Prelude.{◌≡◌, ℕ, List, []}
 use Rattle.snap_disk.specs.Device.{Device}
 use Rattle.snap_devices.specs.CallLog.{device_after}
@@ -7,7 +7,7 @@ use Rattle.snap_devices.specs.declared.file.FileOf.{FileOf}
 
 -- by which path it was opened
 abbrev pub file_path : {R S : Type 0} → FileOf R S → List ℕ
-file_path disk = disk.name.path.now
+file_path disk = disk.opened_path.path.now
 
 -- its story, of those of all files
 abbrev pub story_of : {R S : Type 0} → (List ℕ → Story) → FileOf R S → Story

@@ -1,4 +1,4 @@
--- What a device that is held up shows.
+-- How long the first write of a held device waits.
 use Rattle.std.specs.Prelude.{ℕ, ◌≡◌, ◌≤◌, ◌↔◌, Option}
 use Rattle.snap_devices.specs.declared.held.Held.{Held}
 use Rattle.snap_devices.specs.declared.held.Waited.{Waited}

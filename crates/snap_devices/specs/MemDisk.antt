@@ -1,4 +1,4 @@
--- What a device in memory shows.
+-- The plan, the calls and the images of a device in memory.
 use Rattle.std.specs.Prelude.{ℕ, ◌+◌, ◌-◌, ◌^◌, min, List, length, Option}
 use Rattle.snap_disk.specs.Device.{Device}
 use Rattle.snap_devices.specs.FaultPlan.{planned_fill}
@@ -24,7 +24,7 @@ memory_calls disk = disk.calls
 abbrev pub next_call : MemDisk → ℕ
 next_call disk = min (disk.calls + 1) (2 ^ 64 - 1)
 
--- what the next one leaves where it is to fail
+-- the fill that the next call leaves, if it is planned to fail
 abbrev pub next_fill : MemDisk → Option Fill
 next_fill disk = planned_fill disk.plan (next_call disk)
 
@@ -36,7 +36,7 @@ memory_failures disk = disk.failures
 abbrev pub memory_image : MemDisk → Image
 memory_image disk = disk.image
 
--- and before each of its calls, the newest first
+-- its images before each of its calls, the newest first
 abbrev pub memory_past : MemDisk → List Image
 memory_past disk = disk.past.items
 
@@ -44,6 +44,6 @@ memory_past disk = disk.past.items
 abbrev pub memory_clock : MemDisk → ℕ
 memory_clock disk = length disk.past.items
 
--- what a crash at this time of the clock or later could have left
+-- the bytes that a crash at this time of the clock or later could have left
 abbrev pub memory_left : MemDisk → ℕ → List ℕ → Type 0
 memory_left disk = LeftFrom (memory_device disk) disk.past.items

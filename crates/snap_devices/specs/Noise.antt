@@ -1,4 +1,4 @@
--- What a device of noise shows.
+-- The bytes of a device of random bytes.
 use Rattle.std.specs.Prelude.{ℕ, ◌+◌, ◌*◌, ◌/◌, ◌%◌, ◌^◌, length, replicate, true}
 use Rattle.snap_disk.specs.Device.{Device}
 use Rattle.snap_devices.specs.declared.noise.Noise.{Noise}
@@ -18,10 +18,10 @@ noise_clock noise = length noise.calls.items
 abbrev pub noise_device : Noise → Device
 noise_device noise = record { bytes = replicate noise.len 0; is_open = λ p. true }
 
--- what is squared at this place
+-- the number that is squared at this place
 abbrev pub noise_root : ℕ → ℕ
 noise_root place = (place * 6364136223846793005 % 2 ^ 64 + 1442695040888963407) % 2 ^ 64
 
--- and a middle byte of the square
+-- a middle byte of the square
 abbrev pub noise_byte : ℕ → ℕ
 noise_byte place = noise_root place * noise_root place % 2 ^ 64 / 2 ^ 32 % 256

@@ -1,8 +1,8 @@
--- What no code can know of a file.
+-- The true contents of a file, which no code can know.
 use Rattle.std.specs.Prelude.{ℕ, Bool, false, List, []}
 
 pub record Story : Type 0 where
-  -- what it holds after this many calls
+  -- its bytes after this many calls
   pub held : ℕ → List ℕ
   -- which places were written before it was opened, and not synced
   pub open_at_first : ℕ → Bool

@@ -1,19 +1,22 @@
-//! What a device left in its file, and whether the file still has it.
+//! The contents that a device has read from its file and written to it, and whether the file still has them.
 //!
-//! A lock excludes only programs that lock the file too, so any other may copy onto a file in use, or cut it. The
-//! file keeps its name then, and the next store would make a mixture of both. So the file is compared with a
-//! copy before the first byte of a store: its length, its header, the slot that was stored last, all but the
-//! value, and the gate of the next one. A copy of another segment has another header. One of another time has
-//! another number in that slot, or has opened the next one. Before the first store all slots are compared. A file
-//! with the same bytes there takes the store as the old one does. Its times aren't asked for, since that would
-//! cost the next write (`name.rt`): a seek gives the length.
+//! A lock excludes only programs that lock the file too, so any other program may copy onto a file in use, or truncate
+//! it. The file keeps its name then, and the next store would make a mixture of both. So before the first byte of a
+//! store the file is compared with the contents that are remembered: its length, its header, the number and length of
+//! the slot that was stored last, and the gates of that slot and the next one. A copy of another segment has another
+//! header. A copy from another time has another number in that slot, or has opened the next one. Before the first store
+//! all slots are compared. A file with the same bytes there takes the store as the old one does.
+//!
+//! Each call and each byte counts here. A seek gives the length, since asking for the file's times would cost the next
+//! write (`opened_path.rt`). Two reads give the rest: the first slot's gate follows the header, and each other gate
+//! follows a slot.
 
 ghost use Rattle.std.specs.Prelude.{◌≤◌, ◌<◌};
 ghost use Rattle.snap_slot.specs.declared.layout.TheConstants.{SLOT_COUNT};
-ghost use Rattle.snap_devices.specs.declared.contents.TheConstants.{SLOT_HEAD_LEN};
+ghost use Rattle.snap_devices.specs.declared.contents.TheConstants.{READ_LEN};
 
 use crate::file::{CallFault, CallKind};
-use snap_slot::{BLOCK_LEN, FILE_LEN, OPEN_GATE, SLOT_COUNT, VALUE_AT, gate_at, next_slot};
+use snap_slot::{BLOCK_LEN, FILE_LEN, OPEN_GATE, SLOT_COUNT, VALUE_AT, gate_at};
 use std::fs::File;
 use std::io::{self, ErrorKind, Seek, SeekFrom};
 use std::os::unix::fs::FileExt;
@@ -21,13 +24,24 @@ use std::os::unix::fs::FileExt;
 /// How many bytes a segment file has.
 const LEN: usize = FILE_LEN as usize;
 
-/// How many bytes of a slot are compared: the block of its gate, and its body's number and length.
-const SLOT_HEAD_LEN: usize = BLOCK_LEN + VALUE_AT;
+/// How many bytes are read at once at most: a slot, and the gate that follows it.
+const READ_LEN: usize = 2 * BLOCK_LEN + 1;
+
+/// The ranges of the file's beginning that are compared: the header without its zeros, its gate, and the first slot's
+/// gate.
+const OF_HEADER: [(usize, usize); 2] = [(0, 16), (BLOCK_LEN - 1, BLOCK_LEN + 1)];
+
+/// The ranges of a slot that are compared: its gate, its body's number and length, and the gate that follows.
+const OF_SLOT: [(usize, usize); 3] = [
+    (0, 1),
+    (BLOCK_LEN, BLOCK_LEN + VALUE_AT),
+    (READ_LEN - 1, READ_LEN),
+];
 
 /// When the file is compared next.
 #[derive(Clone, Copy, Debug, PartialEq, Eq)]
 enum Look {
-    /// Not yet: what it should hold isn't known.
+    /// Not yet: its contents aren't known.
     Unknown,
     /// Before the next write.
     Due,
@@ -37,27 +51,30 @@ enum Look {
     AfterOne,
 }
 
-/// What a segment's file holds, by what its device has read and written. It is known from the first
-/// read of the whole file on, and until a call fails.
+/// The contents of a segment's file, by what its device has read and written. They are known from the first read of the
+/// whole file on, until a call fails.
 #[derive(Drop)]
 pub(crate) struct Contents {
     bytes: [u8; LEN],
+    /// A buffer for the bytes that are compared.
+    found: [u8; READ_LEN],
     /// The slot whose gate this device opened last, if it opened one.
     opened: Option<u64>,
     look: Look,
 }
 
 impl Contents {
-    /// Of a file that wasn't read yet.
+    /// The contents of a file that wasn't read yet: unknown.
     pub(crate) fn unknown() -> Contents {
         Contents {
             bytes: [0; LEN],
+            found: [0; READ_LEN],
             opened: None,
             look: Look::Unknown,
         }
     }
 
-    /// These bytes were read from there on. Where they are the whole file, it is known.
+    /// Notes that these bytes were read from there on. If they are the whole file, its contents are known.
     pub(crate) fn note_read(&mut self, at: u64, bytes: &[u8]) {
         if at == 0 && bytes.len() == LEN {
             self.bytes.copy_from_slice(bytes);
@@ -66,7 +83,7 @@ impl Contents {
         }
     }
 
-    /// These bytes were written from there on.
+    /// Notes that these bytes were written from there on.
     fn note_write(&mut self, at: u64, bytes: &[u8]) {
         if bytes.len() <= LEN && at <= (LEN - bytes.len()) as u64 {
             let at = at as usize;
@@ -77,7 +94,7 @@ impl Contents {
         }
     }
 
-    /// The file was synced.
+    /// Notes that the file was synced.
     pub(crate) fn note_sync(&mut self) {
         self.look = match self.look {
             Look::AfterTwo => Look::AfterOne,
@@ -86,13 +103,13 @@ impl Contents {
         };
     }
 
-    /// A call has failed: what the file holds now isn't known.
+    /// Notes that a call failed: the contents aren't known any more.
     pub(crate) fn forget(&mut self) {
         self.look = Look::Unknown;
     }
 
-    /// Writes these bytes from there on. Where a look is due the file has to hold what was left in it;
-    /// else nothing is written, and each later write looks again.
+    /// Writes these bytes from there on. If a comparison is due and the file's contents differ, nothing is written, and
+    /// each later write compares again.
     pub(crate) fn write(
         &mut self,
         file: &mut File,
@@ -116,8 +133,8 @@ impl Contents {
         }
     }
 
-    /// Compares the file with what was left in it.
-    fn check(&self, file: &mut File) -> Result<(), CallFault> {
+    /// Compares the file with these contents.
+    fn check(&mut self, file: &mut File) -> Result<(), CallFault> {
         match self.is_in(file) {
             Ok(true) => Ok(()),
             Ok(false) => Err(CallFault::Overwritten),
@@ -128,47 +145,59 @@ impl Contents {
         }
     }
 
-    /// Whether the file has the length of this, its header, and the heads of its slots.
-    fn is_in(&self, file: &mut File) -> io::Result<bool> {
-        if file.seek(SeekFrom::End(0))? != FILE_LEN || !self.holds(file, 0, BLOCK_LEN)? {
+    /// Whether the file has the length of this, its header, the head of the slot that was stored last, and the next
+    /// one's gate.
+    fn is_in(&mut self, file: &mut File) -> io::Result<bool> {
+        if file.seek(SeekFrom::End(0))? != FILE_LEN
+            || !self.holds(file, 0, BLOCK_LEN + 1, &OF_HEADER)?
+        {
             return Ok(false);
         }
         match self.opened {
-            Some(slot) if slot < SLOT_COUNT => self.has_stored_last(file, slot),
+            Some(slot) if slot < SLOT_COUNT => self.holds(
+                file,
+                gate_at(slot) as usize,
+                READ_LEN,
+                &OF_SLOT,
+            ),
             _ => self.has_all_slots(file),
         }
     }
 
-    /// Whether this slot, which was stored last, is in the file, and the next one has its gate.
-    fn has_stored_last(&self, file: &File, slot: u64) -> io::Result<bool>
-        requires { slot < SLOT_COUNT }
-    {
-        let (at, next) = (gate_at(slot) as usize, gate_at(next_slot(slot)) as usize);
-        Ok(self.holds(file, at, SLOT_HEAD_LEN)? && self.holds(file, next, 1)?)
-    }
-
     /// Whether the file has the head of each slot.
-    fn has_all_slots(&self, file: &File) -> io::Result<bool> {
+    fn has_all_slots(&mut self, file: &File) -> io::Result<bool> {
         for slot in 0..SLOT_COUNT {
-            if !self.holds(file, gate_at(slot) as usize, SLOT_HEAD_LEN)? {
+            if !self.holds(file, gate_at(slot) as usize, READ_LEN, &OF_SLOT)? {
                 return Ok(false);
             }
         }
         Ok(true)
     }
 
-    /// Whether the file has `count` bytes of this from `at` on.
-    fn holds(&self, file: &File, at: usize, count: usize) -> io::Result<bool>
-        requires { count ≤ SLOT_HEAD_LEN }
+    /// Whether the file has what this has from `at` on, in these ranges of the next `count` bytes. Of a range that
+    /// begins at the file's end nothing is compared.
+    fn holds(
+        &mut self,
+        file: &File,
+        at: usize,
+        count: usize,
+        ranges: &[(usize, usize)],
+    ) -> io::Result<bool>
+        requires { count ≤ READ_LEN }
     {
-        let Some(left) = self.bytes.get(at..).and_then(|rest| rest.get(..count)) else {
+        let Some(left) = self.bytes.get(at..) else {
             return Ok(false);
         };
-        let mut room = [0; SLOT_HEAD_LEN];
-        let found = &mut room[..count];
+        let left = left.get(..count).unwrap_or(left);
+        let room = &mut self.found[..];
+        let found = &mut room[..left.len()];
         match file.read_exact_at(found, at as u64) {
-            Ok(()) => Ok(&*found == left),
-            // It was cut meanwhile.
+            Ok(()) => Ok(
+                ranges
+                    .iter()
+                    .all(|(from, to)| found.get(*from..*to) == left.get(*from..*to)),
+            ),
+            // It was truncated meanwhile.
             Err(reason) if reason.kind() == ErrorKind::UnexpectedEof => Ok(false),
             Err(reason) => Err(reason),
         }

@@ -5,8 +5,8 @@ ghost use Rattle.std.specs.Option.{option_copied};
 use snap_disk::Fill;
 use std::alloc::{AllocError, Global};
 
-/// A call that is to fail: its number, counted from 1, and what the fault leaves. Of a fuse it is
-/// the last call that may pass.
+/// A call that is to fail: its number, counted from 1, and the fill that the fault leaves. For a fuse it is the last
+/// call that may pass.
 #[derive(Debug, Drop)]
 pub struct Fault {
     pub call: u64,
@@ -23,7 +23,7 @@ pub struct FaultPlan {
 impl FaultPlan {
     ghost use Rattle.snap_devices.specs.FaultPlan.{planned_faults, planned_fuse, planned_fill};
 
-    /// No call fails.
+    /// A plan by which no call fails.
     pub fn new(alloc: Global) -> FaultPlan
         ensures { (call : _) → planned_fill result call ≡ None }
     {
@@ -33,8 +33,8 @@ impl FaultPlan {
         }
     }
 
-    /// The call of this number fails too, save where an earlier entry or the fuse has it. It fails
-    /// where a growth of memory is refused, and the plan is then as it was.
+    /// Adds that the call of this number fails, unless an earlier entry or the fuse has it. Fails if memory runs out,
+    /// and then the plan is unchanged.
     pub fn fail_call(&mut self, call: u64, fill: Fill) -> Result<(), AllocError>
         ensures ok { OnOk result (planned_faults self.new
             ≡ planned_faults self.old ++ record { call = call; fill = fill } ∷ []) }
@@ -45,7 +45,7 @@ impl FaultPlan {
         Ok(())
     }
 
-    /// The first `passes` calls may pass, and every later one fails.
+    /// A plan by which the first `passes` calls may pass, and every later one fails.
     pub fn fail_after(&mut self, passes: u64, fill: Fill)
         ensures faults { planned_faults self.new ≡ planned_faults self.old }
         ensures fuse { planned_fuse self.new ≡ Some (record { call = passes; fill = fill }) }
@@ -53,7 +53,7 @@ impl FaultPlan {
         self.fuse = Some(Fault { call: passes, fill });
     }
 
-    /// What the call of this number leaves where it is to fail.
+    /// The fill that the call of this number leaves, if it is planned to fail.
     pub fn fill_at(&self, call: u64) -> Option<&Fill>
         ensures { option_copied result ≡ planned_fill self.now call }
     {

@@ -4,8 +4,8 @@ ghost use Rattle.snap_devices.specs.CallLog.{IsHonestLog, LeftSince, counts_now,
 ghost use Rattle.snap_devices.specs.FileDisk.{IsUncalled, file_device, file_path, story_of};
 
 use crate::contents::Contents;
-use crate::name::{FileId, Name, folder_of};
-use crate::{Call, Log, Stories, Untold};
+use crate::opened_path::{FileId, OpenedPath, folder_of};
+use crate::{Call, GhostLog, Stories, Untold};
 use snap_disk::{DeviceFault, Disk};
 use snap_slot::FILE_LEN;
 use std::fs::{self, OpenOptions, TryLockError};
@@ -18,8 +18,8 @@ use std::thread;
 use std::time::Duration;
 use thiserror::Error;
 
-/// How many times a lock that another process has is tried again, and the rest before each: a second
-/// in all. On a network's file system a lock outlives its process for some milliseconds.
+/// How many times a lock that another process has is tried again, and the pause before each try: a second in all. On a
+/// network's file system a lock outlives its process for some milliseconds.
 const LOCK_RESTS: u32 = 50;
 
 const LOCK_REST_MILLIS: u64 = 20;
@@ -28,9 +28,9 @@ const LOCK_REST_MILLIS: u64 = 20;
 /// write it.
 #[derive(Clone, Copy, Debug, PartialEq, Eq)]
 pub enum Lock {
-    /// Nobody else has a lock: for what writes the file.
+    /// No other process has a lock: for a command that writes the file.
     Exclusive,
-    /// Nobody else has an exclusive one: for what only reads it, and may only read it.
+    /// No other process has an exclusive lock: for a command that only reads the file, and may only read it.
     Shared,
 }
 
@@ -80,9 +80,10 @@ pub enum CallFault {
     /// file. Only a sync returns this.
     #[error("sync: its path doesn't name it any more: it was moved, removed or replaced")]
     Moved,
-    /// The file's length, its header or its newest slot isn't what this device left in it: another
-    /// program wrote or cut it in spite of the lock. The file is left as it is. Only a write returns this.
-    #[error("write: another program wrote it or cut it, and it is left so: never copy onto a file in use: snapd load makes a new folder of a dump")]
+    /// The file's length, its header or its newest slot isn't what this device left in it: another program wrote or
+    /// truncated the file in spite of the lock. The file is left as it is. Only a write returns this.
+    #[error("write: another program wrote it or cut it, and it is left so: never copy onto a file in use: snapd load \
+        makes a new folder of a dump")]
     Overwritten,
 }
 
@@ -98,25 +99,24 @@ pub enum CallFault {
 /// next write compares the length, the header, the slot whose gate was opened last and the gate of the next
 /// one: so each store does, before it writes anything. If they differ, the write fails and isn't made.
 ///
-/// It is honest where every noted call did what the model of [`Disk`] says, after a sync that failed
-/// too, and nobody else writes the file. Which places are open at first no contract says: those that were
-/// written before and not synced, by a process that ended or before a crash, which leaves them
-/// open. A sync that succeeds closes them. So what is proved holds where each is open, and where a
-/// premise says that no more are than a crash left.
+/// It is honest if every noted call did what the model of [`Disk`] says, also after a sync that failed, and nobody else
+/// writes the file. No contract says which places are open at first: they are those that were written and not synced
+/// before, by a process that ended or before a crash. A sync that succeeds closes them. So proofs hold whichever places
+/// are open, except where a premise says that no more are open than a crash left.
 ///
-/// Why a call failed is dropped, unless [`FileOf::telling`] names a place for it.
+/// The reason why a call failed is dropped, unless [`FileOf::telling`] names a place for it.
 #[derive(Drop)]
 pub struct FileOf<'p, R, S: Stories> {
     rt: &'p R,
     file: fs::File,
-    name: Name<'p>,
+    opened_path: OpenedPath<'p>,
     contents: Contents,
     len: u64,
     failures: u64,
     /// Gets why the first call that fails did.
     told: Option<&'p OnceLock<CallFault>>,
     /// The newest first.
-    calls: Log<Call>,
+    calls: GhostLog<Call>,
     of: PhantomData<S>,
 }
 
@@ -128,10 +128,10 @@ impl<'p, R: Files<File = fs::File> + Clock, S: Stories> FileOf<'p, R, S> {
     /// for a second is `InUse`, and any other fault is the system's own, on a file system without
     /// locks too: without its lock a file isn't safe to use.
     ///
-    /// With a shared lock a file is opened for reading alone. So it may be on a file system that
-    /// takes no writes, or belong to a user who lets others only read it: the system locks and
-    /// syncs such a file as any other, and a write of it fails. What is no file is opened to be
-    /// written too: a folder refuses that, and a pipe would let a reader wait for a writer.
+    /// With a shared lock a file is opened for reading alone. So it may be on a read-only file system, or belong to a
+    /// user who lets others only read it: the system locks and syncs such a file as any other, and a write of it fails.
+    /// Anything that isn't a file is opened for writing too: a folder refuses that, and a pipe would block a reader
+    /// until a writer comes.
     ///
     /// The lock comes before the length, which the holder of an exclusive one may yet change.
     pub fn open(rt: &'p R, path: &'p str, lock: Lock) -> Result<FileOf<'p, R, S>, FileFault>
@@ -151,11 +151,10 @@ impl<'p, R: Files<File = fs::File> + Clock, S: Stories> FileOf<'p, R, S> {
     /// other length is `WrongFile`, and the file is not changed. The other faults are those of
     /// [`FileOf::open`].
     ///
-    /// A new file's name lasts: the folder is synced before the file gets its bytes. So where that
-    /// fails, or the process is stopped before it, the file stays without a byte, and the next
-    /// `create` syncs the folder again. Of two that make the file at once one has the lock and
-    /// does this, and the other is refused. Where the file is reached through a symbolic link, it
-    /// is the link's folder that is synced.
+    /// A new file's name lasts: the folder is synced before the file gets its bytes. If that fails, or the process is
+    /// stopped before it, the file stays without a byte, and the next `create` syncs the folder again. Of two processes
+    /// that make the file at once one gets the lock and does this, and the other is refused. If the file is reached
+    /// through a symbolic link, the link's folder is synced.
     pub fn create(rt: &'p R, path: &'p str) -> Result<FileOf<'p, R, S>, FileFault>
         ensures uncalled { IfOk result IsUncalled }
         ensures path { IfOk result (λ disk. file_path disk ≡ path.now) }
@@ -180,13 +179,13 @@ impl<'p, R: Files<File = fs::File> + Clock, S: Stories> FileOf<'p, R, S> {
         Ok(FileOf::of(rt, path, file, FileId::of(&found), FILE_LEN))
     }
 
-    /// Which file it is.
+    /// The system's identity of the file.
     pub fn id(&self) -> FileId {
-        self.name.id()
+        self.opened_path.id()
     }
 
-    /// The same device, which puts into `to` why a call of it failed: the first failed call, since later
-    /// ones may be its consequence. If `to` has a fault already, it keeps that.
+    /// Has this device put into `to` why a call of it failed: the first failed call, since later ones may be its
+    /// consequence. If `to` has a fault already, it keeps that.
     pub fn telling(mut self, to: &'p OnceLock<CallFault>) -> FileOf<'p, R, S>
         ensures uncalled { IsUncalled self.entry → IsUncalled result }
         ensures path { file_path result ≡ file_path self.entry }
@@ -207,12 +206,12 @@ impl<'p, R: Files<File = fs::File> + Clock, S: Stories> FileOf<'p, R, S> {
         FileOf {
             rt,
             file,
-            name: Name::new(path, id),
+            opened_path: OpenedPath::new(path, id),
             contents: Contents::unknown(),
             len,
             failures: 0,
             told: None,
-            calls: Log::new(),
+            calls: GhostLog::new(),
             of: PhantomData,
         }
     }
@@ -222,12 +221,12 @@ impl<'p, R: Files<File = fs::File> + Clock, S: Stories> FileOf<'p, R, S> {
 fn sync_named<R: Files<File = fs::File> + Clock>(
     rt: &R,
     file: &fs::File,
-    name: &mut Name<'_>,
+    opened_path: &mut OpenedPath<'_>,
 ) -> Result<(), CallFault>
-    ensures path { name.new.path ≡ name.old.path }
+    ensures path { opened_path.new.path ≡ opened_path.old.path }
 {
     file.sync_data().map_err(fault_of_sync)?;
-    match name.holds_synced(rt) {
+    match opened_path.holds_synced(rt) {
         Ok(true) => Ok(()),
         Ok(false) => Err(CallFault::Moved),
         Err(reason) => Err(fault_of_sync(reason)),
@@ -264,7 +263,7 @@ fn take_lock<R: Clock>(rt: &R, file: fs::File, lock: Lock) -> Result<fs::File, F
     Err(FileFault::InUse(FileId::of(&file.metadata()?)))
 }
 
-/// Takes this lock, where no other process has one that keeps it out.
+/// Takes this lock, unless another process has one that excludes it.
 fn try_lock(file: &fs::File, lock: Lock) -> Result<bool, FileFault>
     ensures { IfErr result (λ fault. (len : ℕ) → fault ≢ FileFault.WrongFile len) }
 {
@@ -279,8 +278,8 @@ fn try_lock(file: &fs::File, lock: Lock) -> Result<bool, FileFault>
     }
 }
 
-/// Makes the names in the folder of this path last, where the system allows that: a folder that
-/// may be written and not read can't be opened, and some file systems sync no folder.
+/// Syncs the folder of this path, so that its names last, if the system allows that: a folder that may be written but
+/// not read can't be opened, and some file systems sync no folder.
 pub fn sync_folder_of<R: Files<File = fs::File>>(rt: &R, path: &str) -> io::Result<()> {
     match sync_folder(rt, folder_of(path)) {
         Err(reason) if !is_not_allowed(reason.kind()) => Err(reason),
@@ -292,7 +291,7 @@ fn sync_folder<R: Files<File = fs::File>>(rt: &R, folder: &str) -> io::Result<()
     fs::File::open(rt, folder)?.sync_all()
 }
 
-/// The system won't do this for anybody, or not for this user. Nothing has failed.
+/// Whether the system can't do this at all, or not for this user. Then nothing has failed.
 fn is_not_allowed(kind: ErrorKind) -> bool {
     matches!(
         kind,
@@ -336,7 +335,7 @@ impl<R: Files<File = fs::File> + Clock, S: Stories> Disk for FileOf<'_, R, S> {
                 self.contents.note_read(at, buf);
                 self.calls = self.calls.and(&[Call::Gave {
                     at,
-                    bytes: Log::new().and(buf),
+                    bytes: GhostLog::new().and(buf),
                 }]);
                 Ok(())
             }
@@ -355,7 +354,7 @@ impl<R: Files<File = fs::File> + Clock, S: Stories> Disk for FileOf<'_, R, S> {
             Ok(()) => {
                 self.calls = self.calls.and(&[Call::Wrote {
                     at,
-                    bytes: Log::new().and(bytes),
+                    bytes: GhostLog::new().and(bytes),
                 }]);
                 Ok(())
             }
@@ -370,7 +369,7 @@ impl<R: Files<File = fs::File> + Clock, S: Stories> Disk for FileOf<'_, R, S> {
     }
 
     fn sync(&mut self) -> Result<(), DeviceFault> {
-        match sync_named(self.rt, &self.file, &mut self.name) {
+        match sync_named(self.rt, &self.file, &mut self.opened_path) {
             Ok(()) => {
                 self.contents.note_sync();
                 self.calls = self.calls.and(&[Call::Synced]);

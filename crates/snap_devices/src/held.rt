@@ -34,7 +34,7 @@ pub struct Held {
 impl Held {
     ghost use Rattle.snap_devices.specs.Held.{held_disk, held_turns, held_waited};
 
-    /// This device, of which no write was made yet. Whoever has the flag lets its first one go on.
+    /// Holds the first write of this device, to which no write was made yet, until the flag is set.
     pub fn new(disk: MemDisk, flag: Arc<AtomicU64, Global>, turns: u64) -> Held
         ensures disk { held_disk result ≡ disk }
         ensures turns { held_turns result ≡ turns }
@@ -62,7 +62,7 @@ impl Held {
         &self.disk
     }
 
-    /// The same, to crash it and to plan faults.
+    /// The device in memory, to crash it and to plan faults.
     pub fn into_disk(self) -> MemDisk
         ensures { result ≡ held_disk self }
     {
@@ -123,7 +123,7 @@ impl Disk for Held {
         self.disk.read_at(at, buf)
     }
 
-    /// The first one waits. Each fails exactly where the device's plan says so.
+    /// The first write waits. A write fails exactly if the device's plan says so.
     fn write_at(&mut self, at: u64, bytes: &[u8]) -> Result<(), DeviceFault>
         requires within { at + length bytes.now ≤ length (memory_device (held_disk self.old)).bytes }
         requires headroom { memory_failures (held_disk self.old) < 2 ^ 64 - 1 }

@@ -4,7 +4,7 @@ ghost use Rattle.std.specs.Prelude.{IfOk, OnOk, OnErr, IsErr, IsSome, IfSome, No
 ghost use Rattle.std.proofs.Common.{inl};
 ghost use Rattle.snap_devices.specs.Past.{LeftFrom, only_left_now};
 
-use crate::Log;
+use crate::GhostLog;
 use crate::fault_plan::FaultPlan;
 use snap_disk::{DeviceFault, Disk, Fill, Image};
 use std::alloc::{AllocError, Global};
@@ -18,7 +18,7 @@ pub struct MemDisk {
     plan: FaultPlan,
     calls: u64,
     failures: u64,
-    past: Log<Image>,
+    past: GhostLog<Image>,
 }
 
 impl MemDisk {
@@ -43,12 +43,11 @@ impl MemDisk {
             plan: FaultPlan::new(alloc),
             calls: 0,
             failures: 0,
-            past: Log::new(),
+            past: GhostLog::new(),
         }
     }
 
-    /// A device of `len` zero bytes with no open place. It fails where a growth of memory is
-    /// refused.
+    /// A device of `len` zero bytes with no open place. Fails if memory runs out.
     pub fn zeroed(alloc: Global, len: usize) -> Result<MemDisk, AllocError>
         ensures bytes { IfOk result (λ disk. (memory_device disk).bytes ≡ replicate len 0) }
         ensures settled { IfOk result (λ disk. IsSettled (memory_device disk)) }
@@ -79,7 +78,7 @@ impl MemDisk {
         self.calls
     }
 
-    /// What it holds now.
+    /// The bytes and open places that it has now.
     pub fn image(&self) -> &Image
         ensures { image_device result.now ≡ memory_device self.now }
     {

@@ -1,17 +1,17 @@
-//! A device that nobody wrote: the device of tests that ask what a call does on any bytes.
+//! A device of random bytes, for tests of what a call does on any bytes.
 ghost use Rattle.std.specs.Prelude.{◌≡◌, ℕ, ◌+◌, ◌%◌, ◌^◌, ◌<◌, ◌≤◌, length, slice_index, Ok};
 ghost use Rattle.snap_devices.specs.Noise.{noise_byte};
 
-use crate::Log;
+use crate::GhostLog;
 use snap_disk::{DeviceFault, Disk};
 
-/// A device of fixed length whose reads give bytes drawn from a seed, other ones each time. What is
-/// written to it is lost. No call of it fails, and it isn't honest: a disk of which nothing is known.
+/// A device of fixed length whose reads return bytes drawn from a seed, other ones each time. Writes to it are lost. No
+/// call of it fails, and it isn't honest: a disk of which nothing is known.
 #[derive(Drop)]
 pub struct Noise {
     len: u64,
     drawn: u64,
-    calls: Log<u64>,
+    calls: GhostLog<u64>,
 }
 
 impl Noise {
@@ -25,7 +25,7 @@ impl Noise {
         Noise {
             len,
             drawn: seed,
-            calls: Log::new(),
+            calls: GhostLog::new(),
         }
     }
 }

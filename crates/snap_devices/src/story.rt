@@ -1,10 +1,9 @@
-//! What no code can know of a file.
+//! The true contents of files, which no code can know: a premise of proofs about them.
 ghost use Rattle.std.specs.Prelude.{List, ℕ};
 ghost use Rattle.snap_devices.specs.Story.{Story, untold};
 
-/// What each file held when it was opened and after each call, and which of its places were open at
-/// first, by the path that it was opened by. What is proved of a file holds for all stories, so for
-/// the true one.
+/// For each file, by the path that it was opened by: its bytes when it was opened and after each call, and which of its
+/// places were open at first. A proof about a file holds for all stories, so for the true one.
 pub trait Stories {
     ghost story: { List ℕ → Story };
 }

@@ -1,4 +1,4 @@
--- What a migration leaves, in the words of the command.
+-- The files after a migration, in terms of the command.
 use Rattle.std.proofs.Common.{rules, ◌≡◌, ℕ, List, inl, inr, ap, refl, false, Result, Err}
 use Rattle.snap_disk.specs.Device.{Device, MayLeave}
 use Rattle.snap_disk.specs.Time.{LeavesOnly}
@@ -8,14 +8,14 @@ use Rattle.snap_disk.specs.declared.refusal.Refusal.{Refusal}
 use Rattle.snap_disk.specs.declared.refusal.Refusal.TheVariants.{AlreadyFormatted, DeviceFailed, WrongFile}
 use Rattle.snap_slot.specs.Layout.{IsUnformatted}
 use Rattle.snap_slot.specs.States.{IsAtRest}
-use Rattle.snap_old_slot.specs.Old.{OldHead, OldHolds}
+use Rattle.snap_slot.specs.Old.{OldHead, OldHolds}
 use Rattle.snap_segment.specs.Creation.{IsMadeOrLeft, new_file}
 use Rattle.snap_segment.specs.Migration.{IsPast}
 use Rattle.snap_segment.specs.Refusals.{IsMigrationRefusal}
 use Rattle.snap_segment.specs.declared.migration.Which.{Which}
 use Rattle.snap_segment.specs.declared.migration.Which.TheVariants.{Old, New}
 use Rattle.snap_file_commands.specs.Migration.{IsMigrated, IsOldFile, MigrationKeeps, MigrationLeaves, MigrationReads}
-use Rattle.snap_file_commands.specs.declared.migration.MigrationFailure.TheVariants.{OfFile}
+use Rattle.snap_file_commands.specs.declared.migration.MigrationFault.TheVariants.{OfFile}
 
 widened : (i n k : ℕ) (v : List ℕ) (old new : Device) → OldHead old.bytes i n
     → OldHolds old.bytes k v → (b : List ℕ) → IsMadeOrLeft i n k v new b
@@ -49,7 +49,7 @@ by_refusal Goal Old why is old wrong past = old refl
 by_refusal Goal New WrongFile is old wrong past = wrong refl refl
 by_refusal Goal New why is old wrong past = past is
 
--- what both files are after a migration that returned its number
+-- both files after a migration that returned its number
 pub migrated : (i n number : ℕ) (old new new' : Device) → IsOldFile i n old.bytes
     → IsUnformatted new.bytes
     → ((k : ℕ) (v : List ℕ) → OldHolds old.bytes k v
@@ -60,13 +60,13 @@ migrated i n number old new new' (head, (k, v, holds)) unformatted rests bytes =
     let end = rests k v holds in
     rw end.0 (head, (v, holds, (unformatted, end.1, bytes k v holds)))
 
--- what a refused migration leaves of the old file
+-- the old file after a refused migration
 pub refused_reads : (same : Type 0) (which : Which) (why : Refusal)
     → ((which ≡ Old → why ≡ DeviceFailed → ⊥) → same)
     → MigrationReads (Err (OfFile which why)) same
 refused_reads same which why reads = search rules
 
--- and of both
+-- both files after a refused migration
 pub migration_keeps : (same_old same_new kept : Type 0) (which : Which) (why : Refusal)
     → (which ≡ Old → same_new) → (which ≡ New → why ≡ WrongFile → same_old × same_new)
     → (which ≡ New → why ≡ AlreadyFormatted → kept)

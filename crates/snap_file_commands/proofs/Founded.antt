@@ -14,7 +14,7 @@ use Rattle.snap_segment.specs.Open.{CountsFailed}
 use Rattle.snap_file_commands.specs.Commands.{End, CountsEnd}
 use Rattle.snap_file_commands.specs.Effects.{LeavesNoMore, StoreKeeps}
 use Rattle.snap_file_commands.specs.Foundation.{EndsFounding, EndsKeeping, HasKept, IsNotWhole, refusal_of_formatted}
-use Rattle.snap_file_commands.specs.declared.failure.CommandFailure.TheVariants.{Refused, Output}
+use Rattle.snap_file_commands.specs.declared.fault.CommandFault.TheVariants.{Refused, Output}
 
 -- an opening that was refused
 pub unopened_count : (why : Refusal) (old new : ℕ) → CountsFailed why old new
@@ -34,7 +34,7 @@ unopened honest i n old new refusal.WrongFile refused not_open =
     λ h formatted k v file. elim (not_open h) [ inl long ↦ long file.size | inr other ↦ other.1 file.head ]
 unopened honest i n old new why refused not_open = absurd refused
 
--- what was opened is kept
+-- a file that was opened is kept
 pub kept : (i n k : ℕ) (v : List ℕ) (spare : Bool) (old new : Device) → length old.bytes ≡ FILE_LEN
     → Head old.bytes i n × Holds old.bytes k v → IsAtRest i n k v spare new → HasKept i n k v old new
 kept i n k v spare old new size holds rests = record {
@@ -56,7 +56,7 @@ not_whole_from : (i n : ℕ) (old mid : Device) → IsUnchanged old mid → IsFo
     → IsFormatted old.bytes × IsNotWhole i n old.bytes
 not_whole_from i n old mid same formatted not = (formatted, (rw same.same at not) formatted)
 
--- keeping a file after it was read, in the words of founding
+-- keeping a file after it was read, in terms of `found`
 pub keeping : (honest : Type 0) (i n : ℕ) (old mid new : Device) (end : End)
     → (honest → IsUnchanged old mid) → (honest → IsFormatted old.bytes)
     → EndsKeeping honest i n mid new end → EndsFounding honest i n old new end

@@ -10,7 +10,7 @@ use Rattle.snap_segment.specs.Refusals.{IsStoreRefusal, IsOpenRefusal}
 use Rattle.snap_segment.specs.Open.{CountsFailed}
 use Rattle.snap_file_commands.specs.Commands.{End, EndsStore, CountsEnd}
 use Rattle.snap_file_commands.specs.Effects.{StoreKeeps, PutKeeps}
-use Rattle.snap_file_commands.specs.declared.failure.CommandFailure.TheVariants.{Refused}
+use Rattle.snap_file_commands.specs.declared.fault.CommandFault.TheVariants.{Refused}
 
 module _ (honest : Type 0) (i n : ℕ) (v : List ℕ) (old new : Device) (out out' : Option (List ℕ)) where
   pub refused_store : (why : Refusal) → IsStoreRefusal why → (why ≡ TooLong → ⊥) → (why ≡ Fenced → ⊥)
@@ -35,7 +35,7 @@ pub refused_count : (why : Refusal) (old new : ℕ) → CountsFailed why old new
     → CountsEnd (Err (Refused why)) old new
 refused_count why old new counts = search rules
 
--- what a refused store leaves
+-- the device after a refused store
 pub refused_keeps : (kept : Type 0) (why : Refusal) → ((why ≡ DeviceFailed → ⊥) → kept)
     → StoreKeeps kept (Err (Refused why))
 refused_keeps kept why keeps = search rules

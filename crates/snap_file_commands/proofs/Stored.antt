@@ -1,4 +1,4 @@
--- What a store that succeeded leaves, in the words of the command.
+-- The device after a store that succeeded, in terms of the command.
 use Rattle.std.proofs.Common.{◌≡◌, ◌⊎◌, ℕ, ◌+◌, List, length, Option, Err, inl, inr}
 use Rattle.snap_disk.specs.Device.{Device, IsSettled, MayLeave}
 use Rattle.snap_disk.specs.Time.{LeavesOnly}
@@ -10,7 +10,7 @@ use Rattle.snap_segment.specs.Segment.{SegmentState}
 use Rattle.snap_stream.specs.Streams.{Had}
 use Rattle.snap_file_commands.specs.Commands.{IsStored, PutLeaves, End, EndsStore, EndsPut}
 use Rattle.snap_disk.specs.declared.refusal.Refusal.TheVariants.{TooLong}
-use Rattle.snap_file_commands.specs.declared.failure.CommandFailure.TheVariants.{Refused, Input}
+use Rattle.snap_file_commands.specs.declared.fault.CommandFault.TheVariants.{Refused, Input}
 use Rattle.snap_disk.specs.declared.disk.Disk as Disk
 
 -- the file holds what the segment that was opened on it does
@@ -33,7 +33,7 @@ stored {u = u} file last = record {
   lasts = last.1;
 }
 
--- an opening and a store after it, in the words of the command
+-- an opening and a store after it, in terms of the command
 pub put_leaves : {D : Type 0} (disk : Disk.Ghosts D)
     (honest : Type 0) (old : D) (mid new : SegmentState D) (device : Device)
     (known : Option (List ℕ)) (i n : ℕ) (v : List ℕ) → honest → mid.index ≡ i → mid.count ≡ n

@@ -1,5 +1,5 @@
--- What each command does to its device, what a `put` reads, and what a `put`, a `get` and a slot's value print,
--- by how the command ends.
+-- The effect of each command on its device, the input of a `put`, and the output of a `put`, a `get` and a slot's
+-- value, by how the command ends.
 use Rattle.std.specs.Prelude.{◌≡◌, ◌≢◌, ◌⊎◌, ℕ, ◌+◌, ◌<◌, List, [], ◌++◌, length, Option, Result}
 use Rattle.std.specs.Prelude.{Ok, Err, IfSome, is_some, codes, if◌then◌else◌, false}
 use Rattle.std.specs.Fmt.{decimal}
@@ -17,8 +17,9 @@ use Rattle.snap_slot.specs.Findings.{AreFindings, IsNoOpening}
 use Rattle.snap_slot.specs.declared.findings.Findings.{Findings}
 use Rattle.snap_segment.specs.Creation.{IsFresh, new_file}
 use Rattle.snap_stream.specs.Streams.{AppendsBeginning, Had}
-use Rattle.snap_file_commands.specs.declared.failure.CommandFailure.{CommandFailure}
-use Rattle.snap_file_commands.specs.declared.failure.CommandFailure.TheVariants.{Refused, Input, Output, Unsaid, NoValue}
+use Rattle.snap_file_commands.specs.declared.fault.CommandFault.{CommandFault}
+use Rattle.snap_file_commands.specs.declared.fault.CommandFault.TheVariants.{Refused, Input, Output, Unsaid}
+use Rattle.snap_file_commands.specs.declared.fault.CommandFault.TheVariants.{NoValue}
 use Rattle.snap_order.specs.declared.order.FileOrder.{FileOrder}
 use Rattle.snap_order.specs.declared.order.FileOrder.TheVariants.{Format, Put, Get, Check, Slot}
 use Rattle.snap_order.specs.declared.status.Status.{Status}
@@ -26,9 +27,9 @@ use Rattle.snap_order.specs.declared.status.Status.TheVariants as status
 
 -- how a command ends: with a status, or early
 abbrev pub End : Type 0
-End = Result Status CommandFailure
+End = Result Status CommandFault
 
-abbrev pub status_of : CommandFailure → Status
+abbrev pub status_of : CommandFault → Status
 status_of (Refused why) = status.Refused
 status_of (NoValue file slot flaw) = status.Refused
 status_of failure = status.Failed
@@ -66,7 +67,7 @@ EndsMaking honest i n k v old new end = ⊥
 
 -- ---- put
 
--- what is printed
+-- the printed line
 abbrev pub stored_line : ℕ → List ℕ
 stored_line k = codes "stored " ++ (decimal k ++ codes "\n")
 
@@ -162,7 +163,7 @@ HasBody s v body = (k : ℕ) × IsOpenSlot SLOT_COUNT s (gate_block OPEN_GATE) b
 abbrev pub HasBadBody : (s : ℕ) (body : List ℕ) → Flaw → Type 0
 HasBadBody s body flaw = IsFlawed SLOT_COUNT s (gate_block OPEN_GATE) body flaw
 
--- what is printed is the value in the slot's body, whatever its gate is
+-- the printed value is that in the slot's body, whatever its gate is
 abbrev pub EndsSlot : (s : ℕ) (honest : Type 0) (old : Device) (out out' : Option (List ℕ)) → End
     → Type 0
 EndsSlot s honest old out out' (Ok done) = (v : List ℕ) × (done ≡ status.Done)
@@ -174,10 +175,9 @@ EndsSlot s honest old out out' (Err (NoValue file slot flaw)) =
 EndsSlot s honest old out out' (Err (Refused why)) = IsNoCheck old.bytes why × Keeps out out'
 EndsSlot s honest old out out' end = ⊥
 
--- ---- any order
+-- ---- any command
 
--- the order ended so; `known` is what the reader had, `out` and `out'` what the writer held before
--- and after
+-- the command ended so; `known` are the reader's bytes, `out` and `out'` the writer's before and after
 abbrev pub EndsOrder : FileOrder → (honest : Type 0) (known : Option (List ℕ)) (old new : Device)
     (out out' : Option (List ℕ)) → End → Type 0
 EndsOrder (Format file i n) honest known old new out out' end = EndsMaking honest i n 0 [] old new end
@@ -187,7 +187,7 @@ EndsOrder (Get file i n) honest known old new out out' end = EndsGet honest i n 
 EndsOrder (Check file is_json) honest known old new out out' end = EndsCheck honest old end
 EndsOrder (Slot file slot) honest known old new out out' end = EndsSlot slot honest old out out' end
 
--- what a crash during the order may leave
+-- the bytes that a crash during the command may leave
 abbrev pub OrderLeaves : FileOrder → (known : Option (List ℕ)) (old : Device) → List ℕ → Type 0
 OrderLeaves (Format file i n) known old b = IsFresh i n old b
 OrderLeaves (Put file i n) known old b = PutLeaves i n known old b

@@ -1,4 +1,4 @@
--- What reading the value of a file for a dump says of the file.
+-- The file by the result of reading it for a dump.
 use Rattle.std.specs.Prelude.{ℕ, Result, Ok, Err}
 use Rattle.snap_disk.specs.Device.{Device}
 use Rattle.snap_disk.specs.declared.refusal.Refusal.{Refusal}

@@ -1,4 +1,4 @@
--- What a crash during a command leaves of its device, and which ends leave the device as it was.
+-- The bytes that a crash during a command leaves, and the ends that leave the device as it was.
 use Rattle.std.specs.Prelude.{ℕ, List, Err}
 use Rattle.snap_disk.specs.Device.{MayLeave}
 use Rattle.snap_disk.specs.Time.{LeavesOnly}
@@ -6,7 +6,7 @@ use Rattle.snap_disk.specs.declared.refusal.Refusal.TheVariants as refusal
 use Rattle.snap_order.specs.declared.order.FileOrder.{FileOrder}
 use Rattle.snap_order.specs.declared.order.FileOrder.TheVariants.{Format, Put}
 use Rattle.snap_file_commands.specs.Commands.{End}
-use Rattle.snap_file_commands.specs.declared.failure.CommandFailure.TheVariants.{Refused, Input}
+use Rattle.snap_file_commands.specs.declared.fault.CommandFault.TheVariants.{Refused, Input}
 use Rattle.snap_disk.specs.declared.disk.Disk as Disk
 
 -- If the device is honest, whatever a crash at any time during the call leaves, and one after it,
@@ -39,7 +39,7 @@ PutKeeps same kept (Err (Input error)) = same
 PutKeeps same kept (Err (Refused refusal.TooLong)) = same
 PutKeeps same kept end = StoreKeeps kept end
 
--- The other orders never write, by what a crash leaves of each.
+-- The other commands never write: a crash during one leaves no more than one before.
 abbrev pub OrderKeeps : FileOrder → (same kept : Type 0) → End → Type 0
 OrderKeeps (Format file i n) same kept end = MakingKeeps same kept end
 OrderKeeps (Put file i n) same kept end = PutKeeps same kept end

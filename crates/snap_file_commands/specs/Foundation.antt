@@ -1,4 +1,4 @@
--- What founding does to its device, by how it ends.
+-- The effect of `found` on its device, by how it ends.
 use Rattle.std.specs.Prelude.{◌≡◌, ◌≢◌, ◌⊎◌, ℕ, List, [], length, Bool, true, false, Result, Ok, Err}
 use Rattle.snap_disk.specs.Device.{Device}
 use Rattle.snap_disk.specs.declared.refusal.Refusal.{Refusal}
@@ -12,7 +12,7 @@ use Rattle.snap_slot.specs.declared.slot.Slot.{Slot}
 use Rattle.snap_slot.specs.declared.slot.Slot.TheVariants.{Closed, Open, Bad}
 use Rattle.snap_order.specs.declared.status.Status.TheVariants as status
 use Rattle.snap_file_commands.specs.Commands.{End, IsNewlyMade}
-use Rattle.snap_file_commands.specs.declared.failure.CommandFailure.TheVariants.{Refused, Output}
+use Rattle.snap_file_commands.specs.declared.fault.CommandFault.TheVariants.{Refused, Output}
 
 -- ---- what the file was
 
@@ -68,7 +68,7 @@ EndsFounding honest i n old new end = ⊥
 
 -- ---- on the way there
 
--- what reading the bytes says of them
+-- the bytes by the result of reading them
 abbrev pub SaysBlank : List ℕ → Result Bool Refusal → Type 0
 SaysBlank b (Ok true) = IsBlank b
 SaysBlank b (Ok false) = IsFormatted b
@@ -77,7 +77,7 @@ SaysBlank b (Err refusal.WrongFile) = length b ≢ FILE_LEN
 SaysBlank b (Err refusal.DeviceFailed) = Unit {0}
 SaysBlank b (Err why) = ⊥
 
--- of a formatted file
+-- the bytes of a formatted file by the result of opening it
 abbrev pub EndsKeeping : (honest : Type 0) (i n : ℕ) (old new : Device) → End → Type 0
 EndsKeeping honest i n old new (Ok s) = (s ≡ status.Done)
     × ((k : ℕ) × (v : List ℕ) × (honest → HasKept i n k v old new))

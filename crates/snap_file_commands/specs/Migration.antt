@@ -1,4 +1,4 @@
--- What a migration does to its devices, by how it ends.
+-- The effect of a migration on its devices, by how it ends.
 use Rattle.std.specs.Prelude.{◌≡◌, ◌≢◌, ◌⊎◌, ℕ, List, length, Result, Ok, Err}
 use Rattle.snap_disk.specs.Device.{Device, MayLeave}
 use Rattle.snap_disk.specs.declared.refusal.Refusal.{Refusal}
@@ -6,21 +6,21 @@ use Rattle.snap_disk.specs.declared.refusal.Refusal.TheVariants as refusal
 use Rattle.snap_slot.specs.declared.layout.TheConstants.{FILE_LEN}
 use Rattle.snap_slot.specs.Layout.{IsFileOf, IsFormatted, IsUnformatted}
 use Rattle.snap_segment.specs.Old.{OldHead, OldHolds}
-use Rattle.snap_segment.specs.Found.{IsNoOldOpening}
+use Rattle.snap_segment.specs.OldFound.{IsNoOldOpening}
 use Rattle.snap_segment.specs.Migration.{CountsFault}
 use Rattle.snap_segment.specs.declared.migration.Which.TheVariants.{Old, New}
 use Rattle.snap_order.specs.declared.status.Status.{Status}
 use Rattle.snap_order.specs.declared.status.Status.TheVariants as status
 use Rattle.snap_file_commands.specs.Commands.{IsNewlyMade, status_of}
-use Rattle.snap_file_commands.specs.declared.failure.CommandFailure.TheVariants.{Output, Refused}
-use Rattle.snap_file_commands.specs.declared.migration.MigrationFailure.{MigrationFailure}
-use Rattle.snap_file_commands.specs.declared.migration.MigrationFailure.TheVariants.{OfFile, Other}
+use Rattle.snap_file_commands.specs.declared.fault.CommandFault.TheVariants.{Output, Refused}
+use Rattle.snap_file_commands.specs.declared.migration.MigrationFault.{MigrationFault}
+use Rattle.snap_file_commands.specs.declared.migration.MigrationFault.TheVariants.{OfFile, Other}
 
 -- how a migration ends: with a status, or early
 abbrev pub MigrationEnd : Type 0
-MigrationEnd = Result Status MigrationFailure
+MigrationEnd = Result Status MigrationFault
 
-abbrev pub migration_status_of : MigrationFailure → Status
+abbrev pub migration_status_of : MigrationFault → Status
 migration_status_of (OfFile which why) = status.Refused
 migration_status_of (Other failure) = status_of failure
 
@@ -84,8 +84,8 @@ EndsMigration i n old_honest new_honest old new new' (Err (OfFile New why)) =
     × IsInTheWay i n old_honest new_honest old.bytes new.bytes why
 EndsMigration i n old_honest new_honest old new new' end = ⊥
 
--- what a crash during a migration may leave of the new file: what one before could leave, or an
--- unformatted file, or the whole new one with what the old file holds
+-- the new file after a crash during a migration: as a crash before could leave it, or unformatted, or the whole new one
+-- with the number and value of the old file
 abbrev pub MigrationLeaves : (i n : ℕ) (old new : Device) → List ℕ → Type 0
 MigrationLeaves i n old new b = MayLeave new b
     ⊎ ((k : ℕ) × (v : List ℕ) × OldHead old.bytes i n × OldHolds old.bytes k v

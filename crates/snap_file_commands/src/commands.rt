@@ -18,7 +18,7 @@ ghost use Rattle.snap_file_commands.specs.Effects.{AnyCrashLeaves, LeavesNoMore,
 ghost use Rattle.snap_file_commands.specs.Effects.{OrderKeeps, PutKeeps, StoreKeeps};
 ghost use Rattle.snap_order.specs.Order.{IsFileWithinLimits};
 
-use crate::CommandFailure;
+use crate::CommandFault;
 use crate::slot_value::print_slot;
 use snap_disk::{Disk, Refusal};
 use snap_history::MAX_VALUE_LEN;
@@ -29,18 +29,19 @@ use snap_stream::{read_up_to, write_whole};
 use std::alloc::{AllocError, Global};
 use std::io::{Read, Write};
 
-/// Does the order on its device, and returns how it ended. What the command prints goes to `writer`.
+/// Runs the command of the order on its device, and returns the device with how the command ended. Its output goes to
+/// `writer`.
 ///
-/// `put` reads its value first, and refuses one that is too long before it calls the device. Then come
-/// the refusals of the device as the segment meets them, and last a writer that fails: so a `put` whose
-/// line can't be written has stored its value.
+/// A `put` reads its value first, and refuses one that is too long before it calls the device. Then come the refusals
+/// of the device as the segment meets them, and last a writer that fails: so a `put` whose line can't be written has
+/// stored its value.
 pub fn act<D: Disk, R: Read, W: Write>(
     alloc: Global,
     order: &FileOrder<'_>,
     mut disk: D,
     reader: &mut R,
     writer: &mut W,
-) -> (D, Result<Status, CommandFailure>)
+) -> (D, Result<Status, CommandFault>)
     requires limits { IsFileWithinLimits order.now }
     requires headroom { D.failure_count disk < 2 ^ 64 - 1 }
     ensures honest { D.is_honest result.0 → D.is_honest disk }
@@ -90,7 +91,7 @@ pub(crate) fn format_file<D: Disk, W: Write>(
     index: u8,
     count: u8,
     writer: &mut W,
-) -> Result<Status, CommandFailure>
+) -> Result<Status, CommandFault>
     requires below { index < count }
     requires few { count ≤ MAX_COUNT }
     requires headroom { D.failure_count disk.old < 2 ^ 64 - 1 }
@@ -109,7 +110,7 @@ pub(crate) fn format_file<D: Disk, W: Write>(
     format(disk, index, count)?;
     match write_whole(writer, line.as_bytes()) {
         Ok(()) => Ok(Status::Done),
-        Err(error) => Err(CommandFailure::Output(error)),
+        Err(error) => Err(CommandFault::Output(error)),
     }
 }
 
@@ -121,7 +122,7 @@ fn put<D: Disk, R: Read, W: Write>(
     count: u8,
     reader: &mut R,
     writer: &mut W,
-) -> (D, Result<Status, CommandFailure>)
+) -> (D, Result<Status, CommandFault>)
     requires below { index < count }
     requires few { count ≤ MAX_COUNT }
     requires headroom { D.failure_count disk < 2 ^ 64 - 1 }
@@ -140,14 +141,14 @@ fn put<D: Disk, R: Read, W: Write>(
     let mut input = [0u8; MAX_VALUE_LEN + 1];
     let len = match read_up_to(reader, &mut input) {
         Ok(len) => len,
-        Err(error) => return (disk, Err(CommandFailure::Input(error))),
+        Err(error) => return (disk, Err(CommandFault::Input(error))),
     };
     if len > MAX_VALUE_LEN {
-        return (disk, Err(CommandFailure::Refused(Refusal::TooLong)));
+        return (disk, Err(CommandFault::Refused(Refusal::TooLong)));
     }
     let mut segment = match Segment::open(alloc, disk, index, count) {
         Ok(segment) => segment,
-        Err((why, disk)) => return (disk, Err(CommandFailure::Refused(why))),
+        Err((why, disk)) => return (disk, Err(CommandFault::Refused(why))),
     };
     let end = store(alloc, &mut segment, &input[..len], writer);
     (segment.into_device(), end)
@@ -159,7 +160,7 @@ fn store<D: Disk, W: Write>(
     segment: &mut Segment<D>,
     value: &[u8],
     writer: &mut W,
-) -> Result<Status, CommandFailure>
+) -> Result<Status, CommandFault>
     requires unfenced { segment.old.begun ≡ None }
     requires fits { IsShort value.now }
     ensures honest { D.is_honest segment.new.device → D.is_honest segment.old.device }
@@ -185,7 +186,7 @@ fn store<D: Disk, W: Write>(
     segment.store(value)?;
     match write_whole(writer, line.as_bytes()) {
         Ok(()) => Ok(Status::Done),
-        Err(error) => Err(CommandFailure::Unsaid { number, error }),
+        Err(error) => Err(CommandFault::Unsaid { number, error }),
     }
 }
 
@@ -196,7 +197,7 @@ fn get<D: Disk, W: Write>(
     index: u8,
     count: u8,
     writer: &mut W,
-) -> (D, Result<Status, CommandFailure>)
+) -> (D, Result<Status, CommandFault>)
     requires below { index < count }
     requires few { count ≤ MAX_COUNT }
     requires headroom { D.failure_count disk < 2 ^ 64 - 1 }
@@ -209,11 +210,11 @@ fn get<D: Disk, W: Write>(
 {
     let segment = match Segment::open(alloc, disk, index, count) {
         Ok(segment) => segment,
-        Err((why, disk)) => return (disk, Err(CommandFailure::Refused(why))),
+        Err((why, disk)) => return (disk, Err(CommandFault::Refused(why))),
     };
     match write_whole(writer, segment.value()) {
         Ok(()) => (segment.into_device(), Ok(Status::Done)),
-        Err(error) => (segment.into_device(), Err(CommandFailure::Output(error))),
+        Err(error) => (segment.into_device(), Err(CommandFault::Output(error))),
     }
 }
 
@@ -223,7 +224,7 @@ fn check_file<D: Disk, W: Write>(
     disk: &mut D,
     is_json: bool,
     writer: &mut W,
-) -> Result<Status, CommandFailure>
+) -> Result<Status, CommandFault>
     requires headroom { D.failure_count disk.old < 2 ^ 64 - 1 }
     ensures honest { D.is_honest disk.new → D.is_honest disk.old }
     ensures count { CountsEnd result (D.failure_count disk.old) (D.failure_count disk.new) }
@@ -240,7 +241,7 @@ fn check_file<D: Disk, W: Write>(
     };
     match write_whole(writer, &text) {
         Ok(()) => Ok(status),
-        Err(error) => Err(CommandFailure::Output(error)),
+        Err(error) => Err(CommandFault::Output(error)),
     }
 }
 

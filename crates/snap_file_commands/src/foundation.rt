@@ -1,9 +1,9 @@
 //! Makes the file of one segment of a folder, or leaves it if it is whole: what `init` does with each
 //! of its files.
 //!
-//! So `init` can be run again, also after a crash. A format takes any file without an open header. What is
-//! here leaves a file alone that has lost its header and still has a value, since nobody checks each file
-//! of a folder before `init` is run again.
+//! So `init` can be run again, also after a crash. The command `format` takes any file without an open header. `init`
+//! doesn't touch a file that has lost its header and still has a value, since nobody checks each file of a folder
+//! before `init` is run again.
 ghost use Rattle.std.specs.Prelude.{◌≡◌, ◌≢◌, ◌-◌, ◌^◌, ◌<◌, ◌≤◌, ◌↔◌, length, IsTrue};
 ghost use Rattle.snap_disk.specs.Device.{IsUnchanged};
 ghost use Rattle.snap_slot.specs.declared.layout.TheConstants.{FILE_LEN};
@@ -16,7 +16,7 @@ ghost use Rattle.snap_file_commands.specs.Foundation.{AreEmpty, EndsFounding, En
 ghost use Rattle.snap_file_commands.specs.Foundation.{IsBlank, IsEmptySlot, SaysBlank};
 ghost use Rattle.snap_file_commands.specs.Foundation.{refusal_of_formatted};
 
-use crate::CommandFailure;
+use crate::CommandFault;
 use crate::commands::format_file;
 use snap_disk::{Disk, Refusal};
 use snap_order::Status;
@@ -25,8 +25,8 @@ use snap_stream::write_whole;
 use std::alloc::Global;
 use std::io::Write;
 
-/// Makes the device the file of segment `index` of `count`, or leaves it if it is that already, with its
-/// number and value. Prints `formatted I of N`, or `kept I of N number K`.
+/// Makes the device the file of segment `index` of `count`, or keeps it with its number and value if it is that file
+/// already. Prints `formatted I of N`, or `kept I of N number K`.
 ///
 /// A file is made only if its header's gate is closed and no slot has a value, but that of a fresh file:
 /// one that was never formatted, or of which a format was cut off. Refused as `WrongFile` if the device has
@@ -39,7 +39,7 @@ pub fn found<D: Disk, W: Write>(
     index: u8,
     count: u8,
     writer: &mut W,
-) -> (D, Result<Status, CommandFailure>)
+) -> (D, Result<Status, CommandFault>)
     requires below { index < count }
     requires few { count ≤ MAX_COUNT }
     requires headroom { D.failure_count disk < 2 ^ 64 - 1 }
@@ -65,7 +65,7 @@ pub fn found<D: Disk, W: Write>(
             (disk, end)
         }
         Ok(false) => keep(alloc, disk, index, count, writer),
-        Err(why) => (disk, Err(CommandFailure::Refused(why))),
+        Err(why) => (disk, Err(CommandFault::Refused(why))),
     }
 }
 
@@ -114,7 +114,7 @@ fn keep<D: Disk, W: Write>(
     index: u8,
     count: u8,
     writer: &mut W,
-) -> (D, Result<Status, CommandFailure>)
+) -> (D, Result<Status, CommandFault>)
     requires below { index < count }
     requires few { count ≤ MAX_COUNT }
     requires headroom { D.failure_count disk < 2 ^ 64 - 1 }
@@ -126,16 +126,16 @@ fn keep<D: Disk, W: Write>(
 {
     let segment = match Segment::open(alloc, disk, index, count) {
         Ok(segment) => segment,
-        Err((why, disk)) => return (disk, Err(CommandFailure::Refused(of_formatted(why)))),
+        Err((why, disk)) => return (disk, Err(CommandFault::Refused(of_formatted(why)))),
     };
     let number = segment.number();
     let Ok(line) = format!(in alloc; "kept {index} of {count} number {number}\n") else {
-        let failure = CommandFailure::Refused(Refusal::NoMemory);
+        let failure = CommandFault::Refused(Refusal::NoMemory);
         return (segment.into_device(), Err(failure));
     };
     match write_whole(writer, line.as_bytes()) {
         Ok(()) => (segment.into_device(), Ok(Status::Done)),
-        Err(error) => (segment.into_device(), Err(CommandFailure::Output(error))),
+        Err(error) => (segment.into_device(), Err(CommandFault::Output(error))),
     }
 }
 

@@ -1,20 +1,20 @@
 //! The commands on files, over any device, reader and writer; the order and names of a folder's files.
 //!
-//! [`act`] does an order on its device (`specs/Commands.antt`), [`found`] makes a file of a folder or leaves
-//! it if it is whole (`specs/Foundation.antt`), and [`act_pair`] carries a file of the old format over to a
-//! new one (`specs/Migration.antt`). [`held_value`] reads a file for a dump (`specs/Contents.antt`), and
-//! [`load`] makes one of a dump's. `specs/Effects.antt` says which ends leave a device as it was. [`finish`]
-//! reports an end on standard error, and returns its status.
+//! [`act`] runs a command on one file (`specs/Commands.antt`): `format`, `put`, `get` or `check`. [`found`] makes one
+//! file for `init`, or keeps it if it is whole (`specs/Foundation.antt`). [`act_pair`] is `migrate`: it converts a file
+//! of the old format to a new file (`specs/Migration.antt`). [`held_value`] reads one file for `dump`
+//! (`specs/Contents.antt`), and [`load`] makes one file of a dump. `specs/Effects.antt` says which ends leave a device
+//! as it was. [`finish`] prints on standard error why a command ended early, and returns its status.
 //!
-//! [`order_files`] puts a folder's files in order by what their headers say, whatever they are called, or
-//! says what is wrong with them (`specs/SegmentOrder.antt`). [`sign_of_loss`] finds whether files that a
-//! folder lacks were lost. [`file_name`] has the names that `init` gives, and [`is_segment_name`] and
-//! [`is_further`] tell names apart (`specs/SegmentName.antt`).
+//! [`order_files`] sorts a folder's files by their headers, whatever their names, or returns what is wrong with them
+//! (`specs/SegmentOrder.antt`). [`sign_of_loss`] finds whether missing files of a folder were lost. [`file_name`] is
+//! the name that `init` gives to a segment's file; [`is_segment_name`] and [`is_further`] judge other names
+//! (`specs/SegmentName.antt`).
 #![tactic(auto)]
 
 mod commands;
 mod contents;
-mod failure;
+mod fault;
 mod foundation;
 mod loads;
 mod loss;
@@ -27,11 +27,11 @@ mod slot_value;
 
 pub use commands::act;
 pub use contents::held_value;
-pub use failure::{CommandFailure, finish};
+pub use fault::{CommandFault, finish};
 pub use foundation::found;
 pub use loads::{LoadedFile, load};
 pub use loss::sign_of_loss;
-pub use migration::{Causes, MigrationFailure, act_pair};
+pub use migration::{Causes, MigrationFault, act_pair};
 pub use remedy::words_of_format;
 pub use segment_name::{file_name, is_further, is_segment_name};
 pub use segment_order::{FolderFault, SegmentPlace, order_files};

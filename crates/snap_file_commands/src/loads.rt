@@ -8,7 +8,7 @@ ghost use Rattle.snap_segment.specs.Creation.{IsMadeOrLeft};
 ghost use Rattle.snap_file_commands.specs.Commands.{CountsEnd, EndsMaking};
 ghost use Rattle.snap_file_commands.specs.Effects.{AnyCrashLeaves, LeavesNoMore, MakingKeeps};
 
-use crate::CommandFailure;
+use crate::CommandFault;
 use snap_disk::Disk;
 use snap_order::Status;
 use snap_segment::create;
@@ -16,7 +16,7 @@ use snap_stream::write_whole;
 use std::alloc::Global;
 use std::io::Write;
 
-/// A file that is to be made: that of a segment with a number and a value.
+/// A file to make: the segment's place, number and value.
 #[derive(Clone, Copy)]
 pub struct LoadedFile<'v> {
     /// Which segment it is: below `count`.
@@ -39,7 +39,7 @@ pub fn load<D: Disk, W: Write>(
     of: &LoadedFile<'_>,
     disk: &mut D,
     writer: &mut W,
-) -> Result<Status, CommandFailure>
+) -> Result<Status, CommandFault>
     requires below { of.now.index < of.now.count }
     requires few { of.now.count ≤ MAX_COUNT }
     requires number { IsNumber of.now.number }
@@ -66,6 +66,6 @@ pub fn load<D: Disk, W: Write>(
     create(disk, index, count, number, of.value)?;
     match write_whole(writer, line.as_bytes()) {
         Ok(()) => Ok(Status::Done),
-        Err(error) => Err(CommandFailure::Output(error)),
+        Err(error) => Err(CommandFault::Output(error)),
     }
 }

@@ -1,62 +1,62 @@
-//! Carries a file of the old format over to a new one, over any two devices and any writer.
+//! Converts a file of the old format to a new file, over any two devices and any writer.
 //!
 //! `specs/Migration.antt` says what each end means for both devices.
 ghost use Rattle.std.specs.Prelude.{◌≡◌, ◌≢◌, ◌<◌, ◌≤◌, ◌-◌, ◌^◌, length};
 ghost use Rattle.snap_slot.specs.declared.layout.TheConstants.{FILE_LEN};
-ghost use Rattle.snap_segment.specs.layout.TheConstants.{OLD_FILE_LEN};
+ghost use Rattle.snap_segment.specs.old_layout.TheConstants.{OLD_FILE_LEN};
 ghost use Rattle.snap_order.specs.Order.{IsPlace};
 ghost use Rattle.snap_file_commands.specs.Effects.{AnyCrashLeaves, LeavesNoMore};
 ghost use Rattle.snap_file_commands.specs.Migration.{CountsMigration, EndsMigration};
 ghost use Rattle.snap_file_commands.specs.Migration.{MigrationKeeps, MigrationLeaves};
 ghost use Rattle.snap_file_commands.specs.Migration.{MigrationReads, migration_status_of};
 
-use crate::CommandFailure;
+use crate::CommandFault;
 use crate::remedy::{of_new, of_old};
 use crate::second_line::line_behind_role;
 use itoa::Buffer;
 use snap_disk::{Disk, Refusal};
-use snap_order::{Exit, Migration, Status};
+use snap_order::{Exit, MigrateOptions, Status};
 use snap_segment::{Which, migrate};
-use snap_stream::{Cause, complain_twice, write_whole};
+use snap_stream::{SystemReason, complain_twice, write_whole};
 use std::alloc::{AllocError, Global};
 use std::io::Write;
 
-/// What follows the name of the old file, if it was refused.
+/// Follows the name of the old file in a message, if it was refused.
 const AS_OLD: &str = "refused as the old file: ";
 
-/// What follows the name of the new file.
+/// Follows the name of the new file in a message, if it was refused.
 const AS_NEW: &str = "refused as the new file: ";
 
 /// Why a migration ended early.
 #[derive(Drop)]
-pub enum MigrationFailure {
+pub enum MigrationFault {
     /// One of its files was refused.
     OfFile { which: Which, why: Refusal },
     /// Another failure of a command.
-    Other(CommandFailure),
+    Other(CommandFault),
 }
 
-/// What the system said of each file's device, if it failed.
+/// The system's reason for the failure of each file's device.
 #[derive(Drop)]
 pub struct Causes<'a, C> {
     pub old: &'a C,
     pub new: &'a C,
 }
 
-impl MigrationFailure {
-    /// Writes to standard error why the migration ended. After the line of a refused file a second one
-    /// names the file and says what to do, and of a device that failed what the system said.
-    pub fn report<C: Cause, E: Write>(
+impl MigrationFault {
+    /// Writes to standard error why the migration ended. After the line of a refused file a second line names the file
+    /// and says what to do; of a device that failed it has the system's reason.
+    pub fn report<C: SystemReason, E: Write>(
         &self,
         alloc: Global,
-        order: &Migration<'_>,
+        order: &MigrateOptions<'_>,
         causes: &Causes<'_, C>,
         errors: &mut E,
     ) -> Exit
         ensures { result.status ≡ migration_status_of self.now }
     {
         match self {
-            MigrationFailure::OfFile { which, why } => {
+            MigrationFault::OfFile { which, why } => {
                 let why = *why;
                 let more = match which {
                     Which::Old => {
@@ -72,23 +72,23 @@ impl MigrationFailure {
                 let status = Status::Refused;
                 Exit { status, is_told }
             }
-            MigrationFailure::Other(failure) => failure.report(alloc, errors),
+            MigrationFault::Other(failure) => failure.report(alloc, errors),
         }
     }
 }
 
-/// Carries the old file over to the new one, and returns how that ended. `migrated I of N number K` is
-/// printed once the new file holds number K and its value for good.
+/// Converts the old file to the new one, and returns how that ended. `migrated I of N number K` is printed once the new
+/// file holds number K and its value for good.
 ///
 /// Faults are found in this order: memory that runs out, then the refusals of the files (both lengths,
 /// the old file's contents, whether the new one is formatted), and last a writer that fails.
 pub fn act_pair<O: Disk, N: Disk, W: Write>(
     alloc: Global,
-    order: &Migration<'_>,
+    order: &MigrateOptions<'_>,
     old: O,
     new: N,
     writer: &mut W,
-) -> (O, N, Result<Status, MigrationFailure>)
+) -> (O, N, Result<Status, MigrationFault>)
     requires place { IsPlace order.now.index order.now.count }
     requires old_headroom { O.failure_count old < 2 ^ 64 - 1 }
     requires new_headroom { N.failure_count new < 2 ^ 64 - 1 }
@@ -126,19 +126,19 @@ pub fn act_pair<O: Disk, N: Disk, W: Write>(
     let (index, count) = (order.index, order.count);
     // The line's memory is taken first, so that the files stay as they are if it runs out.
     let Ok(mut line) = line_for(alloc, index, count) else {
-        let failure = CommandFailure::Refused(Refusal::NoMemory);
-        return (old, new, Err(MigrationFailure::Other(failure)));
+        let failure = CommandFault::Refused(Refusal::NoMemory);
+        return (old, new, Err(MigrationFault::Other(failure)));
     };
     let number = match migrate(&mut old, &mut new, index, count) {
         Ok(number) => number,
-        Err((which, why)) => return (old, new, Err(MigrationFailure::OfFile { which, why })),
+        Err((which, why)) => return (old, new, Err(MigrationFault::OfFile { which, why })),
     };
     end_line(&mut line, number);
     match write_whole(writer, line.as_bytes()) {
         Ok(()) => (old, new, Ok(Status::Done)),
         Err(error) => {
-            let failure = CommandFailure::Output(error);
-            (old, new, Err(MigrationFailure::Other(failure)))
+            let failure = CommandFault::Output(error);
+            (old, new, Err(MigrationFault::Other(failure)))
         }
     }
 }

@@ -1,9 +1,9 @@
-//! What is wrong with a file that was refused, and what to do, in words. Those that a server prints too are
+//! The advice about a file that was refused: what is wrong with it, and what to do. Advice that a server prints too is
 //! in `snap_order`.
 
 use snap_disk::Refusal;
 use snap_order::{
-    FileOrder, Migration, empty_remedy, format_command, old_format_remedy, unformatted_remedy,
+    FileOrder, MigrateOptions, empty_remedy, format_command, old_format_remedy, unformatted_remedy,
 };
 use snap_segment::OLD_FILE_LEN;
 use snap_slot::FILE_LEN;
@@ -70,7 +70,7 @@ pub(crate) fn of_formatted(alloc: Global, file: &str) -> Result<String, AllocErr
 /// For a migration's old file. No command can make it again.
 pub(crate) fn of_old(
     alloc: Global,
-    order: &Migration<'_>,
+    order: &MigrateOptions<'_>,
     why: Refusal,
 ) -> Result<String, AllocError> {
     let (index, count) = (order.index, order.count);
@@ -88,7 +88,7 @@ pub(crate) fn of_old(
 /// For a migration's new file.
 pub(crate) fn of_new(
     alloc: Global,
-    order: &Migration<'_>,
+    order: &MigrateOptions<'_>,
     why: Refusal,
 ) -> Result<String, AllocError> {
     match why {

@@ -1,14 +1,14 @@
-//! The line after that of a refusal: which file it was, what the system said of it, and what to do.
+//! The line after that of a refusal: which file it was, the system's reason, and what to do.
 
 use crate::remedy;
 use snap_disk::Refusal;
 use snap_order::FileOrder;
-use snap_stream::Cause;
+use snap_stream::SystemReason;
 use std::alloc::{AllocError, Global};
 
 /// The line after that of a refusal of the order's file, which has `len` bytes. It is empty if the
 /// refusal isn't of the file. `None` means that memory ran out.
-pub(crate) fn line_behind<C: Cause>(
+pub(crate) fn line_behind<C: SystemReason>(
     alloc: Global,
     order: &FileOrder<'_>,
     len: u64,
@@ -27,9 +27,9 @@ pub(crate) fn line_behind<C: Cause>(
     whole_line(alloc, file, "", text)
 }
 
-/// The line after that of a refusal of one of a migration's files: the file, its role in the migration,
-/// and the text, or what the system said of a device that failed. `None` means that memory ran out.
-pub(crate) fn line_behind_role<C: Cause>(
+/// The line after that of a refusal of one of a migration's files: the file, its role in the migration, and the text,
+/// or the system's reason for a device that failed. `None` means that memory ran out.
+pub(crate) fn line_behind_role<C: SystemReason>(
     alloc: Global,
     file: &str,
     role: &str,
@@ -43,8 +43,8 @@ pub(crate) fn line_behind_role<C: Cause>(
     }
 }
 
-/// What to do about a device that failed, after what the system said of it, if that is known.
-fn failed_text<C: Cause>(alloc: Global, cause: &C) -> Result<String, AllocError> {
+/// The advice about a device that failed, after the system's reason, if that is known.
+fn failed_text<C: SystemReason>(alloc: Global, cause: &C) -> Result<String, AllocError> {
     match cause.text(alloc) {
         Some(said) => format!(in alloc; "{said}: look after its disk, and try again"),
         None => String::from_str(

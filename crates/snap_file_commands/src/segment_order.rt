@@ -1,12 +1,12 @@
 //! Which file of a folder is which segment's.
-ghost use Rattle.std.specs.Prelude.{◌≡◌, ◌<◌, ◌≤◌, All, IfOk, IfErr, length};
+ghost use Rattle.std.specs.Prelude.{◌≡◌, ◌+◌, ◌<◌, ◌≤◌, All, IfOk, IfErr, length};
 ghost use Rattle.snap_history.specs.declared.limits.TheConstants.{MAX_COUNT};
-ghost use Rattle.snap_file_commands.specs.SegmentOrder.{IsNameable, IsOneOf, IsOrderOf, IsSeating};
+ghost use Rattle.snap_file_commands.specs.SegmentOrder.{IsFaultOf, IsOneOf, IsOrderOf, IsSeating};
 
 use snap_history::MAX_COUNT;
 use std::alloc::{AllocError, Global};
 
-/// What a file's header says: whose it is among the segments of one server.
+/// The place of a file's segment among those of one server, by its header.
 #[derive(Clone, Copy, Debug, PartialEq, Eq)]
 pub struct SegmentPlace {
     /// Which segment: below `count` in a header that is right.
@@ -21,13 +21,13 @@ pub struct SegmentPlace {
 pub enum FolderFault {
     /// There is no file.
     Empty,
-    /// The file says no place: its index isn't below its count, or the count is above [`MAX_COUNT`].
+    /// The file's header has no valid place: its index isn't below its count, or the count is above [`MAX_COUNT`].
     NoPlace { file: usize },
-    /// The file says another count than the first one does.
+    /// The file's header has another count than that of the first file.
     OtherCount { file: usize },
-    /// Both files say that they are the same segment's.
+    /// Both files are of the same segment, by their headers.
     Twice { first: usize, second: usize },
-    /// No file says that it is this segment's, of as many as each file says.
+    /// This segment has no file.
     Missing { index: u8, count: u8 },
     /// A growth of memory was refused.
     NoMemory,
@@ -47,27 +47,27 @@ impl From<AllocError> for FolderFault {
 /// The files in order of segment: entry I of the answer is the file whose header says segment I. `places`
 /// has what the header of each file says.
 ///
-/// Of several faults it returns one. First come those of one file, in the order of the list; then files
-/// that are there twice; then the first segment that is missing. No clause says that a fault is true of
-/// the list.
+/// Of several faults it returns one: first those of single files, in the order of the list; then two files of one
+/// segment; then the first segment that is missing. Each fault is true of the list, so complete files are always put in
+/// order, unless memory runs out.
 pub fn order_files(alloc: Global, places: &[SegmentPlace]) -> Result<Vec<usize>, FolderFault>
     ensures order { IfOk result (λ order. IsOrderOf places.now order.items) }
     ensures within { IfOk result (λ order. All (λ file. file < length places.now) order.items) }
     ensures some { IfOk result (λ order. 0 < length order.items) }
     ensures few { IfOk result (λ order. length order.items ≤ MAX_COUNT) }
-    ensures fault { IfErr result IsNameable }
+    ensures fault { IfErr result (IsFaultOf places.now) }
 {
     let count = common_count(places)?;
     let seats = seat_files(alloc, places, count)?;
     seated(alloc, places, &seats, count)
 }
 
-/// How many segments there are, as each file says.
+/// The number of segments, which is the same in each file's header.
 fn common_count(places: &[SegmentPlace]) -> Result<u8, FolderFault>
     ensures count { IfOk result (λ count. All (IsOneOf count) places.now) }
-    ensures some { IfOk result (λ count. 0 < count) }
+    ensures some { IfOk result (λ count. (0 < count) × (0 < length places.now)) }
     ensures few { IfOk result (λ count. count ≤ MAX_COUNT) }
-    ensures fault { IfErr result IsNameable }
+    ensures fault { IfErr result (IsFaultOf places.now) }
 {
     let Some(first) = places.first() else {
         return Err(FolderFault::Empty);
@@ -83,7 +83,7 @@ fn common_count(places: &[SegmentPlace]) -> Result<u8, FolderFault>
     Ok(first.count)
 }
 
-/// The file of each segment, where there is one.
+/// The file of each segment, if it has one.
 fn seat_files(
     alloc: Global,
     places: &[SegmentPlace],
@@ -92,7 +92,7 @@ fn seat_files(
     requires { All (IsOneOf count) places.now }
     ensures seats { IfOk result (λ seats. IsSeating places.now count (length places.now)
         seats.items) }
-    ensures fault { IfErr result IsNameable }
+    ensures fault { IfErr result (IsFaultOf places.now) }
 {
     let mut seats = vec![in alloc; None; usize::from(count)]?;
     for (second, place) in places.iter().enumerate() {
@@ -105,18 +105,20 @@ fn seat_files(
     Ok(seats)
 }
 
-/// The files of the seats, where none is empty.
+/// The files in order, if each segment has one.
 fn seated(
     alloc: Global,
     places: &[SegmentPlace],
     seats: &[Option<usize>],
     count: u8,
 ) -> Result<Vec<usize>, FolderFault>
+    requires same { All (IsOneOf count) places.now }
     requires few { count ≤ MAX_COUNT }
+    requires some { 0 < length places.now }
     requires seats { IsSeating places.now count (length places.now) seats.now }
     ensures order { IfOk result (λ order. IsOrderOf places.now order.items) }
     ensures size { IfOk result (λ order. length order.items ≡ count) }
-    ensures fault { IfErr result IsNameable }
+    ensures fault { IfErr result (IsFaultOf places.now) }
 {
     let mut order = Vec::with_capacity(alloc, seats.len())?;
     for index in 0..count {

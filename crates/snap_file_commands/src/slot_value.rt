@@ -8,7 +8,7 @@ ghost use Rattle.snap_history.specs.declared.limits.TheConstants.{MAX_VALUE_LEN}
 ghost use Rattle.snap_file_commands.specs.Commands.{CountsEnd, EndsSlot, HasBadBody, HasBody, IsNoCheck};
 ghost use Rattle.snap_file_commands.specs.Effects.{LeavesNoMore};
 
-use crate::CommandFailure;
+use crate::CommandFault;
 use snap_disk::{Disk, Refusal};
 use snap_order::Status;
 use snap_slot::{
@@ -26,7 +26,7 @@ pub(crate) fn print_slot<D: Disk, W: Write>(
     slot: u8,
     disk: &mut D,
     writer: &mut W,
-) -> Result<Status, CommandFailure>
+) -> Result<Status, CommandFault>
     requires slot { slot < SLOT_COUNT }
     requires headroom { D.failure_count disk.old < 2 ^ 64 - 1 }
     ensures honest { D.is_honest disk.new → D.is_honest disk.old }
@@ -42,12 +42,12 @@ pub(crate) fn print_slot<D: Disk, W: Write>(
         Ok(value) => value,
         Err(flaw) => {
             let file = String::from_str(alloc, file)?;
-            return Err(CommandFailure::NoValue { file, slot, flaw });
+            return Err(CommandFault::NoValue { file, slot, flaw });
         }
     };
     match write_whole(writer, value) {
         Ok(()) => Ok(Status::Done),
-        Err(error) => Err(CommandFailure::Output(error)),
+        Err(error) => Err(CommandFault::Output(error)),
     }
 }
 

@@ -1,5 +1,6 @@
 -- The first frame of the bytes is unique.
-use Rattle.std.proofs.Common.{◌≡◌, ◌≢◌, ℕ, List, ◌++◌, [], length, Option, Some, None, Result, Ok, Err, inl, inr, refl, sym, ◌∙◌, ap}
+use Rattle.std.proofs.Common.{◌≡◌, ◌≢◌, ℕ, List, ◌++◌, [], length, Option, Some, None, Result, Ok, Err, inl, inr}
+use Rattle.std.proofs.Common.{refl, sym, ◌∙◌, ap}
 use Rattle.std.proofs.Common.{arith, append_assoc, append-nil, length-append, take, drop, take_at, drop_at}
 use Rattle.std.specs.Int.{w32, to_be_bytes}
 use Rattle.std.specs.declared.io.Error.{Error}
@@ -8,7 +9,8 @@ use Rattle.tokio_util.specs.declared.codec.length_delimited.LengthDelimitedCodec
 use Rattle.tokio_util.specs.declared.codec.length_delimited.DecodeState.{DecodeState}
 use Rattle.tokio_util.specs.declared.codec.length_delimited.DecodeState.TheVariants.{Head, Data}
 use Rattle.tokio_util.specs.Codec.Next.{DecodesAtEnd}
-use Rattle.tokio_util.specs.Codec.LengthDelimited.{Cut, frame, too_big, overflows, unfinished, cut, Answers, AnswersLast, AnswersAtEnd}
+use Rattle.tokio_util.specs.Codec.LengthDelimited.{Cut, frame, too_big, overflows, unfinished, cut, Answers}
+use Rattle.tokio_util.specs.Codec.LengthDelimited.{AnswersLast, AnswersAtEnd}
 use Rattle.tokio_util.specs.Codec.LengthDelimited.{gives_frames}
 use Rattle.snap_frame.specs.Messages as messages
 use Rattle.snap_frame.specs.Stream.{HasFrame, HasLongLength, pending, pending_in, Ready, IsBytes, NoFrameBeginsAnother}

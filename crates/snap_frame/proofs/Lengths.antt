@@ -6,7 +6,8 @@ use Rattle.snap_frame.specs.declared.entries.SegmentStatus.{SegmentStatus}
 use Rattle.snap_frame.specs.declared.named.NamedValue.{NamedValue}
 use Rattle.snap_frame.specs.declared.reply.Reply.{Reply}
 use Rattle.snap_frame.specs.declared.reply.Reply.TheVariants.{Stored, Snapshot, Status, Part, Refused}
-use Rattle.snap_frame.specs.Messages.{max_payload, longest_entry, value_bytes, named_bytes, status_bytes, IsValue, IsNamedValue, IsStatus}
+use Rattle.snap_frame.specs.Messages.{max_payload, longest_entry, value_bytes, named_bytes, status_bytes, IsValue}
+use Rattle.snap_frame.specs.Messages.{IsNamedValue, IsStatus}
 use Rattle.snap_frame.specs.Messages.{AreEntries, says, IsInLimits}
 
 -- entries of at most `longest_entry` bytes each

@@ -1,5 +1,6 @@
 -- Frames, and the payloads of requests and replies (docs/FORMATS.md, "Frames and messages").
-use Rattle.std.specs.Prelude.{◌≡◌, ℕ, ◌+◌, ◌^◌, ◌<◌, ◌≤◌, Bool, true, false, List, [], ◌∷◌, ◌++◌, length, slice_get, flat_map, All, Some}
+use Rattle.std.specs.Prelude.{◌≡◌, ℕ, ◌+◌, ◌^◌, ◌<◌, ◌≤◌, Bool, true, false, List, [], ◌∷◌, ◌++◌, length, slice_get}
+use Rattle.std.specs.Prelude.{flat_map, All, Some}
 use Rattle.std.specs.Int.{w16, w32, w64, to_be_bytes}
 use Rattle.snap_disk.specs.Refusal.{code_of}
 use Rattle.snap_history.specs.Limits.{IsNumber, IsShort}

@@ -1,7 +1,8 @@
 -- The state of a feed, and the results of its calls.
 use Rattle.bytes.specs.Filled.{Filled}
 use Rattle.tokio_util.specs.Codec.LengthDelimited.{codec_layout}
-use Rattle.std.specs.Prelude.{◌≡◌, ℕ, get_or, ◌≤◌, ◌<◌, ◌^◌, ◌⊎◌, List, [], ◌++◌, length, Option, Some, None, Result, Ok, Err}
+use Rattle.std.specs.Prelude.{◌≡◌, ℕ, get_or, ◌≤◌, ◌<◌, ◌^◌, ◌⊎◌, List, [], ◌++◌, length, Option, Some, None}
+use Rattle.std.specs.Prelude.{Result, Ok, Err}
 use Rattle.std.specs.Int.{w32, to_be_bytes}
 use Rattle.tokio_util.specs.declared.codec.length_delimited.LengthDelimitedCodec.{LengthDelimitedCodec}
 use Rattle.tokio_util.specs.declared.codec.length_delimited.DecodeState.{DecodeState}

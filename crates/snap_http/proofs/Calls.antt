@@ -1,4 +1,4 @@
--- Calls of a service, one after another.
+-- Requests answered by a service, one after another.
 use Rattle.std.proofs.Common.{ℕ, List, [], ◌∷◌, ◌++◌, refl, subst}
 use Rattle.http.specs.declared.request.Request.{Request}
 use Rattle.http_server.specs.declared.response.Response.{Response}
@@ -12,12 +12,12 @@ module _ {S : Type 0} (answers : S → Request (List ℕ) → Response → S →
   chain_joins old between new (x ∷ xs) ys (next, answer, rest) chain =
       (next, answer, chain_joins next between new xs ys rest chain)
 
-  -- more calls after those that were answered
+  -- more requests were answered after the first ones
   pub answered_joins : (old between new : S) → Answered answers old between → Answered answers between new
       → Answered answers old new
   answered_joins old between new (xs, first) (ys, then) =
       (xs ++ ys, chain_joins old between new xs ys first then)
 
-  -- no call
+  -- no request was answered
   pub answered_none : (s : S) → Answered answers s s
   answered_none s = ([], refl)

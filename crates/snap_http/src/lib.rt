@@ -1,20 +1,20 @@
 //! The HTTP server of `--http`: serves the connections of browsers and scrapers on one thread, by
-//! an [`http_server::Service`].
+//! an [`http_server::Service`]. Begin with [`HttpServer`] (server.rt).
 //!
-//! [`Site`] owns a TCP listener and at most [`MAX_GUESTS`] connections. The crate `http_server`
-//! reads requests and encodes responses; this one moves the bytes and decides how long a connection
-//! stays. A peer that sends nothing, reads nothing or sends no HTTP occupies one of the places for
-//! at most some seconds, and blocks no other peer.
+//! An [`HttpServer`] owns a TCP listener and at most [`MAX_CONNECTIONS`] connections. The crate
+//! `http_server` reads requests and encodes responses; this one moves the bytes, and closes
+//! connections without progress. A peer that sends nothing, reads nothing or sends no HTTP is
+//! closed within seconds, and blocks no other peer.
 #![tactic(auto)]
 
 mod beat;
-mod bell;
-mod callers;
-mod guest;
-mod guests;
-mod site;
+mod connection;
+mod connections;
+mod listener;
+mod server;
+mod stop;
 
 pub use beat::Beat;
-pub use bell::Stop;
-pub use guests::MAX_GUESTS;
-pub use site::Site;
+pub use connections::MAX_CONNECTIONS;
+pub use server::HttpServer;
+pub use stop::StopHandle;

@@ -19,7 +19,8 @@ bytes_tokens bytes = if is_utf8 bytes then key (codes "text") ∷ string bytes �
 
 -- the beginning of segment i's object
 abbrev pub head_tokens : ℕ → ℕ → List Token
-head_tokens i k = begin_object ∷ key (codes "segment") ∷ number (decimal i) ∷ key (codes "number") ∷ number (decimal k) ∷ []
+head_tokens i k = begin_object ∷ key (codes "segment") ∷ number (decimal i) ∷ key (codes "number") ∷ number (decimal k)
+    ∷ []
 
 -- the object of segment i's value
 abbrev pub entry_tokens : (i k : ℕ) → List ℕ → List Token

@@ -1,5 +1,6 @@
 -- The answer of a scan is the memory of one moment.
-use Rattle.std.proofs.Common.{◌≡◌, ℕ, inl, inr, ◌+◌, ◌-◌, ◌^◌, ◌<◌, ◌≤◌, List, [], length, map, All, Some, slice_get, get_or, ap, sym, subst, ◌∙◌, arith}
+use Rattle.std.proofs.Common.{◌≡◌, ℕ, inl, inr, ◌+◌, ◌-◌, ◌^◌, ◌<◌, ◌≤◌, List, [], length, map, All, Some}
+use Rattle.std.proofs.Common.{slice_get, get_or, ap, sym, subst, ◌∙◌, arith}
 use Rattle.std.proofs.lemmas.Option.{same_Some, slice_get-get_or, slice_get-map}
 use Rattle.std.proofs.lemmas.List.{length-map}
 use Rattle.std.specs.Option.{option_map}
@@ -14,7 +15,8 @@ use Rattle.snap_register.specs.Seat.{Known, looked, own_of, number_in, value_in,
 use Rattle.snap_register.specs.Rule.{segments}
 use Rattle.snap_scan.specs.Sets.{Names, named, size}
 use Rattle.snap_scan.proofs.Sets.{at_named, at_some, at_below, all_at, all_size}
-use Rattle.snap_memory.specs.Scans.{BeginsFresh, IsCleanScan, IsBorrowedScan, IsScan, IsSnapshot, IsPart, HasPart, AreLooked, IsSetOf, all_of}
+use Rattle.snap_memory.specs.Scans.{BeginsFresh, IsCleanScan, IsBorrowedScan, IsScan, IsSnapshot, IsPart, HasPart}
+use Rattle.snap_memory.specs.Scans.{AreLooked, IsSetOf, all_of}
 use Rattle.snap_history.specs.Limits.{IsShort}
 use Rattle.snap_scan.specs.Values.{pair_of}
 use Rattle.snap_scan.specs.declared.segment_value.SegmentValue.{SegmentValue}

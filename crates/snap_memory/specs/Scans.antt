@@ -4,7 +4,8 @@ use Rattle.snap_history.specs.History.{Update, IsBeginning}
 use Rattle.snap_register.specs.Rule.{segments}
 use Rattle.snap_disk.specs.declared.refusal.Refusal.{Refusal}
 use Rattle.snap_disk.specs.declared.refusal.Refusal.TheVariants.{NoMemory, Worn}
-use Rattle.snap_register.specs.Seat.{Known, Grows, looked, number_in, value_in, HasFoundUpdate, IsMemory, IsMemoryOf, IsValue}
+use Rattle.snap_register.specs.Seat.{Known, Grows, looked, number_in, value_in, HasFoundUpdate, IsMemory}
+use Rattle.snap_register.specs.Seat.{IsMemoryOf, IsValue}
 use Rattle.snap_scan.specs.Sets.{Names, IsAt, size}
 use Rattle.snap_register.specs.declared.view.View.{View}
 use Rattle.snap_register.specs.declared.view.View.TheVariants.{Collected, Borrowed}

@@ -3,7 +3,8 @@ ghost use Rattle.std.specs.Prelude.{◌≡◌, ℕ, ◌<◌, ◌≤◌, length, 
 ghost use Rattle.snap_register.specs.Rule.{segments};
 ghost use Rattle.snap_register.specs.Seat.{Grows, IsBelow, looked};
 ghost use Rattle.snap_scan.specs.Sets.{Names, size};
-ghost use Rattle.snap_memory.specs.Scans.{IsScan, IsSnapshot, HasPart, KeepsOthers, IsSetOf, HasLooks, CanScan, AreLooked};
+ghost use Rattle.snap_memory.specs.Scans.{IsScan, IsSnapshot, HasPart, KeepsOthers, IsSetOf, HasLooks, CanScan};
+ghost use Rattle.snap_memory.specs.Scans.{AreLooked};
 ghost use Rattle.snap_memory.specs.Scans.{TakesLooks, TakesLooksOf};
 
 use snap_register::{Looker, SnapshotBuf, View};

@@ -8,7 +8,8 @@ ghost use Rattle.snap_register.specs.Seat.{Grows, Meets, IsBelow, AreTogether, n
 ghost use Rattle.snap_scan.specs.Looks.{most_looks};
 ghost use Rattle.snap_scan.specs.Sets.{size};
 ghost use Rattle.snap_scan.specs.Values.{pair_of};
-ghost use Rattle.snap_memory.specs.Scans.{IsSnapshot, IsPart, HasPart, KeepsOthers, IsSetOf, HasLooks, CanScan, TakesLooks};
+ghost use Rattle.snap_memory.specs.Scans.{IsSnapshot, IsPart, HasPart, KeepsOthers, IsSetOf, HasLooks, CanScan};
+ghost use Rattle.snap_memory.specs.Scans.{TakesLooks};
 ghost use Rattle.snap_memory.specs.Scans.{TakesLooksOf, MayRefuse};
 ghost use Rattle.snap_disk.specs.declared.refusal.Refusal.{Refusal};
 

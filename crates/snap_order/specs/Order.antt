@@ -7,17 +7,18 @@ use Rattle.snap_order.specs.Limits.{MAX_COUNT, MAX_SCANNERS, MAX_TRIES, MAX_UPDA
 use Rattle.snap_order.specs.declared.order.Order.{Order}
 use Rattle.snap_order.specs.declared.order.Order.TheVariants as order
 use Rattle.snap_order.specs.declared.order.FileOrder.{FileOrder}
-use Rattle.snap_order.specs.declared.order.Serving.{Serving}
-use Rattle.snap_order.specs.declared.order.Calling.{Calling}
-use Rattle.snap_order.specs.declared.order.Dumping.{Dumping}
-use Rattle.snap_order.specs.declared.order.Loading.{Loading}
-use Rattle.snap_order.specs.declared.order.Watching.{Watching}
-use Rattle.snap_order.specs.declared.order.Layout.TheVariants.{Lines}
-use Rattle.snap_order.specs.declared.order.Question.{Question}
-use Rattle.snap_order.specs.declared.order.Question.TheVariants as question
+use Rattle.snap_order.specs.declared.order.ServeOptions.{ServeOptions}
+use Rattle.snap_order.specs.declared.order.CallOptions.{CallOptions}
+use Rattle.snap_order.specs.declared.order.DumpOptions.{DumpOptions}
+use Rattle.snap_order.specs.declared.order.LoadOptions.{LoadOptions}
+use Rattle.snap_order.specs.declared.order.WatchOptions.{WatchOptions}
+use Rattle.snap_order.specs.declared.order.OutputFormat.TheVariants.{Lines}
+use Rattle.snap_order.specs.declared.order.CallRequest.{CallRequest}
+use Rattle.snap_order.specs.declared.order.CallRequest.TheVariants as question
 use Rattle.snap_order.specs.declared.order.Source.{Source}
 use Rattle.snap_order.specs.declared.order.Source.TheVariants as source
-use Rattle.snap_order.specs.declared.order.TheConstants.{MAX_ADDRESSES, MAX_CLIENTS, MAX_EVERY, MAX_IDLE, MAX_TIMEOUT, MODE_BITS}
+use Rattle.snap_order.specs.declared.order.TheConstants.{MAX_ADDRESSES, MAX_CLIENTS, MAX_EVERY, MAX_IDLE}
+use Rattle.snap_order.specs.declared.order.TheConstants.{MAX_TIMEOUT, MODE_BITS}
 use Rattle.snap_order.specs.declared.order.FileOrder.TheVariants.{Format, Put, Get, Check, Slot}
 
 -- segment `index` is one of `count`, and a server can have `count` segments
@@ -38,7 +39,7 @@ IsOneTo most n = (1 ≤ n) × (n ≤ most)
 
 -- its addresses and scanners are at least one and within their limits, and so is each limit that is
 -- given
-pub record KeepsLimits (s : Serving) : Type 0 where
+pub record KeepsLimits (s : ServeOptions) : Type 0 where
   pub addresses : IsOneTo MAX_ADDRESSES (length s.addresses.items)
   pub mode : s.socket_mode ≤ MODE_BITS
   pub scanners : 1 ≤ s.scanners
@@ -47,13 +48,13 @@ pub record KeepsLimits (s : Serving) : Type 0 where
   pub idle : IfSome s.idle (IsOneTo MAX_IDLE)
 
 -- it also has files, and as many as a server may have at most
-pub record IsServable (s : Serving) : Type 0 where
+pub record IsServable (s : ServeOptions) : Type 0 where
   pub files : 1 ≤ length s.files.items
   pub few_files : length s.files.items ≤ MAX_COUNT
   pub limits : KeepsLimits s
 
 -- The request that is sent first: for a put the one for the current number.
-abbrev pub request_of : Question → Request
+abbrev pub request_of : CallRequest → Request
 request_of (question.Request r) = r
 request_of question.Health = request.Status
 request_of (question.Get segment) = request.Part (record { bits = 2 ^ segment })
@@ -65,14 +66,14 @@ FitsUpdate source.Input = Unit {0}
 FitsUpdate (source.Words bytes) = length bytes ≤ MAX_UPDATE_VALUE
 
 -- a get's segment fits a set, a put's value fits an update, and its `after` has a next number
-abbrev pub IsWithin : Question → Type 0
+abbrev pub IsWithin : CallRequest → Type 0
 IsWithin (question.Request r) = Unit {0}
 IsWithin question.Health = Unit {0}
 IsWithin (question.Get segment) = segment < MAX_COUNT
 IsWithin (question.Put p) = FitsUpdate p.value × IfSome p.after (λ k. k + 1 < 2 ^ 64)
 
 -- the reply lists segments
-abbrev pub lists_segments : Question → Bool
+abbrev pub lists_segments : CallRequest → Bool
 lists_segments (question.Request (request.Update i k bytes)) = false
 lists_segments (question.Request r) = true
 lists_segments question.Health = true
@@ -80,7 +81,7 @@ lists_segments asked = false
 
 -- its request fits a frame and is a valid one, its tries and times are within their limits, and a
 -- reply that lists no segments is printed in lines of hexadecimal text
-pub record IsCallable (c : Calling) : Type 0 where
+pub record IsCallable (c : CallOptions) : Type 0 where
   pub fits : length (payload (request_of c.question)) ≤ max_payload
   pub askable : IsAskable (request_of c.question)
   pub within : IsWithin c.question
@@ -91,19 +92,19 @@ pub record IsCallable (c : Calling) : Type 0 where
   pub layout : (c.layout ≡ Lines) ⊎ (lists_segments c.question ≡ true)
 
 -- the tries and times are within their limits
-pub record IsDumpable (d : Dumping) : Type 0 where
+pub record IsDumpable (d : DumpOptions) : Type 0 where
   pub tries : 1 ≤ d.tries
   pub few_tries : d.tries ≤ MAX_TRIES
   pub wait : IfSome d.wait (IsOneTo MAX_TIMEOUT)
   pub timeout : IfSome d.timeout (IsOneTo MAX_TIMEOUT)
 
 -- each named segment can be one of a server's, and the time between two polls is within its limits
-pub record IsWatchable (w : Watching) : Type 0 where
+pub record IsWatchable (w : WatchOptions) : Type 0 where
   pub segments : All (λ s. s < MAX_COUNT) w.segments.items
   pub every : IfSome w.every (IsOneTo MAX_EVERY)
 
 -- the count is one of segments, if it is given
-abbrev pub IsLoadable : Loading → Type 0
+abbrev pub IsLoadable : LoadOptions → Type 0
 IsLoadable l = IfSome l.count (IsOneTo MAX_COUNT)
 
 abbrev pub IsWithinLimits : Order → Type 0

@@ -21,26 +21,26 @@ pub enum Order<'a> {
     /// A command on one file.
     File(FileOrder<'a>),
     /// Convert a file of the old format to a new file.
-    Migrate(Migration<'a>),
+    Migrate(MigrateOptions<'a>),
     /// Make the files of a folder.
-    Init(Founding<'a>),
+    Init(InitOptions<'a>),
     /// Report on the files of a folder.
-    Doctor(Examination<'a>),
+    Doctor(DoctorOptions<'a>),
     /// Serve segments to clients.
-    Serve(Serving<'a>),
+    Serve(ServeOptions<'a>),
     /// Serve the segments of a folder to clients: `serving` has no files of its own.
     ServeFolder {
         folder: &'a str,
-        serving: Serving<'a>,
+        serving: ServeOptions<'a>,
     },
     /// Send a request to a server.
-    Call(Calling<'a>),
+    Call(CallOptions<'a>),
     /// Show the segments of a server, and each change.
-    Watch(Watching<'a>),
+    Watch(WatchOptions<'a>),
     /// Print all values of a server or a folder as a dump.
-    Dump(Dumping<'a>),
+    Dump(DumpOptions<'a>),
     /// Make a folder of the values of a dump.
-    Load(Loading<'a>),
+    Load(LoadOptions<'a>),
     /// Run the script on standard input.
     Script,
 }
@@ -65,7 +65,7 @@ pub enum FileOrder<'a> {
 /// Converts a file of the old format, at the path `old`, to a new file at the path `new`, with the
 /// same number and value. `index` and `count` are the place of their segment, which stays.
 #[derive(Clone, Copy)]
-pub struct Migration<'a> {
+pub struct MigrateOptions<'a> {
     pub old: &'a str,
     pub new: &'a str,
     pub index: u8,
@@ -74,7 +74,7 @@ pub struct Migration<'a> {
 
 /// Makes the file of each segment in a folder.
 #[derive(Clone, Copy)]
-pub struct Founding<'a> {
+pub struct InitOptions<'a> {
     /// The path of the folder, which is made if it doesn't exist.
     pub folder: &'a str,
     /// The number of segments: 1 to 16.
@@ -85,7 +85,7 @@ pub struct Founding<'a> {
 
 /// Reports on the files and the file system of a folder.
 #[derive(Clone, Copy)]
-pub struct Examination<'a> {
+pub struct DoctorOptions<'a> {
     /// The path of the folder.
     pub folder: &'a str,
     /// Whether it also stores some values there, in a file of its own, and prints the times.
@@ -94,7 +94,7 @@ pub struct Examination<'a> {
 
 /// Serves the segments of some files to clients that connect.
 #[derive(Drop)]
-pub struct Serving<'a> {
+pub struct ServeOptions<'a> {
     /// The addresses that it listens at, in order: 1 to [`MAX_ADDRESSES`] texts, which the system
     /// may refuse.
     pub addresses: Vec<&'a str>,
@@ -136,7 +136,7 @@ pub enum Level {
 
 /// The format of a printed reply.
 #[derive(Clone, Copy, PartialEq, Eq)]
-pub enum Layout {
+pub enum OutputFormat {
     /// Lines, with each value in hexadecimal digits.
     Lines,
     /// Lines, with each value as text if it is printable.
@@ -150,11 +150,11 @@ pub const MAX_TIMEOUT: u32 = 86_400;
 
 /// Sends a request to a server, and prints its reply.
 #[derive(Drop)]
-pub struct Calling<'a> {
+pub struct CallOptions<'a> {
     /// The server's address, as text that the system may refuse.
     pub address: &'a str,
     /// The request.
-    pub question: Question,
+    pub question: CallRequest,
     /// The most connections for each request: 1 to [`snap_client::MAX_TRIES`].
     pub tries: u8,
     /// For how many seconds it connects again while it has no reply: 1 to [`MAX_TIMEOUT`]. `None`
@@ -164,7 +164,7 @@ pub struct Calling<'a> {
     /// timeout.
     pub timeout: Option<u32>,
     /// The format of the reply to a read.
-    pub layout: Layout,
+    pub layout: OutputFormat,
 }
 
 /// The longest time between two polls of a watch, in milliseconds: a day.
@@ -172,7 +172,7 @@ pub const MAX_EVERY: u32 = 86_400_000;
 
 /// Shows the segments of a server, and each change of them.
 #[derive(Drop)]
-pub struct Watching<'a> {
+pub struct WatchOptions<'a> {
     /// The server's address, as text that the system may refuse.
     pub address: &'a str,
     /// The segments that are shown, in the order given, each less than [`snap_history::MAX_COUNT`].
@@ -186,9 +186,9 @@ pub struct Watching<'a> {
 
 /// Prints a dump of all values of a server or a folder.
 #[derive(Clone, Copy)]
-pub struct Dumping<'a> {
+pub struct DumpOptions<'a> {
     /// The source of the values.
-    pub holder: Holder<'a>,
+    pub holder: DumpSource<'a>,
     /// The most connections that are made to a server: 1 to [`snap_client::MAX_TRIES`].
     pub tries: u8,
     /// For how many seconds it connects again while it has no reply: 1 to [`MAX_TIMEOUT`]. `None`
@@ -201,7 +201,7 @@ pub struct Dumping<'a> {
 
 /// The source of a dump.
 #[derive(Clone, Copy)]
-pub enum Holder<'a> {
+pub enum DumpSource<'a> {
     /// The server at this address, a text that the system may refuse.
     Server { address: &'a str },
     /// The files in the folder at this path.
@@ -210,7 +210,7 @@ pub enum Holder<'a> {
 
 /// Makes a folder with the files of a dump's segments.
 #[derive(Clone, Copy)]
-pub struct Loading<'a> {
+pub struct LoadOptions<'a> {
     /// The path of the folder, which must be missing or empty.
     pub folder: &'a str,
     /// The path of the dump; `-` is standard input.
@@ -221,7 +221,7 @@ pub struct Loading<'a> {
 
 /// The request of a call, which also decides how the reply is printed.
 #[derive(Drop)]
-pub enum Question {
+pub enum CallRequest {
     /// Send this request, and print its reply. It fits a frame: an update's value has at most
     /// [`snap_frame::MAX_UPDATE_VALUE`] bytes. A scan of some segments names at least one.
     Request(Request),
@@ -231,12 +231,12 @@ pub enum Question {
     /// [`snap_history::MAX_COUNT`].
     Get { segment: u8 },
     /// Store a value as a segment's next number.
-    Put(Putting),
+    Put(PutOptions),
 }
 
 /// Stores a value as the next number of a segment.
 #[derive(Drop)]
-pub struct Putting {
+pub struct PutOptions {
     /// The segment, which the server may not have.
     pub segment: u8,
     /// Where the value comes from.
@@ -255,7 +255,7 @@ pub enum Source {
     Words(Bytes),
 }
 
-impl Question {
+impl CallRequest {
     ghost use Rattle.std.specs.Prelude.{◌≡◌};
     ghost use Rattle.snap_order.specs.Order.{lists_segments};
 
@@ -264,9 +264,9 @@ impl Question {
         ensures { result ≡ lists_segments self.now }
     {
         match self {
-            Question::Request(Request::Update { .. }) => false,
-            Question::Request(_) | Question::Health => true,
-            Question::Get { .. } | Question::Put(_) => false,
+            CallRequest::Request(Request::Update { .. }) => false,
+            CallRequest::Request(_) | CallRequest::Health => true,
+            CallRequest::Get { .. } | CallRequest::Put(_) => false,
         }
     }
 }

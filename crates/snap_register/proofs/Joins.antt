@@ -1,5 +1,6 @@
 -- A view is split in two, or joined with another.
-use Rattle.std.proofs.Common.{◌≡◌, ◌≢◌, ℕ, zero, suc, ◌+◌, ◌-◌, ◌<◌, ◌≤◌, ◌⊎◌, inl, inr, ⊎_elim, List, [], ◌∷◌, ◌++◌, length}
+use Rattle.std.proofs.Common.{◌≡◌, ◌≢◌, ℕ, zero, suc, ◌+◌, ◌-◌, ◌<◌, ◌≤◌, ◌⊎◌, inl, inr, ⊎_elim, List, [], ◌∷◌}
+use Rattle.std.proofs.Common.{◌++◌, length}
 use Rattle.std.proofs.Common.{get_or, set, refl, ap, sym, subst, ◌∙◌, arith, le_refl}
 use Rattle.std.proofs.lemmas.List.{length-set}
 use mathlib.Core.List.{IsPrefix}
@@ -15,7 +16,8 @@ use Rattle.snap_register.specs.Rule.{first_role, without_first_role, with_receiv
 use Rattle.snap_register.specs.History.{only}
 use Rattle.snap_register.proofs.Lines.{prefix_self}
 use Rattle.snap_register.proofs.Sums.{total_set, total_push}
-use Rattle.snap_register.proofs.Keeps.{turn, turn_here, turn_else, over_pins, words_same, register_stays, knows_stays, seats_stay}
+use Rattle.snap_register.proofs.Keeps.{turn, turn_here, turn_else, over_pins, words_same, register_stays}
+use Rattle.snap_register.proofs.Keeps.{knows_stays, seats_stay}
 
 at_end : {A : Type 0} (l : List A) (a b : A) (j : ℕ) → get_elem? (l ++ a ∷ []) j ≡ some b
     → (get_elem? l j ≡ some b) ⊎ ((j ≡ length l) × (a ≡ b))

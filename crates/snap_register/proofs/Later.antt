@@ -1,5 +1,6 @@
 -- What a seat keeps through its looks.
-use Rattle.std.proofs.Common.{◌≡◌, ◌≢◌, ℕ, ◌+◌, ◌-◌, ◌<◌, ◌≤◌, List, [], ◌∷◌, ◌++◌, length, get_or, set, refl, ap, sym, subst}
+use Rattle.std.proofs.Common.{◌≡◌, ◌≢◌, ℕ, ◌+◌, ◌-◌, ◌<◌, ◌≤◌, List, [], ◌∷◌, ◌++◌, length, get_or, set, refl, ap}
+use Rattle.std.proofs.Common.{sym, subst}
 use Rattle.std.proofs.Common.{◌∙◌, arith, get_or-set_same, get_or-set_other, le_refl, append_assoc}
 use Rattle.std.proofs.lemmas.List.{length-set, set-get_or}
 use mathlib.Core.List.{IsPrefix}

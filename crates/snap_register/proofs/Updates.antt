@@ -1,5 +1,6 @@
 -- The registers' history as updates of a memory: what a seat knows, in its callers' terms.
-use Rattle.std.proofs.Common.{◌≡◌, ℕ, zero, suc, ◌+◌, ◌<◌, ◌≤◌, ◌==◌, Bool, true, false, cond, List, [], ◌∷◌, ◌++◌, length, get_or}
+use Rattle.std.proofs.Common.{◌≡◌, ℕ, zero, suc, ◌+◌, ◌<◌, ◌≤◌, ◌==◌, Bool, true, false, cond, List, [], ◌∷◌, ◌++◌}
+use Rattle.std.proofs.Common.{length, get_or}
 use Rattle.std.proofs.Common.{Some, None, slice_get, refl, ap, sym, subst, ◌∙◌, arith, append_assoc}
 use Rattle.std.specs.Prelude.{if◌then◌else◌}
 use Rattle.std.proofs.lemmas.List.{map-append, append-nil}
@@ -15,12 +16,14 @@ use Rattle.snap_register.specs.declared.plan.Plan.{Plan}
 use Rattle.snap_register.specs.declared.plan.SeatView.{SeatView}
 use Rattle.snap_register.specs.declared.view.View.{View}
 use Rattle.snap_register.specs.declared.view.View.TheVariants.{Collected, Borrowed}
-use Rattle.snap_register.specs.History.{entry, only, count, number, start_at, memory, record_words, update_of, updates, starts}
+use Rattle.snap_register.specs.History.{entry, only, count, number, start_at, memory, record_words, update_of}
+use Rattle.snap_register.specs.History.{updates, starts}
 use Rattle.snap_register.specs.Rule.{segments, Has, IsLegal, Follows}
 use Rattle.snap_register.specs.Rule as rule
 use Rattle.snap_register.specs.Words.{value_at, size_at, IsBlock, AreBlocks, IsRecord}
 use Rattle.snap_register.specs.Held.{held, view_in, taken, Readable, CanTake, MayTake, IsPinned, IsShown}
-use Rattle.snap_register.specs.Seat.{known, looked, IsBelow, Grows, Looks, HasLooked, HasFoundUpdate, IsValue, IsView, MayPublish}
+use Rattle.snap_register.specs.Seat.{known, looked, IsBelow, Grows, Looks, HasLooked, HasFoundUpdate, IsValue}
+use Rattle.snap_register.specs.Seat.{IsView, MayPublish}
 use Rattle.snap_register.specs.Seat.{Meets, Shows}
 use Rattle.snap_scan.specs.Sets.{Names}
 use Rattle.snap_register.proofs.Lines.{find, prefix_trans, count_push_same, record_prefix}

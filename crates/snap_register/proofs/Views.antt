@@ -1,5 +1,6 @@
 -- The contents of a published record: its number, its value and its view.
-use Rattle.std.proofs.Common.{◌≡◌, ℕ, zero, suc, ◌+◌, ◌*◌, ◌^◌, ◌<◌, ◌≤◌, List, [], ◌∷◌, length, get_or, ap, subst, ◌∙◌, arith}
+use Rattle.std.proofs.Common.{◌≡◌, ℕ, zero, suc, ◌+◌, ◌*◌, ◌^◌, ◌<◌, ◌≤◌, List, [], ◌∷◌, length, get_or, ap, subst}
+use Rattle.std.proofs.Common.{◌∙◌, arith}
 use mathlib.Core.List.{IsPrefix}
 use Rattle.snap_register.specs.declared.access.Access.{Access}
 use Rattle.snap_register.specs.declared.plan.Entry.{Entry}

@@ -1,7 +1,8 @@
 -- The rule of the registers' words, and the result of each step. Word i is the current word of
 -- register i: its buffer's index times 2^56, plus the pins on it. After these words come the
 -- given-back counts, then the buffers.
-use Rattle.std.specs.Prelude.{◌≡◌, ℕ, ◌+◌, ◌-◌, ◌*◌, ◌/◌, ◌^◌, ◌<◌, ◌≤◌, ◌==◌, ltb, cond, List, [], ◌∷◌, ◌++◌, length, slice_index}
+use Rattle.std.specs.Prelude.{◌≡◌, ℕ, ◌+◌, ◌-◌, ◌*◌, ◌/◌, ◌^◌, ◌<◌, ◌≤◌, ◌==◌, ltb, cond, List, [], ◌∷◌, ◌++◌}
+use Rattle.std.specs.Prelude.{length, slice_index}
 use Rattle.std.specs.Prelude.{slice_set, take, true, false}
 use mathlib.Core.Option.{some}
 use mathlib.Core.List.{IsPrefix}

@@ -1,5 +1,6 @@
 -- The model of a seat, for its callers.
-use Rattle.std.specs.Prelude.{◌≡◌, ◌≢◌, ℕ, ◌+◌, ◌<◌, ◌≤◌, ◌==◌, Option, Some, None, cond, List, [], ◌∷◌, ◌++◌, length, map, slice_index}
+use Rattle.std.specs.Prelude.{◌≡◌, ◌≢◌, ℕ, ◌+◌, ◌<◌, ◌≤◌, ◌==◌, Option, Some, None, cond, List, [], ◌∷◌, ◌++◌}
+use Rattle.std.specs.Prelude.{length, map, slice_index}
 use Rattle.std.specs.Prelude.{slice_get}
 use Rattle.snap_register.specs.Registers.{RegistersId}
 use Rattle.snap_history.specs.History.{Update, IsBeginning, number_after, value_after, updates_of}

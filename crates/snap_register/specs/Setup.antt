@@ -1,5 +1,6 @@
 -- What a seat keeps about its table, and the table's plan.
-use Rattle.std.specs.Prelude.{◌≡◌, ℕ, ◌+◌, ◌*◌, ◌^◌, ◌<◌, ◌≤◌, List, [], ◌++◌, length, slice_index, map, replicate, false}
+use Rattle.std.specs.Prelude.{◌≡◌, ℕ, ◌+◌, ◌*◌, ◌^◌, ◌<◌, ◌≤◌, List, [], ◌++◌, length, slice_index, map, replicate}
+use Rattle.std.specs.Prelude.{false}
 use Rattle.std.specs.List.{flat_map}
 use Rattle.snap_history.specs.Limits.{IsNumber}
 use Rattle.snap_history.specs.declared.limits.TheConstants.{MAX_COUNT}

@@ -33,13 +33,13 @@
 //!
 //! | Step | Whose | What it does | What its seat knows then | Where |
 //! |---|---|---|---|---|
-//! | `Pin` | any | adds 1 to a current word | the whole history; that buffer is pinned, and a look taken | access/looks.rt, `pin` |
-//! | `Read` | any | loads a word of a pinned buffer | that word of the record | access/looks.rt, `load_word` |
-//! | `GiveBack` | any | adds 1 to a given-back count | nothing new; the pin is returned | access/looks.rt, `give_back` |
-//! | `Check` | writer | loads the given-back count of an own buffer that isn't current | the buffer is free, or held | access/publications.rt, `check` |
-//! | `Reuse`, `Redraft` | writer | loads the next word of the free buffer; stores another in its place | one word more of the draft | access/draft.rt, `draft` |
-//! | `Publish` | writer | swaps the free buffer in as the current one | the history, which its update ends; the pins of the old buffer | access/publications.rt, `swap` |
-//! | `Hear`, and joins and splits | any two | loads a word, after one seat's knowledge was joined to the other's | the whole history, for both | access/meetings.rt, `meet` |
+//! | `Pin` | any | adds 1 to a current word | the whole history; the buffer is pinned | `looks::pin` |
+//! | `Read` | any | loads a word of a pinned buffer | that word of the record | `looks::load_word` |
+//! | `GiveBack` | any | adds 1 to a given-back count | the pin is returned | `looks::give_back` |
+//! | `Check` | writer | loads the given-back count of a former buffer | it is free, or held | `publications::check` |
+//! | `Reuse`, `Redraft` | writer | replaces the free buffer's next word | one word more of the draft | `draft::draft` |
+//! | `Publish` | writer | swaps the free buffer in | the history to its update; the old pins | `publications::swap` |
+//! | `Hear`, joins, splits | any two | joins two seats' views, loads a word | the whole history | `meetings::meet` |
 //!
 //! The result of a step is a function of the view (`pinning`, `read`, `giving`, `checked`,
 //! `reused`, `redrafted`, `published`, `heard`), named in setup.rt. proofs/Keeps.antt and the files

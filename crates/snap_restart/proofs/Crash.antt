@@ -1,5 +1,6 @@
 -- A crash at any moment from an opening on, and at any cut once all writers and scanners are back.
-use Rattle.std.proofs.Common.{◌≡◌, ℕ, zero, suc, inl, List, [], ◌∷◌, ◌++◌, length, map, Some, slice_get, refl, sym, subst, ◌∙◌, arith}
+use Rattle.std.proofs.Common.{◌≡◌, ℕ, zero, suc, inl, List, [], ◌∷◌, ◌++◌, length, map, Some, slice_get, refl, sym}
+use Rattle.std.proofs.Common.{subst, ◌∙◌, arith}
 use Rattle.std.proofs.lemmas.List.{length-map}
 use Rattle.std.proofs.lemmas.Option.{slice_get_within, same_Some}
 use Rattle.snap_disk.specs.declared.refusal.Refusal.{Refusal}
@@ -15,11 +16,11 @@ use Rattle.snap_register.specs.History.{starts, updates}
 use Rattle.snap_register.specs.Seat.{Known}
 use Rattle.snap_writer.specs.Writer.{WriterState, number_of, value_of, IsPaired}
 use Rattle.snap_writer.specs.Life.{IsWriterOf}
-use Rattle.snap_cut.specs.Crash.{Begun, IsRecovered}
-use Rattle.snap_cut.proofs.Starts.{StartsAfter, recovered_on}
-use Rattle.snap_cut.proofs.Placed.{same_file}
-use Rattle.snap_cut.proofs.Lives.{life_fits}
-use Rattle.snap_cut.proofs.Crash.{cut_recovers, moment_recovers}
+use Rattle.snap_restart.specs.LifeCrash.{Begun, IsRecovered}
+use Rattle.snap_restart.proofs.LifeStarts.{StartsAfter, recovered_on}
+use Rattle.snap_restart.proofs.Placed.{same_file}
+use Rattle.snap_restart.proofs.Lives.{life_fits}
+use Rattle.snap_restart.proofs.LifeCrash.{cut_recovers, moment_recovers}
 use Rattle.snap_restart.specs.Closed.{AreBack, IsHistory}
 use Rattle.snap_restart.specs.Opened.{IsBack, IsOpened, IsStopped, AreFresh}
 use Rattle.snap_restart.specs.Crash.{AnyMoment, AllHonest, AreOpened, StayKept, AnyCut}

@@ -1,8 +1,8 @@
--- What the writers of an opening have stored stays.
+-- Values that the writers of an opening have stored stay.
 use Rattle.std.proofs.Common.{List, length}
 use Rattle.snap_writer.specs.Writer.{WriterState}
 use Rattle.snap_writer.proofs.Crashes.{OnlyNow}
-use Rattle.snap_cut.proofs.Durability.{lived_is, stays}
+use Rattle.snap_restart.proofs.LifeDurability.{lived_is, stays}
 use Rattle.snap_restart.specs.Crash.{AreOpened}
 use Rattle.snap_restart.specs.Durability.{AllStays}
 use Rattle.snap_disk.specs.declared.disk.Disk as Disk

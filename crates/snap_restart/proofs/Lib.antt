@@ -8,3 +8,11 @@ pub mod Refusals
 pub mod Crash
 pub mod Starts
 pub mod Durability
+pub mod Commands
+pub mod LifeOrder
+pub mod Merge
+pub mod Placed
+pub mod Lives
+pub mod LifeCrash
+pub mod LifeStarts
+pub mod LifeDurability

@@ -1,4 +1,4 @@
--- What an opening that was refused leaves of the devices.
+-- The devices after an opening that was refused.
 use Rattle.std.proofs.Common.{◌≡◌, ℕ, ◌<◌, List, ◌∷◌, ◌++◌, length, map, take, drop, refl, ap, sym, subst, ◌∙◌, arith}
 use Rattle.std.proofs.lemmas.List.{length-take-le, take-append-drop}
 use Rattle.snap_disk.specs.declared.refusal.Refusal.{Refusal}
@@ -63,7 +63,8 @@ module _ {D : Type 0} (disk : Disk.Ghosts D) where
     }
 
   -- the earlier segments were opened, this one was refused, and the others weren't touched
-  pub stopped_at : OnlyNow disk → (why : Refusal) (olds news : List D) (ss : List (SegmentState D)) (d e : D) (rest : List D)
+  pub stopped_at : OnlyNow disk → (why : Refusal) (olds news : List D) (ss : List (SegmentState D)) (d e : D) (rest :
+      List D)
       (k : ℕ) → k ≡ length ss → drop k olds ≡ d ∷ rest → k < length olds
       → Pairs (IsOpened disk (length olds)) (take k olds) ss
       → IsOpenRefusal why → IsReturned disk (length olds) k why k d e
@@ -74,7 +75,8 @@ module _ {D : Type 0} (disk : Disk.Ghosts D) where
       let long : length (take k olds) ≡ k = length-take-le k olds (omega arith) in
       let first = Pairs-mapped (IsOpened disk (length olds)) R (λ s. s.device) (take k olds) ss
       (λ i a s l o. returned_opened (length olds) k why i a s (omega arith) o) p in
-      let all = Pairs-spliced R (take k olds) (map (λ s. s.device) ss) d e rest first (subst (λ j. R j d e) (sym long) here) (λ i a l. returned_same (length olds) k why only_now i a (omega arith)) in
+      let all = Pairs-spliced R (take k olds) (map (λ s. s.device) ss) d e rest first (subst (λ j. R j d e) (sym long)
+      here) (λ i a l. returned_same (length olds) k why only_now i a (omega arith)) in
       let whole : take k olds ++ d ∷ rest ≡ olds = ap (λ l. take k olds ++ l) (sym front) ∙ take-append-drop k olds in
       record {
         kind = kind;

@@ -1,11 +1,13 @@
 -- Lists whose items are removed one after another.
-use Rattle.std.proofs.Common.{◌≡◌, ℕ, zero, suc, ◌+◌, List, ◌∷◌, ◌++◌, length, map, take, Some, slice_get, Option, None, Result, Ok, Err, IfOk, refl, ap, subst, ◌∙◌, arith}
+use Rattle.std.proofs.Common.{◌≡◌, ℕ, zero, suc, ◌+◌, List, ◌∷◌, ◌++◌, length, map, take, Some, slice_get, Option}
+use Rattle.std.proofs.Common.{None, Result, Ok, Err, IfOk, refl, ap, subst, ◌∙◌, arith}
 use Rattle.std.specs.Prelude.{◌<◌, All, IsSome, IsErr, option_map}
 use Rattle.std.proofs.lemmas.Option.{get_or_from_slice_get, slice_get-map}
 use Rattle.std.proofs.lemmas.List.{length-append, length-map, length-take-le}
 use Rattle.snap_history.proofs.Removals.{Taken}
 
-pub get_map : {A B : Type 0} (f : A → B) (ws : List A) (k : ℕ) (x : A) → slice_get ws k ≡ Some x → slice_get (map f ws) k ≡ Some (f x)
+pub get_map : {A B : Type 0} (f : A → B) (ws : List A) (k : ℕ) (x : A) → slice_get ws k ≡ Some x
+    → slice_get (map f ws) k ≡ Some (f x)
 get_map f ws k x e = slice_get-map f ws k ∙ ap (option_map f) e
 
 -- a property of all items holds of the next one

@@ -1,15 +1,18 @@
 -- Files keep one memory over any number of crashes and starts.
-use Rattle.std.proofs.Common.{◌≡◌, ℕ, List, [], ◌∷◌, ◌++◌, length, map, refl, sym, subst, ◌∙◌, arith}
+use Rattle.std.proofs.Common.{◌≡◌, ℕ, List, [], ◌∷◌, ◌++◌, length, map, refl, sym, subst, ◌∙◌, arith, append-nil}
 use Rattle.std.proofs.lemmas.List.{length-map}
 use Rattle.std.proofs.lemmas.Option.{slice_get_within}
-use Rattle.snap_history.specs.History.{Update, Start}
+use Rattle.snap_segment.specs.Layout.{IsFileOf}
+use Rattle.snap_history.specs.History.{Update, Start, number_after}
 use Rattle.snap_history.proofs.Pairs.{element, partner}
 use Rattle.snap_register.specs.History.{starts, updates}
 use Rattle.snap_writer.specs.Writer.{WriterState}
-use Rattle.snap_cut.specs.Crash.{Begun, IsRecovered}
-use Rattle.snap_cut.proofs.Starts.{kept_now}
+use Rattle.snap_restart.specs.LifeCrash.{Begun, IsRecovered, KeepMemory}
+use Rattle.snap_restart.proofs.LifeStarts.{kept_now}
 use Rattle.snap_restart.specs.Crash.{AllHonest, GoesOn, AreOpened}
-use Rattle.snap_restart.specs.Restarts.{Restarts, First, Crashed, Interrupted, Last}
+use Rattle.snap_restart.specs.Restarts.{Restarts, First, Crashed, Interrupted, Spared, Put, PutCutOff, Remade, Last}
+use Rattle.snap_restart.specs.Restarts.{MadeLaw, IsJoined, update, without}
+use Rattle.snap_restart.proofs.Commands.{stored, cut_off, remade, joined_without}
 use Rattle.snap_disk.specs.declared.disk.Disk as Disk
 
 module _ {D : Type 0} (disk : Disk.Ghosts D) (n : ℕ) (start : Start) where
@@ -30,18 +33,20 @@ module _ {D : Type 0} (disk : Disk.Ghosts D) (n : ℕ) (start : Start) where
           (subst (λ (k : ℕ). IsRecovered k start l.history (Begun l.crashed)
           (map (λ (d : D). (disk.device d).bytes) devices)) (sym all_devices) now) hon
 
-  unfoldable pub last : (moments : List (List Update)) (devices : List D)
+module _ {D : Type 0} (disk : Disk.Ghosts D) (n : ℕ) where
+  unfoldable pub last : (start : Start) (moments : List (List Update)) (devices : List D)
       → Restarts disk n start moments devices
       → Last disk n start moments devices
-  last [] _ (First devices kept) = record {
+  last start [] _ (First _ devices kept) = record {
     history = [];
     crashed = [];
     joined = refl;
     kept = kept;
   }
-  last (_ ∷ _) _ (Crashed moments devices nexts writers crashed s past opened hon kept count each follow) =
-      let l = last moments devices past in
-      let on = history_on moments devices l writers opened hon in
+  last start (_ ∷ _) _
+      (Crashed _ moments devices nexts writers crashed s past opened hon kept count each follow) =
+      let l = last start moments devices past in
+      let on = history_on disk n start moments devices l writers opened hon in
       let h = (l.history ++ on.more) ++ updates kept.history in
       record {
         history = h;
@@ -49,7 +54,7 @@ module _ {D : Type 0} (disk : Disk.Ghosts D) (n : ℕ) (start : Start) where
         joined = (l.history, on.more, l.joined, on.once, refl);
         kept = λ files left.
             subst (λ (k : ℕ). IsRecovered k start h (Begun crashed) files)
-            (opened.one_each ∙ all_devices moments devices l)
+            (opened.one_each ∙ all_devices disk n start moments devices l)
             (on.any_moment s kept crashed files count each (record {
               size = follow.size ∙ left.size;
               each = λ i p b ep eb. (
@@ -57,8 +62,8 @@ module _ {D : Type 0} (disk : Disk.Ghosts D) (n : ℕ) (start : Start) where
                   d.2 b (left.each i d.0 b d.1 eb));
             }));
       }
-  last _ _ (Interrupted moments devices news nexts past stay follow) =
-      let l = last moments devices past in
+  last start _ _ (Interrupted _ moments devices news nexts past stay follow) =
+      let l = last start moments devices past in
       record {
         history = l.history;
         crashed = l.crashed;
@@ -71,8 +76,64 @@ module _ {D : Type 0} (disk : Disk.Ghosts D) (n : ℕ) (start : Start) where
             let f = element nexts i (omega (arith, size, low)) in
             follow.1 i d e f.0 b ed ee f.1 (left.each i f.0 b f.1 eb)));
       }
+  last start _ _ (Spared _ moments devices nexts past same) =
+      let l = last start moments devices past in
+      record {
+        history = l.history;
+        crashed = l.crashed;
+        joined = l.joined;
+        kept = λ files left. l.kept files (record {
+          size = same.size ∙ left.size;
+          each = λ i d b ed eb. (
+              let e = partner _ devices nexts i d same ed in
+              e.2 b (left.each i e.0 b e.1 eb));
+        });
+      }
+  last start (_ ∷ _) _ (Put _ moments devices nexts i k u v past held works) =
+      let l = last start moments devices past in
+      let is = stored disk n start l.history l.crashed devices nexts l.kept i k u v held works in
+      record {
+        history = (l.history ++ is.more) ++ update i v ∷ [];
+        crashed = l.crashed;
+        joined = (l.history, is.more, l.joined, is.once, refl);
+        kept = is.keeps;
+      }
+  last start (_ ∷ _) _ (PutCutOff _ moments devices nexts i k u v past held works) =
+      let l = last start moments devices past in
+      let is = cut_off disk n start l.history l.crashed devices nexts l.kept i k u v held works in
+      record {
+        history = l.history ++ is.more;
+        crashed = is.begun;
+        joined = (l.history, is.more, l.joined, is.once, sym (append-nil (l.history ++ is.more)));
+        kept = is.keeps;
+      }
+  last next rest _ (Remade start _ moments _ devices nexts i k v past works from rest_is) =
+      let l = last start moments devices past in
+      record {
+        history = without i l.history;
+        crashed = l.crashed;
+        joined = subst (λ (ms : List (List Update)). IsJoined ms (without i l.history)) (sym rest_is)
+            (joined_without i moments l.history l.joined);
+        kept = subst (λ (s : Start). KeepMemory disk n s (without i l.history) (Begun l.crashed) nexts)
+            (sym from) (remade disk n start l.history l.crashed devices nexts l.kept i k v works);
+      }
 
 module _ {D : Type 0} (disk : Disk.Ghosts D) where
+  pub made : MadeLaw disk
+  made devices start fresh = First start devices (λ files left. record {
+    begun_too = [];
+    were_begun = λ j u e. absurd (cc e);
+    once = λ i. omega arith;
+    size = sym left.size;
+    holds = λ i b e. (
+        let size = left.size in
+        let low = slice_get_within files i b e in
+        let d = element devices i (omega (arith, size, low)) in
+        let is = fresh i d.0 b d.1 (left.each i d.0 b d.1 e) in
+        let number : (start i).0 ≡ number_after start [] i = omega arith in
+        subst (λ (k : ℕ). IsFileOf i (length devices) k (start i).1 b) number is);
+  })
+
   pub first : (devices : List D) (writers : List (WriterState D))
       (opened : AreOpened disk devices writers)
       → GoesOn disk opened.plan (starts opened.plan) [] [] writers

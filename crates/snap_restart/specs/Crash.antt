@@ -1,4 +1,4 @@
--- What an opening's writers and scanners, once all are back, imply about any earlier crash.
+-- How an earlier crash is recovered, by the writers and scanners of an opening once all are back in their store.
 use Rattle.std.specs.Prelude.{◌≡◌, ℕ, ◌<◌, ◌≤◌, List, ◌++◌, length, map, Some, slice_get}
 use mathlib.Core.Option.{some}
 use lib.ListN.{get_elem?}
@@ -12,8 +12,8 @@ use Rattle.snap_register.specs.Rule.{segments, Kept}
 use Rattle.snap_register.specs.Seat.{Known}
 use Rattle.snap_writer.specs.Writer.{WriterState}
 use Rattle.snap_writer.specs.Life.{Place, Lived, IsIn, CrashLeaves, IsWriterOf}
-use Rattle.snap_cut.specs.Crash.{IsConsistent, Begun, IsRecovered, KeepMemory, Recovers}
-use Rattle.snap_cut.specs.Laws.{IsSeatOf}
+use Rattle.snap_restart.specs.LifeCrash.{IsConsistent, Begun, IsRecovered, KeepMemory, Recovers}
+use Rattle.snap_restart.specs.LifeLaws.{IsSeatOf}
 use Rattle.snap_disk.specs.declared.disk.Disk as Disk
 
 module _ {D : Type 0} (disk : Disk.Ghosts D) where

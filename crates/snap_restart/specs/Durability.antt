@@ -1,8 +1,8 @@
--- What the writers of an opening have stored stays.
+-- Values that the writers of an opening have stored stay.
 use Rattle.std.specs.Prelude.{◌≡◌, ℕ, List, length, Some, slice_get}
 use Rattle.snap_writer.specs.Writer.{WriterState}
 use Rattle.snap_writer.specs.Life.{Lived}
-use Rattle.snap_cut.specs.Durability.{Stays}
+use Rattle.snap_restart.specs.LifeDurability.{Stays}
 use Rattle.snap_disk.specs.declared.disk.Disk as Disk
 
 module _ {D : Type 0} (disk : Disk.Ghosts D) where

@@ -44,8 +44,7 @@ use snap_segment::Segment;
 use snap_writer::Writer;
 use std::alloc::{AllocError, Global};
 
-/// How many looks each writer and each scanner has between an opening and the next: at a million
-/// per second enough for 35 years.
+/// How many looks each writer and each scanner has between two openings: enough for 35 years at a million a second.
 pub const LOOKS: u64 = 1 << 50;
 
 /// The writers and the scanners of one opening.

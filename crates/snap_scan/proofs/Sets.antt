@@ -1,6 +1,7 @@
 -- The segments of a set and their places: they ascend, each is named, and each named segment has a
 -- place.
-use Rattle.std.proofs.Common.{◌≡◌, ℕ, zero, suc, ◌+◌, ◌-◌, ◌^◌, ◌<◌, ◌≤◌, inl, inr, List, [], ◌∷◌, ◌++◌, length, take, None, Some, slice_get, slice_set, slice_index}
+use Rattle.std.proofs.Common.{◌≡◌, ℕ, zero, suc, ◌+◌, ◌-◌, ◌^◌, ◌<◌, ◌≤◌, inl, inr, List, [], ◌∷◌, ◌++◌, length}
+use Rattle.std.proofs.Common.{take, None, Some, slice_get, slice_set, slice_index}
 use Rattle.std.proofs.Common.{refl, ap, sym, ◌∙◌, subst, arith, ◌==◌}
 use Rattle.std.specs.Int.{bit_at}
 use Rattle.std.proofs.lemmas.Bool.{cases_eq, cases_lt, cases_order, eq-eqb, ne_eqb, cond-true, cond-false}
@@ -173,7 +174,8 @@ module _ (set : ℕ) where
   some small pos = elim (cases_lt 0 (size set)) [
     | inl lt ↦ lt
     | inr ge ↦ (
-        let zero_is : set ≡ 0 = same_from_bits_below 16 set 0 small (omega arith) (λ i l. elim (cases_eq (bit_at set i) 1) [
+        let zero_is : set ≡ 0 = same_from_bits_below 16 set 0 small (omega arith) (λ i l. elim (cases_eq (bit_at set i)
+        1) [
           | inl is ↦ (let place = named_at i l is in
               let inside = at_within place.0 i place.1 in
               absurd (omega arith))

@@ -1,5 +1,6 @@
--- What a word means, and what it doesn't.
-use Rattle.std.proofs.Common.{◌≡◌, ◌≢◌, ℕ, ◌+◌, ◌*◌, ◌^◌, ◌<◌, ◌≤◌, Option, Some, None, Result, Ok, Err, List, [], ◌∷◌, length, codes}
+-- The operand that a word encodes, and those that it doesn't.
+use Rattle.std.proofs.Common.{◌≡◌, ◌≢◌, ℕ, ◌+◌, ◌*◌, ◌^◌, ◌<◌, ◌≤◌, Option, Some, None, Result, Ok, Err, List, []}
+use Rattle.std.proofs.Common.{◌∷◌, length, codes}
 use Rattle.std.proofs.Common.{refl, sym, ap, ◌∙◌, arith}
 use Rattle.std.specs.Prelude.{MatchOption, IfOk}
 use Rattle.std.proofs.Math.Nat.{pow-le-pow_right}
@@ -7,7 +8,7 @@ use Rattle.hex.specs.Hex.{decode_of, decode_sized, decode_pairs}
 use Rattle.hex.proofs.HexLemmas.{decode_of-ok, decode_of-even}
 use Rattle.snap_disk.specs.declared.fill.Fill.{Fill}
 use Rattle.snap_disk.specs.declared.fill.Fill.TheVariants.{Keep, All, At}
-use Rattle.snap_hex.specs.Text.{IsHex}
+use Rattle.snap_stream.specs.Hex.{IsHex}
 use Rattle.snap_script.specs.Words.{Finds, parts_at, IsNumber, IsFill, IsFillAt}
 
 -- a number of at most 18 digits has room for one more

@@ -1,5 +1,6 @@
 -- A script, line by line.
-use Rattle.std.proofs.Common.{◌≡◌, ◌≢◌, ℕ, ◌+◌, ◌-◌, ◌^◌, ◌<◌, min, Option, Some, None, List, [], ◌∷◌, ◌++◌, length, take, refl, ap, length-append, arith}
+use Rattle.std.proofs.Common.{◌≡◌, ◌≢◌, ℕ, ◌+◌, ◌-◌, ◌^◌, ◌<◌, min, Option, Some, None, List, [], ◌∷◌, ◌++◌, length}
+use Rattle.std.proofs.Common.{take, refl, ap, length-append, arith}
 use Rattle.std.specs.Io.KnownBytes.{Appends}
 use Rattle.std.proofs.KnownBytes.{Appends-nil, Appends-trans}
 use Rattle.std.proofs.Math.Seq.{take-append-add}
@@ -9,7 +10,7 @@ use Rattle.snap_script.specs.LineBuffer.{HasDone}
 use Rattle.snap_script.specs.Script.{full_lines, IsShort, IsNextNumber, MayPrint, Prints}
 use Rattle.snap_script.specs.Script.{IsUnreadable, PrintsPart}
 use Rattle.snap_script.specs.declared.fault.LineFault.{LineFault}
-use Rattle.snap_script.specs.declared.interpreter.Halt.TheVariants.{Fault}
+use Rattle.snap_script.specs.declared.interpreter.InterpreterFault.TheVariants.{Fault}
 use Rattle.snap_world.specs.declared.world.World.{World}
 
 -- nothing was done

@@ -2,8 +2,8 @@
 use Rattle.std.specs.Prelude.{◌≡◌, ℕ, List, [], ◌∷◌, Option, Some, None, ⊤}
 use Rattle.snap_script.specs.Line.{IsWorldLine, IsEventLine}
 use Rattle.snap_script.specs.Script.{Plays}
-use Rattle.snap_script.specs.declared.interpreter.Halt.{Halt}
-use Rattle.snap_script.specs.declared.interpreter.Halt.TheVariants.{Fault, NoMemory}
+use Rattle.snap_script.specs.declared.interpreter.InterpreterFault.{InterpreterFault}
+use Rattle.snap_script.specs.declared.interpreter.InterpreterFault.TheVariants.{Fault, NoMemory}
 use Rattle.snap_world.specs.Machine.{State}
 use Rattle.snap_world.specs.Surface.{StandsFor, configuration, segments_of}
 use Rattle.snap_world.specs.declared.event.Event.{Event}
@@ -18,7 +18,7 @@ Played [] text (Some w) = ⊥
 Played (first ∷ lines) text None = ⊥
 
 -- why the line isn't done
-abbrev pub HaltsAt : Option World → List ℕ → Halt → Type 0
+abbrev pub HaltsAt : Option World → List ℕ → InterpreterFault → Type 0
 HaltsAt world line NoMemory = ⊤
 HaltsAt None line (Fault fault) = (n s : ℕ) → IsWorldLine line n s → ⊥
 HaltsAt (Some w) line (Fault fault) = (e : Event) → IsEventLine line e → ⊥

@@ -5,7 +5,7 @@ use Rattle.std.specs.declared.vec.Vec.{Vec}
 use Rattle.std.specs.declared.alloc.Global.{Global}
 use Rattle.snap_disk.specs.declared.fill.Fill.{Fill}
 use Rattle.snap_history.specs.declared.limits.TheConstants.{MAX_COUNT}
-use Rattle.snap_hex.specs.Text.{IsHex}
+use Rattle.snap_stream.specs.Hex.{IsHex}
 use Rattle.snap_script.specs.Words.{words_of, IsNumber, IsFill, IsMask}
 use Rattle.snap_script.specs.declared.verb.Verb.{Verb}
 use Rattle.snap_script.specs.declared.verb.Verb.TheVariants as verb

@@ -1,4 +1,4 @@
--- What a script writes, for each end.
+-- The output of a script, for each end.
 use Rattle.std.specs.Prelude.{◌≡◌, ◌≢◌, ◌<◌, ◌≤◌, ◌⊎◌, ℕ, ◌+◌, ◌-◌, ◌^◌, min, List, [], ◌∷◌, ◌++◌}
 use Rattle.std.specs.Prelude.{length, take, All, Option}
 use Rattle.std.specs.List.{AllZip}
@@ -46,7 +46,7 @@ pub record Plays (first : List ℕ) (lines : List (List ℕ)) (text : List ℕ) 
   pub run : Run n (start_configuration n s devices) events replies b
   pub printed : text ≡ line_text (world_text n s) ++ replies_text replies
 
--- what a world may print for these lines
+-- the text that a world may print for these lines
 abbrev pub MayPrint : List (List ℕ) → List ℕ → Type 0
 MayPrint [] text = text ≡ []
 MayPrint (first ∷ lines) text = (n : ℕ) × (b : Configuration) × Plays first lines text n b
@@ -106,7 +106,7 @@ EndsAfter taken rest done (WriteFailed error) =
     (after : List (List ℕ)) × IsAt (taken ++ rest) done after
 EndsAfter taken rest done end = StopsAfter (taken ++ rest) done end
 
--- what was written of these lines: their text, or a beginning of it where the writer failed
+-- the output of these lines: their text, or a beginning of it if the writer failed
 abbrev pub EndPrints : (old new : Option (List ℕ)) (lines : List (List ℕ)) → ScriptEnd → Type 0
 EndPrints old new lines (WriteFailed error) = PrintsPart old new lines
 EndPrints old new lines end = Prints old new lines
@@ -117,7 +117,7 @@ Ends taken rest old new end =
     (done : List (List ℕ)) × EndsAfter taken rest done end
     × EndPrints old new (full_lines done) end
 
--- what a script reads and writes, and how it ends
+-- the input and output of a script, and how it ends
 pub record Runs (read_old read_new written_old written_new : Option (List ℕ))
     (end : ScriptEnd) : Type 0 where
   -- the bytes that were read, and those that the reader still has

@@ -1,13 +1,14 @@
--- What is printed.
+-- The printed text.
 use Rattle.std.specs.Prelude.{ℕ, List, [], ◌∷◌, ◌++◌, map, codes}
 use Rattle.std.specs.Fmt.{decimal}
-use Rattle.snap_hex.specs.Text.{hex_text}
+use Rattle.snap_stream.specs.Hex.{hex_text}
 use Rattle.snap_world.specs.declared.event.PartEntry.{PartEntry}
 use Rattle.snap_world.specs.declared.event.Kind.{Kind}
 use Rattle.snap_world.specs.declared.event.Kind.TheVariants.{Write, Sync, Read}
 use Rattle.snap_world.specs.persist.Write.TheVariants as write
 use Rattle.snap_world.specs.declared.event.Reply.{Reply}
-use Rattle.snap_world.specs.declared.event.Reply.TheVariants.{Begun, Number, Called, DeviceFailed, Shown, Stored, ScanBegun, Memory}
+use Rattle.snap_world.specs.declared.event.Reply.TheVariants.{Begun, Number, Called, DeviceFailed, Shown, Stored}
+use Rattle.snap_world.specs.declared.event.Reply.TheVariants.{ScanBegun, Memory}
 use Rattle.snap_world.specs.declared.event.Reply.TheVariants.{Part, Crashed, Restarting, NotNow}
 
 -- the name of a device call
@@ -27,7 +28,7 @@ spaced (text ∷ texts) = codes " " ++ text ++ spaced texts
 abbrev pub entry_text : PartEntry → List ℕ
 entry_text e = decimal e.segment ++ codes "=" ++ hex_text e.value.items
 
--- what a reply is printed as
+-- the printed form of a reply
 abbrev pub reply_text : Reply → List ℕ
 reply_text Begun = codes "begun"
 reply_text (Number k) = codes "number " ++ decimal k

@@ -1,4 +1,4 @@
-//! What can be wrong in a line of a script.
+//! The faults of a script's lines.
 
 use crate::verb::Verb;
 use crate::words::{cut, is};

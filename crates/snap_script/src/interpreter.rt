@@ -1,7 +1,7 @@
-//! Does the lines of a script, one by one.
+//! Runs the lines of a script, one by one.
 ghost use Rattle.std.specs.Prelude.{◌≡◌, ℕ, List, [], ◌∷◌, ◌++◌, IfOk, IfErr, OnOk, Some, None};
 ghost use Rattle.snap_script.specs.Interpreter.{Played, HaltsAt};
-ghost use Rattle.snap_script.specs.declared.interpreter.Halt.TheVariants.{NoMemory};
+ghost use Rattle.snap_script.specs.declared.interpreter.InterpreterFault.TheVariants.{NoMemory};
 
 use crate::fault::LineFault;
 use crate::line::{event_line, world_line};
@@ -11,18 +11,18 @@ use std::alloc::{AllocError, Global};
 
 /// Why a line wasn't done.
 #[derive(Clone, Copy, Debug, Drop, PartialEq, Eq)]
-pub(crate) enum Halt {
+pub(crate) enum InterpreterFault {
     /// It can't be read.
     Fault(LineFault),
     /// Memory ran out.
     NoMemory,
 }
 
-impl From<AllocError> for Halt {
+impl From<AllocError> for InterpreterFault {
     ghost from_gives = { λ _ halt. halt ≡ NoMemory };
 
-    fn from(_: AllocError) -> Halt {
-        Halt::NoMemory
+    fn from(_: AllocError) -> InterpreterFault {
+        InterpreterFault::NoMemory
     }
 }
 
@@ -46,8 +46,8 @@ impl Interpreter {
         }
     }
 
-    /// Does a line that isn't empty.
-    pub(crate) fn line(&mut self, line: &[u8]) -> Result<(), Halt>
+    /// Runs a line that isn't empty.
+    pub(crate) fn line(&mut self, line: &[u8]) -> Result<(), InterpreterFault>
         ensures ok { OnOk result ((lines : List (List ℕ)) (text : List ℕ)
             → Played lines text self.old.world
             → Played (lines ++ line.now ∷ []) (text ++ self.new.text.items) self.new.world) }
@@ -66,21 +66,26 @@ impl Interpreter {
 }
 
 /// Makes the world of a first line, and its text.
-fn play_world(alloc: Global, line: &[u8], out: &mut Vec<u8>) -> Result<World, Halt>
+fn play_world(alloc: Global, line: &[u8], out: &mut Vec<u8>) -> Result<World, InterpreterFault>
     requires { out.old.items ≡ [] }
     ensures ok { IfOk result (λ w. Played (line.now ∷ []) out.new.items (Some w)) }
     ensures err { IfErr result (λ halt. HaltsAt None line.now halt) }
 {
     let Some((segments, scanners)) = world_line(line) else {
-        return Err(Halt::Fault(LineFault::NoWorld));
+        return Err(InterpreterFault::Fault(LineFault::NoWorld));
     };
     let world = World::new(alloc, segments, scanners)?;
     print_world(out, segments, scanners)?;
     Ok(world)
 }
 
-/// Does the event of a line, and makes its reply's text.
-fn play_event(alloc: Global, world: &mut World, line: &[u8], out: &mut Vec<u8>) -> Result<(), Halt>
+/// Runs the event of a line, and makes the text of its reply.
+fn play_event(
+    alloc: Global,
+    world: &mut World,
+    line: &[u8],
+    out: &mut Vec<u8>,
+) -> Result<(), InterpreterFault>
     requires { out.old.items ≡ [] }
     ensures ok { OnOk result ((lines : List (List ℕ)) (text : List ℕ)
         → Played lines text (Some world.old)
@@ -88,7 +93,7 @@ fn play_event(alloc: Global, world: &mut World, line: &[u8], out: &mut Vec<u8>) 
     ensures err { IfErr result (λ halt. HaltsAt (Some world.old) line.now halt) }
 {
     let Some(event) = event_line(alloc, line)? else {
-        return Err(Halt::Fault(LineFault::of(line)));
+        return Err(InterpreterFault::Fault(LineFault::of(line)));
     };
     let reply = world.step(&event)?;
     print_reply(out, &reply)?;

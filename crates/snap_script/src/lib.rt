@@ -1,12 +1,9 @@
-//! Scripts: a world's events as text, one a line, done on a new world, with what each of them
-//! answers.
+//! Scripts: a world's events as text, one a line, run on a new world, with the reply to each.
 //!
-//! [`script`] shows and replays what the world promises. The text that it writes is that of replies
-//! which a new world may give to the events of the lines (specs/Script.antt). specs/Line.antt and
-//! specs/Words.antt have the form of each line, and specs/Text.antt has the printed text. A line is
-//! read as an event exactly if its words have that event's form.
-//!
-//! [`play`] is the program's command `script`.
+//! [`script`] runs the events of the lines, and writes replies that a new world may give to them (`specs/Script.antt`).
+//! `specs/Line.antt` and `specs/Words.antt` have the form of each line, and `specs/Text.antt` has the printed text. A
+//! line is read as an event exactly if its words have that event's form. [`play`] is the command `script` of the
+//! program.
 //!
 //! A line takes the memory of its bytes, of its event's values and of the reply's, and no more.
 #![tactic(auto)]

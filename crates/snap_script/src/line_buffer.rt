@@ -5,7 +5,7 @@ ghost use Rattle.snap_stream.specs.Streams.{AppendsBeginning};
 ghost use Rattle.snap_script.specs.LineBuffer.{HasDone, HasTaken, Halts, IsHalted};
 ghost use Rattle.snap_script.specs.Script.{Ends, IsShort};
 
-use crate::interpreter::{Halt, Interpreter};
+use crate::interpreter::{Interpreter, InterpreterFault};
 use crate::run::{MAX_LINE, ScriptEnd};
 use snap_stream::write_whole;
 use std::alloc::Global;
@@ -33,7 +33,7 @@ impl LineBuffer {
         }
     }
 
-    /// Takes the next bytes, and does each line that ends in them.
+    /// Takes the next bytes, and runs each line that ends in them.
     pub(crate) fn take<W: Write>(&mut self, piece: &[u8], writer: &mut W) -> Result<(), ScriptEnd>
         ensures ok { OnOk result ((taken : List ℕ) (old : Option (List ℕ))
             → HasTaken taken old (W.contents writer.old) self.old
@@ -51,7 +51,7 @@ impl LineBuffer {
         Ok(())
     }
 
-    /// Takes the next byte, and does the line if the byte ends it.
+    /// Takes the next byte, and runs the line if the byte ends it.
     fn take_byte<W: Write>(&mut self, byte: u8, writer: &mut W) -> Result<(), ScriptEnd>
         ensures ok { OnOk result ((taken : List ℕ) (old : Option (List ℕ))
             → HasTaken taken old (W.contents writer.old) self.old
@@ -93,8 +93,8 @@ impl LineBuffer {
         }
         match self.interpreter.line(&self.line) {
             Ok(()) => {}
-            Err(Halt::Fault(fault)) => return Err(ScriptEnd::BadLine { number, fault }),
-            Err(Halt::NoMemory) => return Err(ScriptEnd::NoMemory),
+            Err(InterpreterFault::Fault(fault)) => return Err(ScriptEnd::BadLine { number, fault }),
+            Err(InterpreterFault::NoMemory) => return Err(ScriptEnd::NoMemory),
         }
         self.line.clear();
         match write_flushed(writer, &self.interpreter.text) {

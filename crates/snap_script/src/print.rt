@@ -2,11 +2,11 @@
 ghost use Rattle.std.specs.Prelude.{◌≡◌, ◌++◌, map, codes, OnOk};
 ghost use Rattle.std.specs.Fmt.{decimal};
 ghost use Rattle.snap_script.specs.Text.{kind_text, line_text, reply_text};
-ghost use Rattle.snap_hex.specs.Text.{hex_text};
+ghost use Rattle.snap_stream.specs.Hex.{hex_text};
 ghost use Rattle.snap_script.specs.Text.{entry_text, spaced, world_text};
 
 use itoa::Buffer;
-use snap_hex::put_hex;
+use snap_stream::put_hex;
 use snap_world::{Kind, PartEntry, Reply, Write};
 use std::alloc::AllocError;
 

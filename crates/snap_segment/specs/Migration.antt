@@ -1,7 +1,7 @@
 -- The results of a migration.
 use Rattle.std.specs.Prelude.{◌≡◌, ℕ, List, Result, Ok, Err}
 use Rattle.snap_disk.specs.declared.refusal.Refusal.{Refusal}
-use Rattle.snap_old_slot.specs.Old.{OldHolds}
+use Rattle.snap_slot.specs.Old.{OldHolds}
 use Rattle.snap_segment.specs.declared.migration.Which.{Which}
 use Rattle.snap_segment.specs.declared.migration.Which.TheVariants.{Old, New}
 use Rattle.snap_segment.specs.Open.{CountsFailed}

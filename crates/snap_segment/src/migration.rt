@@ -1,14 +1,15 @@
 //! Converts a segment's file from the old format.
-ghost use Rattle.std.specs.Prelude.{◌≡◌, ◌≢◌, ◌+◌, ◌-◌, ◌^◌, ◌<◌, ◌≤◌, ◌↔◌, ℕ, List, false, length, OnOk, IfOk, IfErr, IsErrOf};
+ghost use Rattle.std.specs.Prelude.{◌≡◌, ◌≢◌, ◌+◌, ◌-◌, ◌^◌, ◌<◌, ◌≤◌, ◌↔◌, ℕ, List, false, length, OnOk, IfOk};
+ghost use Rattle.std.specs.Prelude.{IfErr, IsErrOf};
 ghost use Rattle.snap_slot.specs.declared.layout.TheConstants.{FILE_LEN};
 ghost use Rattle.snap_disk.specs.Device.{Device, IsSynced, MayLeave, CountsCalls};
 ghost use Rattle.snap_disk.specs.Time.{LeavesOnly};
 ghost use Rattle.snap_history.specs.declared.limits.TheConstants.{MAX_COUNT};
 ghost use Rattle.snap_slot.specs.Layout.{IsUnformatted, IsFormatted};
 ghost use Rattle.snap_slot.specs.States.{IsAtRest};
-ghost use Rattle.snap_old_slot.specs.declared.layout.TheConstants.{OLD_FILE_LEN};
-ghost use Rattle.snap_old_slot.specs.Old.{OldHead, OldHolds};
-ghost use Rattle.snap_old_slot.specs.Found.{IsOldFound, IsNoOldOpening};
+ghost use Rattle.snap_slot.specs.declared.old_layout.TheConstants.{OLD_FILE_LEN};
+ghost use Rattle.snap_slot.specs.Old.{OldHead, OldHolds};
+ghost use Rattle.snap_slot.specs.OldFound.{IsOldFound, IsNoOldOpening};
 ghost use Rattle.snap_segment.specs.Refusals.{IsMigrationRefusal};
 ghost use Rattle.snap_segment.specs.Calls.{Counts, LeavesAsBefore};
 ghost use Rattle.snap_segment.specs.Creation.{IsMadeOrLeft, new_file};
@@ -17,8 +18,7 @@ ghost use Rattle.snap_segment.specs.Migration.{CountsFault, IsRead, OfHeld};
 use crate::contents::read_all;
 use crate::creation::create;
 use snap_disk::{Disk, Refusal};
-use snap_old_slot::{OLD_FILE_LEN, OldFound, recover_old};
-use snap_slot::FILE_LEN;
+use snap_slot::{FILE_LEN, OLD_FILE_LEN, OldFound, recover_old};
 
 /// The file of a migration that was refused.
 #[derive(Clone, Copy, Debug, PartialEq, Eq)]

@@ -1,4 +1,4 @@
--- How a server's end follows from its opening.
+-- How a server's result follows from its opening.
 use Rattle.std.proofs.Common.{◌≡◌, ℕ, List, map, length, Option, Err, refl, sym, ◌∙◌}
 use Rattle.std.proofs.lemmas.Simd.{map-map}
 use Rattle.snap_disk.specs.declared.disk.Disk as Disk
@@ -7,7 +7,7 @@ use Rattle.snap_writer.specs.Writer.{WriterState}
 use Rattle.snap_restart.specs.Opened.{IsOpened, recovered}
 use Rattle.snap_restart.specs.Crash.{AreOpened}
 use Rattle.snap_restart.specs.declared.report.Report.{Report}
-use Rattle.snap_serve.specs.declared.failure.HostFailure.TheVariants.{Refused}
+use Rattle.snap_serve.specs.declared.fault.HostFault.TheVariants.{Refused}
 use Rattle.snap_serve.specs.Serve.{End, EndsHost, EndsServing, IsReportOf, Site}
 
 pub ends_opened : {D L : Type 0} (disk : Disk.Ghosts D) (devices : List D) (site : Site L)

@@ -12,12 +12,12 @@ use Rattle.snap_server.specs.declared.fault.RunFault.{RunFault}
 use Rattle.snap_server.specs.declared.fault.RunFault.TheVariants as run
 use Rattle.snap_server.specs.declared.fault.ServerFault.{ServerFault}
 use Rattle.snap_server.specs.declared.fault.ServerFault.TheVariants as faults
-use Rattle.snap_serve.specs.declared.failure.HostFailure.{HostFailure}
-use Rattle.snap_serve.specs.declared.failure.HostFailure.TheVariants.{Address, NoMemory, Output}
+use Rattle.snap_serve.specs.declared.fault.HostFault.{HostFault}
+use Rattle.snap_serve.specs.declared.fault.HostFault.TheVariants.{Address, NoMemory, Output}
 use Rattle.snap_serve.specs.Serve.{EndsServing, HasFailed, IsFaulted, IsNamed, ListenFails, PrintFails, Site}
 use Rattle.snap_serve.specs.Serve.{failure_of, listening_text, opening_text, served_line}
 
--- the report and the address were printed
+-- the report and the addresses were printed
 pub record IsListening {L : Type 0} (site : Site L) (l : L) (r : Report) (o n : Option (List ℕ))
     : Type 0 where
   pub places : List Endpoint
@@ -25,13 +25,13 @@ pub record IsListening {L : Type 0} (site : Site L) (l : L) (r : Report) (o n : 
   pub text : Appends o n (opening_text r places)
 
 module _ {L : Type 0} (site : Site L) (connections : Option ℕ) (r : Report) (o n : Option (List ℕ)) where
-  pub report_failed : (failure : HostFailure) → PrintFails o n (report_text r) failure
+  pub report_failed : (failure : HostFault) → PrintFails o n (report_text r) failure
       → EndsServing site connections r o n (Err failure)
   report_failed (Output error) fails = inl fails
   report_failed NoMemory fails = inl fails
   report_failed failure fails = absurd fails
 
-  pub listen_failed : (failure : HostFailure) → Appends o n (report_text r)
+  pub listen_failed : (failure : HostFault) → Appends o n (report_text r)
       → ListenFails site failure → EndsServing site connections r o n (Err failure)
   listen_failed (Address unbound) came fails = (fails, came)
   listen_failed NoMemory came (inl starved) = inr (inl (starved, came))
@@ -41,7 +41,7 @@ module _ {L : Type 0} (site : Site L) (connections : Option ℕ) (r : Report) (o
   -- after the text that was printed when it began to listen
   module _ {m : Option (List ℕ)} {l : L} (k : ℕ) (is : IsListening site l r o m)
       (asked : connections ≡ Some k) (came : site.gave l k) where
-    pub served_failed : (failure : HostFailure) → PrintFails m n (served_line k) failure
+    pub served_failed : (failure : HostFault) → PrintFails m n (served_line k) failure
         → EndsServing site connections r o n (Err failure)
     served_failed (Output error) fails = inr (
       l,
@@ -72,7 +72,7 @@ module _ {L : Type 0} (site : Site L) (connections : Option ℕ) (r : Report) (o
       text = Appends-trans o m n (opening_text r is.places) (served_line k) is.text said;
     }
 
--- the listener's line, after the report
+-- the listener's lines, after the report
 module _ {L : Type 0} (site : Site L) (l : L) (line : List ℕ) (r : Report) (o m n : Option (List ℕ))
     (came : Appends o m (report_text r)) (named : IsNamed site l line) where
   opened : Appends m n line → Appends o n (opening_text r named.0)
@@ -82,7 +82,7 @@ module _ {L : Type 0} (site : Site L) (l : L) (line : List ℕ) (r : Report) (o 
   pub listening : Appends m n line → IsListening site l r o n
   listening said = record { places = named.0; is_there = named.1; text = opened said }
 
--- the threads were not started, or ended early, for this reason; `contents` is what a writer holds
+-- The threads were not started, or ended early, for this reason. `contents` is what a writer holds.
 module _ {W L : Type 0} (contents : W → Option (List ℕ)) (site : Site L) (connections : Option ℕ)
     (r : Report) (o : Option (List ℕ)) (old new : W) (l : L) (line : List ℕ)
     (came : Appends o (contents old) (report_text r)) (named : IsNamed site l line) where

@@ -19,6 +19,6 @@ abbrev pub plan_of : List Known → Plan
 plan_of [] = no_plan
 plan_of (b ∷ rest) = b.plan
 
--- there are figures for each worker: for each scanner, except the observer's
-abbrev pub HasFigures : {O : Type 0} (onlooker : Option O) (scanners workers : ℕ) → Type 0
-HasFigures onlooker scanners workers = (onlooker ≡ None → scanners ≤ workers) × (scanners ≤ workers + 1)
+-- there are metrics for each worker: for each scanner, except the observer's
+abbrev pub HasFigures : {O : Type 0} (observer : Option O) (scanners workers : ℕ) → Type 0
+HasFigures observer scanners workers = (observer ≡ None → scanners ≤ workers) × (scanners ≤ workers + 1)

@@ -5,19 +5,20 @@ ghost use Rattle.snap_serve.specs.Serve.{listening_line, listening_text};
 ghost use Rattle.snap_stream.specs.Streams.{AppendsBeginning};
 
 use crate::report::print_line;
-use crate::watch::Watch;
+use crate::update_observer::UpdateObserver;
 use snap_server::{Announce, Endpoint};
 use std::alloc::{AllocError, Global};
 use std::io::{self, Write};
 
-/// Prints lines that were made before, so that it needs no memory, and then notifies `watch`.
+/// An announcement that prints lines and then notifies `watch`. The lines were made before, so it
+/// allocates nothing.
 #[derive(Drop)]
 pub(crate) struct Announcement<H: Drop> {
     pub(crate) lines: String,
     pub(crate) watch: H,
 }
 
-/// Makes a line for each place at which the server listens.
+/// Makes a line for each address at which the server listens.
 pub(crate) fn lines_of(alloc: Global, endpoints: &[Endpoint]) -> Result<String, AllocError>
     ensures { IfOk result (λ lines. string_bytes lines ≡ listening_text endpoints.now) }
 {
@@ -29,14 +30,14 @@ pub(crate) fn lines_of(alloc: Global, endpoints: &[Endpoint]) -> Result<String, 
     Ok(lines)
 }
 
-/// Makes the line of one place.
+/// Makes the line of one address.
 fn line_of(alloc: Global, endpoint: &Endpoint) -> Result<String, AllocError>
     ensures { IfOk result (λ line. string_bytes line ≡ listening_line endpoint.now) }
 {
     format!(in alloc; "listening {endpoint}\n")
 }
 
-impl<W: Write, H: Watch + Drop> Announce<W> for Announcement<H> {
+impl<W: Write, H: UpdateObserver + Drop> Announce<W> for Announcement<H> {
     ghost announces = { λ announcement old new.
         Appends (W.contents old) (W.contents new) (string_bytes announcement.lines) };
 

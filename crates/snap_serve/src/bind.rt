@@ -1,9 +1,9 @@
-//! The addresses at which a server listens.
+//! Binding the addresses at which a server listens.
 ghost use Rattle.std.specs.Prelude.{ℕ, List, IfOk, IfErr, map};
-ghost use Rattle.snap_serve.specs.declared.bind.Unbound.{Unbound};
+ghost use Rattle.snap_serve.specs.declared.bind.ListenFault.{ListenFault};
 
 use snap_order::socket_path;
-use snap_server::{BindFault, Listen, Listeners, Locate, Tcp, UnixSocket};
+use snap_server::{BindFault, Listen, Listeners, LocalAddress, Tcp, UnixSocket};
 use std::alloc::Global;
 use std::fs::File;
 use std::io::{self, ErrorKind};
@@ -12,8 +12,8 @@ use std::rt::{Clock, Files};
 
 /// The first address that couldn't be bound, and why.
 #[derive(Drop)]
-pub struct Unbound {
-    /// Its place in the list of addresses.
+pub struct ListenFault {
+    /// The index of the address in the list.
     pub place: usize,
     /// Why it couldn't be bound.
     pub why: BindFault,
@@ -21,17 +21,17 @@ pub struct Unbound {
 
 /// Binds addresses.
 pub trait Bind {
-    /// Accepts the connections at all bound addresses, and names these.
-    type Listener: Listen + Locate;
+    /// A listener at all bound addresses, which it names.
+    type Listener: Listen + LocalAddress;
 
     // The listeners that may result from binding some texts.
     ghost binds: { Self → List (List ℕ) → Self.Listener → Type 0 } = { λ _ _ _. Unit {0} };
 
     // The errors that may result from binding some texts.
-    ghost refuses: { Self → List (List ℕ) → Unbound → Type 0 } = { λ _ _ _. Unit {0} };
+    ghost refuses: { Self → List (List ℕ) → ListenFault → Type 0 } = { λ _ _ _. Unit {0} };
 
-    /// Binds these addresses, which are texts for the system: all, or none.
-    fn bind(&self, alloc: Global, addresses: &Vec<&str>) -> Result<Self::Listener, Unbound>
+    /// Binds these addresses, as texts for the system: all, or none.
+    fn bind(&self, alloc: Global, addresses: &Vec<&str>) -> Result<Self::Listener, ListenFault>
         ensures bound { IfOk result (λ listener.
             binds self.now (map (λ a. a.now) addresses.now.items) listener) }
         ensures refused { IfErr result (λ unbound.
@@ -46,12 +46,12 @@ pub struct Network<'a, X: Net + Files<File = File> + Clock> {
 }
 
 impl<'a, X: Net + Files<File = File> + Clock> Network<'a, X> {
-    /// Binds by the handle `net`. The file of a Unix socket gets this mode.
+    /// Binds by the handle `net`. The file of a Unix socket gets the mode `socket_mode`.
     pub fn new(net: &'a X, socket_mode: u32) -> Network<'a, X> {
         Network { net, socket_mode }
     }
 
-    /// Binds this address, and adds its listener.
+    /// Binds one address, and adds its listener.
     fn add(
         &self,
         alloc: Global,
@@ -68,7 +68,8 @@ impl<'a, X: Net + Files<File = File> + Clock> Network<'a, X> {
         Ok(())
     }
 
-    /// Resolves a name, and tries its addresses in order. The error is the last one's.
+    /// Resolves a host name, and tries its addresses in order. The error is that of the last
+    /// address.
     fn bind_tcp(&self, address: &str) -> io::Result<Tcp> {
         let mut why = io::Error::from(ErrorKind::InvalidInput);
         for candidate in address.to_socket_addrs(self.net)? {
@@ -84,15 +85,15 @@ impl<'a, X: Net + Files<File = File> + Clock> Network<'a, X> {
 impl<'a, X: Net + Files<File = File> + Clock> Bind for Network<'a, X> {
     type Listener = Listeners<'a, X>;
 
-    /// Binds a text that begins with `unix:` as a path, and any other one as a host and a port.
-    fn bind(&self, alloc: Global, addresses: &Vec<&str>) -> Result<Listeners<'a, X>, Unbound> {
+    /// A text that begins with `unix:` is the path of a socket; any other is a host and a port.
+    fn bind(&self, alloc: Global, addresses: &Vec<&str>) -> Result<Listeners<'a, X>, ListenFault> {
         let mut listeners = match Listeners::new(self.net, alloc) {
             Ok(listeners) => listeners,
-            Err(why) => return Err(Unbound { place: 0, why }),
+            Err(why) => return Err(ListenFault { place: 0, why }),
         };
         for (place, address) in addresses.iter().enumerate() {
             if let Err(why) = self.add(alloc, &mut listeners, *address) {
-                return Err(Unbound { place, why });
+                return Err(ListenFault { place, why });
             }
         }
         Ok(listeners)

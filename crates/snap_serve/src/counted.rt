@@ -1,14 +1,15 @@
-//! A listener that counts.
+//! A listener that counts its connections.
 
-use snap_figures::Figures;
-use snap_server::{Arrival, Listen, Unaccepted};
+use snap_metrics::Metrics;
+use snap_server::{AcceptFault, Accepted, Listen};
 use std::marker::Model;
 
-/// A listener that counts the connections that it accepts. In all else it is the inner listener.
+/// A listener that counts the connections that it accepts, and otherwise behaves as the inner
+/// listener.
 #[derive(Drop)]
 pub(crate) struct CountedListener<'a, L: Drop> {
     listener: L,
-    figures: &'a Figures,
+    metrics: &'a Metrics,
 }
 
 impl<'a, L: Drop> Model for CountedListener<'a, L> {
@@ -20,11 +21,11 @@ impl<'a, L: Drop> Model for CountedListener<'a, L> {
 impl<'a, L: Drop> CountedListener<'a, L> {
     ghost use Rattle.std.specs.Prelude.{◌≡◌};
 
-    /// Wraps `listener`, and counts in `figures`.
-    pub(crate) fn new(listener: L, figures: &'a Figures) -> CountedListener<'a, L>
+    /// Wraps `listener`, and counts in `metrics`.
+    pub(crate) fn new(listener: L, metrics: &'a Metrics) -> CountedListener<'a, L>
         ensures { result ≡ listener }
     {
-        CountedListener { listener, figures }
+        CountedListener { listener, metrics }
     }
 }
 
@@ -33,10 +34,10 @@ impl<L: Listen + Drop> Listen for CountedListener<'_, L> {
 
     ghost refuses = { L.refuses };
 
-    fn accept(&mut self) -> Result<Arrival, Unaccepted> {
+    fn accept(&mut self) -> Result<Accepted, AcceptFault> {
         let accepted = self.listener.accept();
         if accepted.is_ok() {
-            self.figures.accept();
+            self.metrics.accept();
         }
         accepted
     }

@@ -1,26 +1,27 @@
-//! Runs a server: [`host`] opens its files, prints what it found, listens, and serves.
+//! Runs a server: opens its files, prints what was found, listens, and serves. Begin with [`host`]
+//! (server.rt).
 //!
 //! Each worker is a desk with a scanner of its own, and each segment has a storer thread. An
-//! observer, such as the HTTP server, has a scanner and a thread too. The caller supplies the
-//! system's handle, the binding of addresses, the callbacks for connections and updates, the
-//! observer, and the limits ([`Edge`]).
+//! observer, such as the HTTP server, has a scanner and a thread too. The caller supplies an
+//! [`Environment`]: the binding of addresses, the callbacks for requests, events and updates, the
+//! metrics, the observer, and the limits.
 #![tactic(auto)]
 
 mod announcement;
 mod bind;
 mod counted;
-mod failure;
+mod fault;
 mod notes;
-mod onlooker;
+mod observer;
 mod report;
 mod seen;
 mod server;
 mod stores;
-mod watch;
+mod update_observer;
 
-pub use bind::{Bind, Network, Unbound};
-pub use failure::HostFailure;
+pub use bind::{Bind, ListenFault, Network};
+pub use fault::HostFault;
 pub use notes::log_note;
-pub use onlooker::{NoOnlooker, Onlook};
-pub use server::{Edge, host};
-pub use watch::{NoWatch, Watch};
+pub use observer::{NoObserver, Observer};
+pub use server::{Environment, host};
+pub use update_observer::{NoUpdateObserver, UpdateObserver};

@@ -5,7 +5,7 @@ ghost use Rattle.snap_stream.specs.Streams.{AppendsBeginning};
 ghost use Rattle.snap_restart.specs.Report.{report_text};
 ghost use Rattle.snap_serve.specs.Serve.{PrintFails, served_line};
 
-use crate::failure::HostFailure;
+use crate::fault::HostFault;
 use snap_restart::Report;
 use snap_stream::write_whole;
 use std::alloc::Global;
@@ -16,18 +16,18 @@ pub(crate) fn print_report<W: Write>(
     alloc: Global,
     report: &Report,
     writer: &mut W,
-) -> Result<(), HostFailure>
+) -> Result<(), HostFault>
     ensures whole { OnOk result
         (Appends (W.contents writer.old) (W.contents writer.new) (report_text report.now)) }
     ensures failed { IfErr result
         (PrintFails (W.contents writer.old) (W.contents writer.new) (report_text report.now)) }
 {
     let Ok(text) = report.to_string(alloc) else {
-        return Err(HostFailure::NoMemory);
+        return Err(HostFault::NoMemory);
     };
     match print_line(&text, writer) {
         Ok(()) => Ok(()),
-        Err(error) => Err(HostFailure::Output(error)),
+        Err(error) => Err(HostFault::Output(error)),
     }
 }
 
@@ -36,18 +36,18 @@ pub(crate) fn print_served<W: Write>(
     alloc: Global,
     served: u64,
     writer: &mut W,
-) -> Result<(), HostFailure>
+) -> Result<(), HostFault>
     ensures whole { OnOk result
         (Appends (W.contents writer.old) (W.contents writer.new) (served_line served)) }
     ensures failed { IfErr result
         (PrintFails (W.contents writer.old) (W.contents writer.new) (served_line served)) }
 {
     let Ok(line) = format!(in alloc; "served {served}\n") else {
-        return Err(HostFailure::NoMemory);
+        return Err(HostFault::NoMemory);
     };
     match print_line(&line, writer) {
         Ok(()) => Ok(()),
-        Err(error) => Err(HostFailure::Output(error)),
+        Err(error) => Err(HostFault::Output(error)),
     }
 }
 

@@ -1,13 +1,13 @@
-//! A server with an observer.
+//! Running a server with an observer.
 ghost use Rattle.std.specs.Prelude.{◌≡◌, ◌-◌, ◌≤◌, Some, IfOk, IfErr, length};
 ghost use Rattle.std.specs.Thread.{IsSync, IsSend};
 ghost use Rattle.snap_server.specs.Announced.{Announced};
 ghost use Rattle.snap_server.specs.Deals.{GivesSoMany};
 
-use crate::onlooker::Onlook;
-use snap_desk::{Desk, Lookout};
+use crate::observer::Observer;
+use snap_desk::{Desk, ReadOnlyService};
 use snap_disk::Disk;
-use snap_server::{Announce, Gate, Limits, Listen, Note, RunFault, ServerFault, run};
+use snap_server::{Announce, Gate, Limits, Listen, RunFault, ServerEvent, ServerFault, run};
 use snap_service::Memory;
 use snap_session::{Background, Service};
 use std::alloc::Global;
@@ -19,36 +19,37 @@ use std::thread::Threads;
 
 /// An observer, and the service by which it reads.
 #[derive(Drop)]
-pub(crate) struct View<'a, M: Memory, O> {
-    lookout: Lookout<M>,
-    onlooker: &'a O,
+pub(crate) struct ObserverTask<'a, M: Memory, O> {
+    service: ReadOnlyService<M>,
+    observer: &'a O,
 }
 
 /// Takes the last desk for the observer; the others are the workers'. `None` if there is no desk.
-pub(crate) fn take_view<'a, R: Wait + Copy + Clock, M: Memory, D: Disk + Drop, O>(
+pub(crate) fn take_observer<'a, R: Wait + Copy + Clock, M: Memory, D: Disk + Drop, O>(
     desks: &mut Vec<Desk<R, M, D>>,
-    onlooker: &'a O,
-) -> Result<Option<View<'a, M, O>>, ServerFault>
+    observer: &'a O,
+) -> Result<Option<ObserverTask<'a, M, O>>, ServerFault>
     ensures fewer { length desks.new.items ≤ length desks.old.items - 1 }
     ensures faults { IfErr result (λ fault. fault ≡ ServerFault.NoMemory) }
 {
     let Some(desk) = desks.pop() else {
         return Ok(None);
     };
-    match desk.into_lookout() {
-        Ok(lookout) => Ok(Some(View { lookout, onlooker })),
+    match desk.into_read_only() {
+        Ok(service) => Ok(Some(ObserverTask { service, observer })),
         Err(_) => Err(ServerFault::NoMemory),
     }
 }
 
-/// Serves as [`run`] does, while the observer runs in a thread of its own, which ends once the server has.
-pub(crate) fn run_seen<X, L, S, B, M, O, G, N, T, A>(
+/// Serves as [`run`] does, while the observer runs in a thread of its own, which ends once the
+/// server has ended.
+pub(crate) fn run_observed<X, L, S, B, M, O, G, N, T, A>(
     rt: &X,
     alloc: Global,
     listener: L,
     services: Vec<S>,
     backgrounds: Vec<B>,
-    view: View<'_, M, O>,
+    task: ObserverTask<'_, M, O>,
     limits: Limits,
     gate: &G,
     note: &N,
@@ -62,9 +63,9 @@ where
     S::Outcome: Send + Drop,
     B: Background<Outcome = S::Outcome> + Send + Drop,
     M: Memory + Send,
-    O: Onlook + Sync,
+    O: Observer + Sync,
     G: Gate + Sync,
-    N: Fn(&Note) + Sync,
+    N: Fn(&ServerEvent) + Sync,
     A: Announce<T>,
     requires { N.IsAlwaysCallable note.now }
     ensures asked { IfOk result (λ k. limits.connections ≡ Some k) }
@@ -75,7 +76,7 @@ where
     ensures announced { Announced (A.announces announce.now) (A.fails announce.now)
         to.old result to.new }
 {
-    let View { lookout, onlooker } = view;
+    let ObserverTask { service, observer } = task;
     let (ended, _to) = thread::scope(
         thread::scope_env(),
         rt,
@@ -95,7 +96,7 @@ where
             let looking = move ||
                 requires { IsSync X.row × IsSync O.row × IsSend M.row }
             {
-                onlooker.look(rt, lookout);
+                observer.look(rt, service);
             };
             if scope.spawn(looking).is_err() {
                 return (Err(RunFault::Server(ServerFault::NoThread)), to);
@@ -112,7 +113,7 @@ where
                 announce,
                 to,
             );
-            onlooker.stop();
+            observer.stop();
             (ended, to)
         },
     );

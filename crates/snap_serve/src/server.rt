@@ -1,5 +1,6 @@
-//! A server from its files to its end.
-ghost use Rattle.std.specs.Prelude.{◌≡◌, ◌+◌, ◌-◌, ◌^◌, ◌<◌, ◌≤◌, length, min, All, IfOk, IfErr, map, string_bytes, if◌then◌else◌};
+//! A server from opening its files to its exit.
+ghost use Rattle.std.specs.Prelude.{◌≡◌, ◌+◌, ◌-◌, ◌^◌, ◌<◌, ◌≤◌, length, min, All, IfOk, IfErr, map, string_bytes};
+ghost use Rattle.std.specs.Prelude.{if◌then◌else◌};
 ghost use Rattle.snap_order.specs.Order.{IsServable};
 ghost use Rattle.snap_history.specs.declared.limits.TheConstants.{MAX_SCANNERS};
 ghost use Rattle.snap_restart.specs.Closed.{AreBack};
@@ -8,19 +9,19 @@ ghost use Rattle.snap_serve.specs.Serve.{EndsHost, EndsServing, IsLengthAt, IsNa
 ghost use Rattle.snap_serve.specs.Serve.{TellsItsEnd, addresses_of, failure_of, site_at, unbound_failure};
 
 use crate::announcement::{Announcement, lines_of};
-use crate::bind::{Bind, Unbound};
-use crate::failure::HostFailure;
-use crate::onlooker::Onlook;
+use crate::bind::{Bind, ListenFault};
+use crate::fault::HostFault;
+use crate::observer::Observer;
 use crate::report::{print_report, print_served};
 use crate::stores::serve_store;
-use crate::watch::Watch;
+use crate::update_observer::UpdateObserver;
 use snap_disk::Disk;
-use snap_figures::Figures;
 use snap_history::MAX_SCANNERS;
-use snap_order::{Exit, Serving, Status};
+use snap_metrics::Metrics;
+use snap_order::{Exit, ServeOptions, Status};
 use snap_restart::{Report, Store, open_all};
-use snap_server::{BindFault, Gate, Limits, Locate, Note, RunFault, ServerFault};
-use snap_stream::Cause;
+use snap_server::{BindFault, Gate, Limits, LocalAddress, RunFault, ServerEvent, ServerFault};
+use snap_stream::SystemReason;
 use std::alloc::Global;
 use std::io::Write;
 use std::net::Net;
@@ -29,50 +30,51 @@ use std::sync::Wait;
 use std::thread::Threads;
 use std::time::Duration;
 
-/// The pause after a first fault of the listener, in milliseconds. With the longer ones after
+/// The pause after the first fault of the listener, in milliseconds. With the longer pauses after
 /// further faults, accepting ends after three minutes.
 const FAULT_REST: u64 = 20;
 
-/// The environment of a server.
+/// The environment of a server: all that it gets from its caller.
 #[derive(Drop)]
-pub struct Edge<'a, B, G, N, H: Drop, C, O> {
+pub struct Environment<'a, B, G, N, H: Drop, C, O> {
     /// Binds the addresses.
     pub bind: &'a B,
-    /// Is called before each request is answered and after.
+    /// Called before and after each request.
     pub gate: &'a G,
-    /// Is notified of each connection that has ended, and of the state of accepting.
+    /// Called for each event: a connection was closed, or accepting is limited, possible again, or
+    /// over.
     pub note: &'a N,
-    /// Is notified of the start, of the end, and of each update.
+    /// Called at the start, at the end, and for each update.
     pub watch: H,
-    /// The server's metrics, with a place for each worker.
-    pub figures: &'a Figures,
+    /// The server's metrics, with a part for each worker.
+    pub metrics: &'a Metrics,
     /// The observer, if there is one. It takes one more scanner.
-    pub onlooker: Option<&'a O>,
+    pub observer: Option<&'a O>,
     /// The system's message for each segment's device, after a failed call.
     pub causes: &'a [C],
-    /// How many connections may be open at once.
+    /// The number of connections that may be open at once.
     pub clients: usize,
     /// The idle timeout of a connection; `None` for no limit.
     pub idle: Option<Duration>,
 }
 
-/// Serves the order's segments, with one device for each of its files, in order, and returns the
+/// Serves the segments of `order`, with one device for each of its files, in order, and returns the
 /// program's exit.
 ///
 /// All files are opened first. Then the report of the opening is printed, and the addresses are
-/// bound. Once all threads run, `listening ADDRESS` is printed for each address that the listener
-/// names. Then as many connections are served as the order says, or without end; at the end comes a
-/// line `served K`. Each of the three is flushed. Nothing is served before the report and
-/// `listening` are printed.
+/// bound. Once all threads are running, `listening ADDRESS` is printed for each address of the
+/// listener. Then as many connections are served as `order` says, or without end; after them the
+/// line `served K` is printed. Each of the three texts is flushed. Nothing is served before the
+/// report and `listening` are printed.
 ///
-/// If it ends early, `errors` gets the reason as one line that begins `snapd: `; after a refused
-/// file a second line names the file and says what to do.
+/// If the server ends early, `errors` gets the reason as one line that begins with `snapd: `; after
+/// a refused file, a second line names the file and says what to do.
 pub fn host<X, D, B, G, N, H, C, O, W, E>(
     rt: &X,
     alloc: Global,
-    order: &Serving<'_>,
+    order: &ServeOptions<'_>,
     devices: Vec<D>,
-    edge: Edge<'_, B, G, N, H, C, O>,
+    environment: Environment<'_, B, G, N, H, C, O>,
     writer: &mut W,
     errors: &mut E,
 ) -> Exit
@@ -82,27 +84,27 @@ where
     B: Bind,
     B::Listener: Drop,
     G: Gate + Sync,
-    N: Fn(&Note) + Sync,
-    H: Watch + Copy + Send + Drop,
-    C: Cause,
-    O: Onlook + Sync,
+    N: Fn(&ServerEvent) + Sync,
+    H: UpdateObserver + Copy + Send + Drop,
+    C: SystemReason,
+    O: Observer + Sync,
     W: Write,
     E: Write,
     requires order { IsServable order.now }
     requires devices { length devices.items ≡ length order.now.files.items }
     requires headroom { All (λ d. D.failure_count d < 2 ^ 64 - 1) devices.items }
-    requires figures { order.now.scanners ≤ edge.figures.now.workers }
-    requires note { N.IsAlwaysCallable edge.note.now }
+    requires metrics { order.now.scanners ≤ environment.metrics.now.workers }
+    requires note { N.IsAlwaysCallable environment.note.now }
 
-    // The status, `errors` and the writer agree on one end, which is possible with these devices
+    // The status, `errors` and the writer agree on one result, which is possible with these devices
     // and this site.
     ensures ends { TellsItsEnd D.Disk devices.items
-        (site_at B.Bind B.Listener.Locate B.Listener.Listen edge.entry.bind.now
+        (site_at B.Bind B.Listener.LocalAddress B.Listener.Listen environment.entry.bind.now
         (addresses_of order.now)) order.now result (E.contents errors.old) (E.contents errors.new)
         (W.contents writer.old) (W.contents writer.new) }
 {
-    let causes = edge.causes;
-    match open_and_serve(rt, alloc, order, devices, edge, writer) {
+    let causes = environment.causes;
+    match open_and_serve(rt, alloc, order, devices, environment, writer) {
         Ok(_) => Exit {
             status: Status::Done,
             is_told: true,
@@ -111,39 +113,44 @@ where
     }
 }
 
-/// Opens, reports, listens, serves, and returns how many connections were served.
+/// Opens the files, prints the report, listens and serves. Returns the number of connections
+/// served.
 fn open_and_serve<X, D, B, G, N, H, C, O, W>(
     rt: &X,
     alloc: Global,
-    order: &Serving<'_>,
+    order: &ServeOptions<'_>,
     devices: Vec<D>,
-    edge: Edge<'_, B, G, N, H, C, O>,
+    environment: Environment<'_, B, G, N, H, C, O>,
     writer: &mut W,
-) -> Result<u64, HostFailure>
+) -> Result<u64, HostFault>
 where
     X: Threads + Wait + Clock + Net + Sync + Send + Copy,
     D: Disk + Send + Drop,
     B: Bind,
     B::Listener: Drop,
     G: Gate + Sync,
-    N: Fn(&Note) + Sync,
-    H: Watch + Copy + Send + Drop,
-    C: Cause,
-    O: Onlook + Sync,
+    N: Fn(&ServerEvent) + Sync,
+    H: UpdateObserver + Copy + Send + Drop,
+    C: SystemReason,
+    O: Observer + Sync,
     W: Write,
     requires order { IsServable order.now }
     requires devices { length devices.items ≡ length order.now.files.items }
     requires headroom { All (λ d. D.failure_count d < 2 ^ 64 - 1) devices.items }
-    requires figures { order.now.scanners ≤ edge.figures.now.workers }
-    requires note { N.IsAlwaysCallable edge.note.now }
+    requires metrics { order.now.scanners ≤ environment.metrics.now.workers }
+    requires note { N.IsAlwaysCallable environment.note.now }
     ensures ends { EndsHost D.Disk devices.items
-        (site_at B.Bind B.Listener.Locate B.Listener.Listen edge.entry.bind.now
+        (site_at B.Bind B.Listener.LocalAddress B.Listener.Listen environment.entry.bind.now
         (addresses_of order.now)) order.now.connections
         (W.contents writer.old) (W.contents writer.new) result }
 {
-    match open_all(alloc, devices, seats_of(order, edge.onlooker.is_some())) {
-        Ok((store, report)) => serve_opened(rt, alloc, order, store, &report, edge, writer),
-        Err(stopped) => Err(HostFailure::Refused {
+    match open_all(
+        alloc,
+        devices,
+        seats_of(order, environment.observer.is_some()),
+    ) {
+        Ok((store, report)) => serve_opened(rt, alloc, order, store, &report, environment, writer),
+        Err(stopped) => Err(HostFault::Refused {
             segment: stopped.segment,
             why: stopped.refusal,
             len: length_at(&stopped.devices, stopped.segment),
@@ -151,9 +158,9 @@ where
     }
 }
 
-/// How many scanners there are: one for each worker, and one for the observer. If that would be too
-/// many, there is one worker less.
-fn seats_of(order: &Serving<'_>, is_seen: bool) -> usize
+/// The number of scanners: one for each worker, and one for the observer. If that is too many,
+/// there is one worker less.
+fn seats_of(order: &ServeOptions<'_>, is_seen: bool) -> usize
     requires { IsServable order.now }
     ensures some { 0 < result }
     ensures most { result ≤ MAX_SCANNERS }
@@ -178,33 +185,33 @@ fn length_at<D: Disk>(devices: &Vec<D>, segment: usize) -> u64
     }
 }
 
-/// Reports, listens, serves, and returns how many connections were served.
+/// Prints the report, listens and serves. Returns the number of connections served.
 #[tactic(auto, using(crate::proofs::Written::report_failed))]
 fn serve_opened<X, D, B, G, N, H, C, O, W>(
     rt: &X,
     alloc: Global,
-    order: &Serving<'_>,
+    order: &ServeOptions<'_>,
     store: Store<D>,
     report: &Report,
-    edge: Edge<'_, B, G, N, H, C, O>,
+    environment: Environment<'_, B, G, N, H, C, O>,
     writer: &mut W,
-) -> Result<u64, HostFailure>
+) -> Result<u64, HostFault>
 where
     X: Threads + Wait + Clock + Net + Sync + Send + Copy,
     D: Disk + Send + Drop,
     B: Bind,
     B::Listener: Drop,
     G: Gate + Sync,
-    N: Fn(&Note) + Sync,
-    H: Watch + Copy + Send + Drop,
-    C: Cause,
-    O: Onlook + Sync,
+    N: Fn(&ServerEvent) + Sync,
+    H: UpdateObserver + Copy + Send + Drop,
+    C: SystemReason,
+    O: Observer + Sync,
     W: Write,
     requires back { AreBack store.writers.items store.scanners.items }
-    requires figures { HasFigures edge.onlooker (length store.scanners.items) edge.figures.now.workers }
-    requires note { N.IsAlwaysCallable edge.note.now }
+    requires metrics { HasFigures environment.observer (length store.scanners.items) environment.metrics.now.workers }
+    requires note { N.IsAlwaysCallable environment.note.now }
     ensures ends { EndsServing
-        (site_at B.Bind B.Listener.Locate B.Listener.Listen edge.entry.bind.now
+        (site_at B.Bind B.Listener.LocalAddress B.Listener.Listen environment.entry.bind.now
         (addresses_of order.now)) order.now.connections report.now
         (W.contents writer.old) (W.contents writer.new) result }
 {
@@ -212,20 +219,20 @@ where
         Ok(()) => {}
         Err(failure) => return Err(failure),
     }
-    let (listener, lines) = match listen(alloc, &order.addresses, edge.bind) {
+    let (listener, lines) = match listen(alloc, &order.addresses, environment.bind) {
         Ok(listening) => listening,
         Err(failure) => return Err(failure),
     };
-    let Edge {
+    let Environment {
         gate,
         note,
         watch,
-        figures,
-        onlooker,
+        metrics,
+        observer,
         clients,
         idle,
         ..
-    } = edge;
+    } = environment;
     let limits = Limits {
         connections: order.connections,
         clients,
@@ -242,8 +249,8 @@ where
         gate,
         note,
         watch,
-        figures,
-        onlooker,
+        metrics,
+        observer,
         &announcement,
         writer,
     );
@@ -262,24 +269,24 @@ where
     }
 }
 
-/// The failure of the program for a fault of its server.
-fn failure_of(fault: RunFault) -> HostFailure
+/// Maps a fault of the server to the program's fault.
+fn failure_of(fault: RunFault) -> HostFault
     ensures { result ≡ failure_of fault }
 {
     match fault {
-        RunFault::Announcement(error) => HostFailure::Output(error),
-        RunFault::Server(ServerFault::NoMemory) => HostFailure::NoMemory,
-        RunFault::Server(fault) => HostFailure::Server(fault),
+        RunFault::Announcement(error) => HostFault::Output(error),
+        RunFault::Server(ServerFault::NoMemory) => HostFault::NoMemory,
+        RunFault::Server(fault) => HostFault::Server(fault),
     }
 }
 
-/// The failure of the program for an address that wasn't bound.
-fn unbound_failure(unbound: Unbound) -> HostFailure
+/// Maps an address that wasn't bound to the program's fault.
+fn unbound_failure(unbound: ListenFault) -> HostFault
     ensures { result ≡ unbound_failure unbound }
 {
     match unbound.why {
-        BindFault::NoMemory => HostFailure::NoMemory,
-        _ => HostFailure::Address(unbound),
+        BindFault::NoMemory => HostFault::NoMemory,
+        _ => HostFault::Address(unbound),
     }
 }
 
@@ -288,15 +295,15 @@ fn listen<B: Bind>(
     alloc: Global,
     addresses: &Vec<&str>,
     bind: &B,
-) -> Result<(B::Listener, String), HostFailure>
+) -> Result<(B::Listener, String), HostFault>
 where
     B::Listener: Drop,
     ensures bound { IfOk result (λ made. IsNamed
-        (site_at B.Bind B.Listener.Locate B.Listener.Listen bind.now
+        (site_at B.Bind B.Listener.LocalAddress B.Listener.Listen bind.now
         (map (λ a. a.now) addresses.now.items))
         made.0 (string_bytes made.1)) }
     ensures failed { IfErr result (ListenFails
-        (site_at B.Bind B.Listener.Locate B.Listener.Listen bind.now
+        (site_at B.Bind B.Listener.LocalAddress B.Listener.Listen bind.now
         (map (λ a. a.now) addresses.now.items))) }
 {
     let listener = match bind.bind(alloc, addresses) {
@@ -305,6 +312,6 @@ where
     };
     match lines_of(alloc, listener.endpoints()) {
         Ok(lines) => Ok((listener, lines)),
-        Err(_) => Err(HostFailure::NoMemory),
+        Err(_) => Err(HostFault::NoMemory),
     }
 }

@@ -1,24 +1,26 @@
 //! The storer threads, and the workers' desks.
-ghost use Rattle.std.specs.Prelude.{◌≡◌, ◌+◌, ◌≤◌, length, Some, IfOk, IfErr, OnOk};
+ghost use Rattle.std.specs.Prelude.{◌≡◌, ◌+◌, ◌≤◌, ◌∷◌, ◌++◌, [], length, Some, IfOk, IfErr, OnOk};
 ghost use Rattle.snap_memory.specs.Rule.{segments};
+ghost use Rattle.snap_memory.specs.Seat.{own_of};
 ghost use Rattle.snap_service.specs.Memory.{AreWriters, IsOf};
 ghost use Rattle.snap_restart.specs.Closed.{AreBack};
+ghost use Rattle.snap_serve.specs.Handles.{AreHandles};
 ghost use Rattle.snap_serve.specs.Scanners.{AreScanners, HasFigures};
 ghost use Rattle.snap_server.specs.Announced.{Announced};
 ghost use Rattle.snap_server.specs.Deals.{GivesSoMany};
 
 use crate::counted::CountedListener;
-use crate::onlooker::Onlook;
-use crate::seen::{View, run_seen, take_view};
-use crate::watch::Watch;
-use snap_desk::{Desk, Outcome, Storer, Window};
+use crate::observer::Observer;
+use crate::seen::{ObserverTask, run_observed, take_observer};
+use crate::update_observer::UpdateObserver;
+use snap_desk::{Desk, Outcome, Storer, StorerHandle};
 use snap_disk::Disk;
-use snap_figures::{Counted, Figures};
 use snap_memory::Scanner;
+use snap_metrics::{CountingService, Metrics};
 use snap_restart::Store;
-use snap_server::{Announce, Gate, Limits, Listen, Note, RunFault, ServerFault, run};
-use snap_service::{Memory, WriterOf};
-use snap_session::{Background, Done};
+use snap_server::{Announce, Gate, Limits, Listen, RunFault, ServerEvent, ServerFault, run};
+use snap_service::Memory;
+use snap_session::{Background, Completion};
 use snap_writer::Writer;
 use std::alloc::{AllocError, Global};
 use std::marker::Brand;
@@ -35,11 +37,11 @@ struct Storing<R: Wait + Copy, M: Memory, D: Disk + Drop, H: Drop> {
     watch: H,
 }
 
-impl<R: Wait + Copy, M: Memory, D: Disk + Drop, H: Watch + Drop> Background
+impl<R: Wait + Copy, M: Memory, D: Disk + Drop, H: UpdateObserver + Drop> Background
     for Storing<R, M, D, H> {
     type Outcome = Outcome<R, M, D>;
 
-    fn next_done(&mut self) -> Option<Done<Outcome<R, M, D>>> {
+    fn next_done(&mut self) -> Option<Completion<Outcome<R, M, D>>> {
         let done = self.store.next()?;
         let outcome = &done.outcome;
         self.watch
@@ -48,46 +50,47 @@ impl<R: Wait + Copy, M: Memory, D: Disk + Drop, H: Watch + Drop> Background
     }
 }
 
-/// Makes a storer for each writer of the memory, and their windows in the same order.
-fn open_stores<R: Wait + Copy, M: Memory, D: Disk + Drop, H: Watch + Copy + Drop>(
+/// Makes a storer for each writer of the memory, and their handles in the order of their segments.
+fn open_stores<R: Wait + Copy, M: Memory, D: Disk + Drop, H: UpdateObserver + Copy + Drop>(
     rt: R,
     alloc: Global,
     writers: Vec<Writer<D>>,
     watch: H,
-) -> Result<(Vec<Storing<R, M, D, H>>, Vec<Window>), AllocError>
+) -> Result<(Vec<Storing<R, M, D, H>>, Vec<StorerHandle>), AllocError>
     requires { AreWriters M.table M.plan writers.items }
     ensures stores { IfOk result (λ r. length r.0.items ≡ length writers.items) }
-    ensures windows { IfOk result (λ r. length r.1.items ≡ length writers.items) }
+    ensures handles { IfOk result (λ r. AreHandles (segments M.plan) r.1.items) }
 {
     let mut stores = Vec::new(alloc);
-    let mut windows = Vec::new(alloc);
+    let mut handles = Vec::new(alloc);
     'writers: for writer in writers {
-        let writer = WriterOf::new(writer, stores.len());
-        add_store::<R, M, D, H>(rt, alloc, writer, watch, &mut stores, &mut windows)?;
+        add_store::<R, M, D, H>(rt, alloc, writer, watch, &mut stores, &mut handles)?;
     }
-    Ok((stores, windows))
+    Ok((stores, handles))
 }
 
-/// Adds a storer for this writer, and its window.
-fn add_store<R: Wait + Copy, M: Memory, D: Disk + Drop, H: Watch + Copy + Drop>(
+/// Adds a storer for this writer of the memory, and its handle.
+fn add_store<R: Wait + Copy, M: Memory, D: Disk + Drop, H: UpdateObserver + Copy + Drop>(
     rt: R,
     alloc: Global,
-    writer: WriterOf<M, D>,
+    writer: Writer<D>,
     watch: H,
     stores: &mut Vec<Storing<R, M, D, H>>,
-    windows: &mut Vec<Window>,
+    handles: &mut Vec<StorerHandle>,
 ) -> Result<(), AllocError>
+    requires memory { IsOf M.table M.plan writer.seat }
     ensures stores { OnOk result (length stores.new.items ≡ length stores.old.items + 1) }
-    ensures windows { OnOk result (length windows.new.items ≡ length windows.old.items + 1) }
+    ensures handles { OnOk result
+        (handles.new.items ≡ handles.old.items ++ own_of writer.seat ∷ []) }
 {
     let segment = writer.segment();
-    let (store, window) = Storer::new(rt, alloc, writer)?;
+    let (store, handle) = Storer::new(rt, alloc, writer)?;
     stores.push(Storing {
         store,
         segment,
         watch,
     })?;
-    windows.push(window)?;
+    handles.push(handle)?;
     Ok(())
 }
 
@@ -95,32 +98,32 @@ fn add_store<R: Wait + Copy, M: Memory, D: Disk + Drop, H: Watch + Copy + Drop>(
 fn open_desks<R: Wait + Copy + Clock, M: Memory, D: Disk + Drop>(
     rt: R,
     alloc: Global,
-    windows: Vec<Window>,
+    handles: Vec<StorerHandle>,
     scanners: Vec<Scanner>,
 ) -> Result<Vec<Desk<R, M, D>>, AllocError>
-    requires windows { length windows.items ≡ segments M.plan }
+    requires handles { AreHandles (segments M.plan) handles.items }
     requires scanners { AreScanners M.table M.plan scanners.items }
     ensures { IfOk result (λ desks. length desks.items ≡ length scanners.items) }
 {
     let mut desks = Vec::new(alloc);
     'scanners: for scanner in scanners {
-        desks.push(open_desk(rt, alloc, desks.len(), &windows, scanner)?)?;
+        desks.push(open_desk(rt, alloc, desks.len(), &handles, scanner)?)?;
     }
     Ok(desks)
 }
 
-/// Makes the desk of this worker, with windows of its own.
+/// Makes the desk of this worker, with handles of its own.
 fn open_desk<R: Wait + Copy + Clock, M: Memory, D: Disk + Drop>(
     rt: R,
     alloc: Global,
     worker: usize,
-    windows: &Vec<Window>,
+    handles: &Vec<StorerHandle>,
     scanner: Scanner,
 ) -> Result<Desk<R, M, D>, AllocError>
-    requires windows { length windows.now.items ≡ segments M.plan }
+    requires handles { AreHandles (segments M.plan) handles.now.items }
     requires memory { IsOf M.table M.plan scanner }
 {
-    Ok(Desk::new(rt, alloc, worker, windows.clone()?, scanner))
+    Ok(Desk::new(rt, alloc, worker, handles.clone()?, scanner))
 }
 
 /// Makes the desks and storers of a server over the memory of these writers and scanners.
@@ -135,33 +138,33 @@ where
     M: Memory,
     X: Wait + Clock + Copy,
     D: Disk + Drop,
-    H: Watch + Copy + Drop,
+    H: UpdateObserver + Copy + Drop,
     requires writers { AreWriters M.table M.plan writers.items }
     requires scanners { AreScanners M.table M.plan scanners.items }
     ensures desks { IfOk result (λ parts. length parts.0.items ≡ length scanners.items) }
     ensures faults { IfErr result (λ fault. fault ≡ ServerFault.NoMemory) }
 {
-    let Ok((stores, windows)) = open_stores::<X, M, D, H>(rt, alloc, writers, watch) else {
+    let Ok((stores, handles)) = open_stores::<X, M, D, H>(rt, alloc, writers, watch) else {
         return Err(ServerFault::NoMemory);
     };
-    let Ok(desks) = open_desks::<X, M, D>(rt, alloc, windows, scanners) else {
+    let Ok(desks) = open_desks::<X, M, D>(rt, alloc, handles, scanners) else {
         return Err(ServerFault::NoMemory);
     };
     Ok((desks, stores))
 }
 
-/// Wraps each desk, so that its answers are counted in its worker's figures.
+/// Wraps each desk, so that its answers are counted in its worker's metrics.
 fn count_all<'f, S: Drop>(
     alloc: Global,
     desks: Vec<S>,
-    figures: &'f Figures,
-) -> Result<Vec<Counted<'f, S>>, AllocError>
-    requires { length desks.items ≤ figures.now.workers }
+    metrics: &'f Metrics,
+) -> Result<Vec<CountingService<'f, S>>, AllocError>
+    requires { length desks.items ≤ metrics.now.workers }
 {
     let mut services = Vec::with_capacity(alloc, desks.len())?;
     'desks: for desk in desks {
-        let worker = figures.worker(services.len());
-        services.push(Counted::new(desk, worker))?;
+        let worker = metrics.worker(services.len());
+        services.push(CountingService::new(desk, worker))?;
     }
     Ok(services)
 }
@@ -178,8 +181,8 @@ fn serve_memory<M, X, D, L, G, N, H, O, A, T>(
     gate: &G,
     note: &N,
     watch: H,
-    figures: &Figures,
-    onlooker: Option<&O>,
+    metrics: &Metrics,
+    observer: Option<&O>,
     announce: &A,
     to: &mut T,
 ) -> Result<u64, RunFault>
@@ -189,13 +192,13 @@ where
     D: Disk + Send + Drop,
     L: Listen + Drop,
     G: Gate + Sync,
-    N: Fn(&Note) + Sync,
-    H: Watch + Copy + Send + Drop,
-    O: Onlook + Sync,
+    N: Fn(&ServerEvent) + Sync,
+    H: UpdateObserver + Copy + Send + Drop,
+    O: Observer + Sync,
     A: Announce<T>,
     requires writers { AreWriters M.table M.plan writers.items }
     requires scanners { AreScanners M.table M.plan scanners.items }
-    requires figures { HasFigures onlooker (length scanners.items) figures.now.workers }
+    requires metrics { HasFigures observer (length scanners.items) metrics.now.workers }
     requires note { N.IsAlwaysCallable note.now }
     ensures asked { IfOk result (λ k. limits.connections ≡ Some k) }
     ensures accepted { IfOk result (λ k. (left : L) × GivesSoMany L.accepts k listener left) }
@@ -208,19 +211,19 @@ where
         Ok(parts) => parts,
         Err(fault) => return Err(RunFault::Server(fault)),
     };
-    let view = match onlooker {
-        Some(onlooker) => match take_view(&mut desks, onlooker) {
-            Ok(view) => view,
+    let task = match observer {
+        Some(observer) => match take_observer(&mut desks, observer) {
+            Ok(task) => task,
             Err(fault) => return Err(RunFault::Server(fault)),
         },
         None => None,
     };
-    let Ok(services) = count_all(alloc, desks, figures) else {
+    let Ok(services) = count_all(alloc, desks, metrics) else {
         return Err(RunFault::Server(ServerFault::NoMemory));
     };
-    match view {
-        Some(view) => run_seen(
-            rt, alloc, listener, services, stores, view, limits, gate, note, announce, to,
+    match task {
+        Some(task) => run_observed(
+            rt, alloc, listener, services, stores, task, limits, gate, note, announce, to,
         ),
         None => run(
             rt, alloc, listener, services, stores, limits, gate, note, announce, to,
@@ -239,8 +242,8 @@ pub(crate) fn serve_store<X, D, L, G, N, H, O, A, T>(
     gate: &G,
     note: &N,
     watch: H,
-    figures: &Figures,
-    onlooker: Option<&O>,
+    metrics: &Metrics,
+    observer: Option<&O>,
     announce: &A,
     to: &mut T,
 ) -> Result<u64, RunFault>
@@ -249,12 +252,12 @@ where
     D: Disk + Send + Drop,
     L: Listen + Drop,
     G: Gate + Sync,
-    N: Fn(&Note) + Sync,
-    H: Watch + Copy + Send + Drop,
-    O: Onlook + Sync,
+    N: Fn(&ServerEvent) + Sync,
+    H: UpdateObserver + Copy + Send + Drop,
+    O: Observer + Sync,
     A: Announce<T>,
     requires back { AreBack store.writers.items store.scanners.items }
-    requires figures { HasFigures onlooker (length store.scanners.items) figures.now.workers }
+    requires metrics { HasFigures observer (length store.scanners.items) metrics.now.workers }
     requires note { N.IsAlwaysCallable note.now }
     ensures asked { IfOk result (λ k. limits.connections ≡ Some k) }
     ensures accepted { IfOk result (λ k. (left : L) × GivesSoMany L.accepts k listener left) }
@@ -264,9 +267,9 @@ where
         to.old result to.new }
 {
     let (writers, scanners) = store.into_parts();
-    let listener = CountedListener::new(listener, figures);
+    let listener = CountedListener::new(listener, metrics);
     serve_memory::<Brand, X, D, CountedListener<'_, L>, G, N, H, O, A, T>(
-        rt, alloc, writers, scanners, listener, limits, gate, note, watch, figures, onlooker,
+        rt, alloc, writers, scanners, listener, limits, gate, note, watch, metrics, observer,
         announce, to,
     )
 }

@@ -1,8 +1,9 @@
 -- The calls of a listener, one after another.
-use Rattle.std.proofs.Common.{◌≡◌, ◌⊎◌, ℕ, zero, suc, nat_lt, if◌then◌else◌, Bool, true, false, List, [], ◌∷◌, length, slice_get, ◌+◌, Some, Result, Ok, Err}
+use Rattle.std.proofs.Common.{◌≡◌, ◌⊎◌, ℕ, zero, suc, nat_lt, if◌then◌else◌, Bool, true, false, List, [], ◌∷◌}
+use Rattle.std.proofs.Common.{length, slice_get, ◌+◌, Some, Result, Ok, Err}
 use Rattle.std.proofs.Common.{IfOk, arith, inl, inr, refl, sym, subst}
-use Rattle.snap_server.specs.declared.listen.Arrival.{Arrival}
-use Rattle.snap_server.specs.declared.listen.Unaccepted.{Unaccepted}
+use Rattle.snap_server.specs.declared.listen.Accepted.{Accepted}
+use Rattle.snap_server.specs.declared.listen.AcceptFault.{AcceptFault}
 use Rattle.snap_server.specs.Deals.{AsksInVain, CallsInVain, Deals, Gives, GivesSoMany, turn_after, turn_of}
 
 either : (b : Bool) (n : ℕ) → (if b then n else n) ≡ n
@@ -13,30 +14,30 @@ either false n = refl
 pub turn_first : (many : ℕ) → turn_of 0 many ≡ 0
 turn_first many = either (nat_lt 0 many) 0
 
--- k connections were handed out and counted, and the next turn is known. `held` are the doors that
--- the dealer has then.
-pub record HasDealt {L H : Type 0} (accepts : L → Result Arrival Unaccepted → L → Type 0)
-    (refuses : L → Type 0) (takes : H → Arrival → Type 0) (doors : List H) (k : ℕ) (old new : L)
+-- k connections were delivered and counted, and the next turn is known. `held` are the senders that the dispatcher then
+-- has.
+pub record HasDealt {L H : Type 0} (accepts : L → Result Accepted AcceptFault → L → Type 0)
+    (refuses : L → Type 0) (takes : H → Accepted → Type 0) (senders : List H) (k : ℕ) (old new : L)
     (held : List H) (next dealt : ℕ) : Type 0 where
-  pub deals : Deals accepts takes doors k old new
+  pub deals : Deals accepts takes senders k old new
   pub same : refuses new → refuses old
-  pub turn : turn_of next (length doors) ≡ turn_after (length doors) k
+  pub turn : turn_of next (length senders) ≡ turn_after (length senders) k
   pub counted : dealt ≡ k
-  pub theirs : held ≡ doors
+  pub theirs : held ≡ senders
 
 one_more : (k : ℕ) → k + 1 ≡ suc k
 one_more = grind arith
 
--- one more was accepted, and handed to the door whose turn it was
-pub dealt_more : {L H : Type 0} (accepts : L → Result Arrival Unaccepted → L → Type 0)
-    (refuses : L → Type 0) (takes : H → Arrival → Type 0) (doors : List H) (k : ℕ) (a b c : L)
+-- one more connection was accepted, and delivered to the sender whose turn it was
+pub dealt_more : {L H : Type 0} (accepts : L → Result Accepted AcceptFault → L → Type 0)
+    (refuses : L → Type 0) (takes : H → Accepted → Type 0) (senders : List H) (k : ℕ) (a b c : L)
     (held held' : List H) (next next' dealt dealt' : ℕ)
-    → HasDealt accepts refuses takes doors k a b held next dealt
-    → (arrival : Arrival) × (door : H) × Gives accepts b arrival c
-    × (slice_get held (turn_of next (length held)) ≡ Some door) × takes door arrival
+    → HasDealt accepts refuses takes senders k a b held next dealt
+    → (arrival : Accepted) × (sender : H) × Gives accepts b arrival c
+    × (slice_get held (turn_of next (length held)) ≡ Some sender) × takes sender arrival
     → (refuses c → refuses b) → next' ≡ turn_of next (length held) + 1 → dealt' ≡ dealt + 1
-    → held' ≡ held → HasDealt accepts refuses takes doors (k + 1) a c held' next' dealt'
-dealt_more accepts refuses takes doors k a b c held held' next next' dealt dealt' before given
+    → held' ≡ held → HasDealt accepts refuses takes senders (k + 1) a c held' next' dealt'
+dealt_more accepts refuses takes senders k a b c held held' next next' dealt dealt' before given
     is_same in_turn counted kept = rw (one_more k) record {
       deals = (
         b,
@@ -53,14 +54,14 @@ dealt_more accepts refuses takes doors k a b c held held' next next' dealt dealt
       theirs = rw kept before.theirs;
     }
 
-module _ {L : Type 0} (accepts : L → Result Arrival Unaccepted → L → Type 0) where
-  -- it was asked once more, or not at all
-  pub vain_more : (a b c : L) (why : Unaccepted) → AsksInVain accepts a b
+module _ {L : Type 0} (accepts : L → Result Accepted AcceptFault → L → Type 0) where
+  -- the listener was called once more, or not at all
+  pub vain_more : (a b c : L) (why : AcceptFault) → AsksInVain accepts a b
       → (c ≡ b) ⊎ accepts b (Err why) c → AsksInVain accepts a c
   vain_more a b c why before (inl same) = subst (AsksInVain accepts a) (sym same) before
   vain_more a b c why before (inr asked) = (why ∷ before.0, (b, before.1, asked))
 
-  calls_behind : (a b c : L) (whys : List Unaccepted) → AsksInVain accepts a b
+  calls_behind : (a b c : L) (whys : List AcceptFault) → AsksInVain accepts a b
       → CallsInVain accepts whys b c → AsksInVain accepts a c
   calls_behind a b c [] before same = subst (AsksInVain accepts a) (sym same) before
   calls_behind a b c (why ∷ earlier) before calls =
@@ -71,22 +72,22 @@ module _ {L : Type 0} (accepts : L → Result Arrival Unaccepted → L → Type 
       → AsksInVain accepts a c
   vain_behind a b c before behind = calls_behind a b c behind.0 before behind.1
 
-  pub gives_behind : (a b c : L) (arrival : Arrival) → AsksInVain accepts a b
+  pub gives_behind : (a b c : L) (arrival : Accepted) → AsksInVain accepts a b
       → Gives accepts b arrival c → Gives accepts a arrival c
   gives_behind a b c arrival before gives =
       (gives.0, vain_behind a b gives.0 before gives.1, gives.2)
 
-  -- the connections that were handed out were accepted
-  pub deals_accepted : {H : Type 0} (takes : H → Arrival → Type 0) (doors : List H) (k : ℕ)
-      (a b : L) → Deals accepts takes doors k a b → GivesSoMany accepts k a b
-  deals_accepted takes doors zero a b same = same
-  deals_accepted takes doors (suc k) a b (mid, arrival, door, before, gives, turn, taken) =
-      (mid, arrival, deals_accepted takes doors k a mid before, gives)
+  -- the connections that were delivered were accepted
+  pub deals_accepted : {H : Type 0} (takes : H → Accepted → Type 0) (senders : List H) (k : ℕ)
+      (a b : L) → Deals accepts takes senders k a b → GivesSoMany accepts k a b
+  deals_accepted takes senders zero a b same = same
+  deals_accepted takes senders (suc k) a b (mid, arrival, sender, before, gives, turn, taken) =
+      (mid, arrival, deals_accepted takes senders k a mid before, gives)
 
-  -- if the end says how many were handed out, as many were accepted
-  pub dealt_accepted : {H E : Type 0} (takes : H → Arrival → Type 0) (doors : List H) (first : L)
-      (end : Result ℕ E) → IfOk end (λ k. (left : L) × Deals accepts takes doors k first left)
+  -- if the result is the number of delivered connections, as many were accepted
+  pub dealt_accepted : {H E : Type 0} (takes : H → Accepted → Type 0) (senders : List H) (first : L)
+      (end : Result ℕ E) → IfOk end (λ k. (left : L) × Deals accepts takes senders k first left)
       → IfOk end (λ k. (left : L) × GivesSoMany accepts k first left)
-  dealt_accepted takes doors first (Ok k) (left, deals) =
-      (left, deals_accepted takes doors k first left deals)
-  dealt_accepted takes doors first (Err why) deals = tt
+  dealt_accepted takes senders first (Ok k) (left, deals) =
+      (left, deals_accepted takes senders k first left deals)
+  dealt_accepted takes senders first (Err why) deals = tt

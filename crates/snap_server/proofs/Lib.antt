@@ -4,3 +4,4 @@ mod SharedService
 mod Round
 mod Made
 mod Deals
+mod Inner

@@ -1,5 +1,6 @@
--- A list that a loop makes, item by item, of an iterator's items.
-use Rattle.std.proofs.Common.{◌≡◌, ℕ, zero, suc, ◌+◌, List, [], ◌∷◌, ◌++◌, length, length-append, map, Bool, true, sym, ap, ◌∙◌}
+-- A list that a loop makes, item by item, from an iterator's items.
+use Rattle.std.proofs.Common.{◌≡◌, ℕ, zero, suc, ◌+◌, List, [], ◌∷◌, ◌++◌, length, length-append, map, Bool, true}
+use Rattle.std.proofs.Common.{sym, ap, ◌∙◌}
 use Rattle.std.proofs.Common.{append_assoc, append-nil, arith}
 use Rattle.std.specs.List.{range_with_len}
 use Rattle.std.specs.Bool.{if◌then◌else◌}
@@ -15,7 +16,7 @@ made_more f made new x left rest all had is next =
     ∙ ap (λ l. map f made ++ l) (sym next)
     ∙ had
 
--- nothing is left
+-- no item is left
 pub made_all : {X Y : Type 0} (f : X → Y) (made : List X) (left all : List Y)
     → map f made ++ left ≡ all → length left ≡ 0 → map f made ≡ all
 made_all f made [] all had none = sym (append-nil (map f made)) ∙ had
@@ -35,7 +36,7 @@ counted_more a zero j is = let same : a ≡ j = omega (arith, is) in ap (λ k. k
 counted_more a (suc n) j is =
     ap (λ ks. a ∷ ks) (counted_more (a + 1) n j (omega (arith, is)))
 
--- each item's number is its place, and one more is made
+-- each item's number is its index, and one more item is made
 pub numbered_more : {X : Type 0} (f : X → ℕ) (made new : List X) (x : X)
     → map f made ≡ range_with_len 0 (length made) → new ≡ made ++ x ∷ [] → f x ≡ length made
     → map f new ≡ range_with_len 0 (length new)
@@ -49,7 +50,7 @@ numbered_more f made new x had is number =
     ∙ sym (ap (range_with_len 0) long
     ∙ counted_more 0 (length made) (f x) (omega (arith, number)))
 
--- two lists of one length are pushed to
+-- two lists of equal length are pushed to
 pub pushed_len : {X Y : Type 0} (xs xs' : List X) (ys ys' : List Y) (x : X) (y : Y)
     → length xs ≡ length ys → xs' ≡ xs ++ x ∷ [] → ys' ≡ ys ++ y ∷ [] → length xs' ≡ length ys'
 pushed_len xs xs' ys ys' x y same one two = omega (

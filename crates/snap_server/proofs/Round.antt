@@ -1,6 +1,8 @@
--- A round gives each connection of the list one turn.
-use Rattle.std.proofs.Common.{◌≡◌, ◌≢◌, ◌⊎◌, ℕ, ◌+◌, ◌<◌, List, [], ◌∷◌, ◌++◌, length, take, drop, get_or, length-take, append-nil}
-use Rattle.std.proofs.Common.{append_assoc, Option, Some, None, IsSome, inl, inr, refl, sym, ◌∙◌, ap, subst, arith, Contains}
+-- A round polls each connection of the list once.
+use Rattle.std.proofs.Common.{◌≡◌, ◌≢◌, ◌⊎◌, ℕ, ◌+◌, ◌<◌, List, [], ◌∷◌, ◌++◌, length, take, drop, get_or}
+use Rattle.std.proofs.Common.{length-take, append-nil}
+use Rattle.std.proofs.Common.{append_assoc, Option, Some, None, IsSome, inl, inr, refl, sym, ◌∙◌, ap, subst, arith}
+use Rattle.std.proofs.Common.{Contains}
 use mathlib.Core.Logic.{∥∥₁_elim}
 use mathlib.Core.HLevel.{⊥_prop}
 use Rattle.std.proofs.lemmas.Bool.{cases_eq}
@@ -13,8 +15,8 @@ use Rattle.snap_frame.specs.declared.reply.Reply.{Reply}
 use Rattle.snap_session.specs.Talk.{Moves}
 use Rattle.snap_session.proofs.Runs.{moves_joins}
 use Rattle.snap_server.specs.declared.connection.Connection.{Connection}
-use Rattle.snap_server.specs.declared.connection.Stage.{Stage}
-use Rattle.snap_server.specs.declared.connection.Stage.TheVariants.{Idle, Listed, Over}
+use Rattle.snap_server.specs.declared.connection.ConnectionState.{ConnectionState}
+use Rattle.snap_server.specs.declared.connection.ConnectionState.TheVariants.{Idle, Listed, Over}
 use Rattle.snap_server.specs.TurnList.{Lists, KeepsOthers, again_behind}
 use Rattle.snap_server.specs.Scene.{scene}
 use Rattle.snap_server.specs.Turns.{HadRounds, HadTurn, HadItsTurn}
@@ -47,7 +49,7 @@ off_list keys old key c lists at off there =
     ∥∥₁_elim lists ⊥_prop (λ l. let p = (l.same key).0 there in
     off (ap (λ (z : Connection). z.stage) (same_value old key c p.0 at p.1) ∙ p.2))
 
--- the next one had no turn yet
+-- the next connection wasn't polled yet
 not_yet : (keys : List ℕ) (old : Slab Connection) (i : ℕ) → ∥ Lists keys old ∥₁ → i < length keys
     → Contains (take i keys) (get_or keys i 0) → ⊥
 not_yet keys old i lists lt (j, within, is) =
@@ -56,13 +58,13 @@ not_yet keys old i lists lt (j, within, is) =
     ∥∥₁_elim lists ⊥_prop (λ l. l.once j i k before lt
     (sym (get_or-take i keys j k before) ∙ is ∙ get_or_default keys i 0 k lt))
 
-again_cases : (s : Stage) (key : ℕ) (keys listed : List ℕ) → listed ≡ again_behind s key keys
+again_cases : (s : ConnectionState) (key : ℕ) (keys listed : List ℕ) → listed ≡ again_behind s key keys
     → (listed ≡ keys) ⊎ (listed ≡ keys ++ key ∷ [])
 again_cases Idle key keys listed is = inl is
 again_cases Listed key keys listed is = inr is
 again_cases Over key keys listed is = inl is
 
--- a turn leaves the rest of the list, or that with its key at the end
+-- a poll keeps the rest of the list, or appends its own key to it
 pub turned_list : (mid new : Slab Connection) (k : ℕ) (keys listed : List ℕ)
     → (get mid k ≡ None → listed ≡ keys)
     → ((c : Connection) → get mid k ≡ Some c → IsSome (get new k))
@@ -92,7 +94,7 @@ first_list items keys rest listed k key one left two =
     (subst (λ h. (listed ≡ keys) ⊎ (listed ≡ keys ++ h ∷ [])) head left)
 
 module _ {S : Type 0} (gives : S → Request → Reply → S → Type 0) (most : ℕ) where
-  -- it is taken off the list, has its turn, and may be removed
+  -- the connection is taken off the list, polled, and may be removed
   pub first_turn : (s a t u : S) (items keys rest : List ℕ) (k key : ℕ)
       (old mid new last : Slab Connection) → items ≡ k ∷ keys → a ≡ s
       → ((c : Connection) → get old k ≡ Some c
@@ -115,8 +117,7 @@ module _ {S : Type 0} (gives : S → Request → Reply → S → Type 0) (most :
         others = λ o apart. others_kept o apart ∙ others o apart ∙ others_off o apart;
       })
 
-  -- How far a round has come: each of the first i keys had its turn, and the others wait for theirs
-  -- before all that were listed again.
+  -- The progress of a round: each of the first i keys was polled. The others come before all that were listed again.
   pub record IsRound (keys : List ℕ) (i : ℕ) (s t : S) (old now : Slab Connection)
       (listed : List ℕ) : Type 0 where
     pub again : List ℕ
@@ -191,7 +192,7 @@ module _ {S : Type 0} (gives : S → Request → Reply → S → Type 0) (most :
             ([], [], refl),
           )
 
-  -- all keys of the list had their turn, and no other connection
+  -- all connections of the list were polled, and no other one
   pub round_done : (keys : List ℕ) (i : ℕ) (s t : S) (old now : Slab Connection) (listed : List ℕ)
       → IsRound keys i s t old now listed → i ≡ length keys → ∥ Lists keys old ∥₁ → (key : ℕ)
       (c d : Connection) → get old key ≡ Some c → get now key ≡ Some d
@@ -206,7 +207,7 @@ module _ {S : Type 0} (gives : S → Request → Reply → S → Type 0) (most :
           let same : Some d ≡ Some c = sym is
           ∙ round.left key (λ at. out (subst (λ ks. Contains ks key) all at)) ∙ was in cc
 
-      by_stage : (stage : Stage) → c.stage ≡ stage → HadItsTurn gives most stage s t c d
+      by_stage : (stage : ConnectionState) → c.stage ≡ stage → HadItsTurn gives most stage s t c d
       by_stage Idle at = alone (off_list keys old key c lists was
           (λ on. let wrong : Idle ≡ Listed = sym at ∙ on in absurd cc))
       by_stage Over at = alone (off_list keys old key c lists was

@@ -13,7 +13,7 @@ use Rattle.snap_session.proofs.Continuation.{by_run}
 use Rattle.snap_session.proofs.TurnRuns.{begins}
 use Rattle.snap_session.proofs.SharedService.{has_turn, shares}
 use Rattle.snap_server.specs.declared.connection.Connection.{Connection}
-use Rattle.snap_server.specs.declared.connection.Stage.TheVariants.{Listed}
+use Rattle.snap_server.specs.declared.connection.ConnectionState.TheVariants.{Listed}
 use Rattle.snap_server.specs.declared.sessions.Sessions.{Sessions}
 use Rattle.snap_server.specs.SharedService.{IsSession, IsTurn, AreSessions}
 use Rattle.snap_server.specs.TurnList.{Lists}
@@ -21,7 +21,7 @@ use Rattle.snap_server.proofs.Step.{IsStep, same_value, none_there}
 use Rattle.snap_server.proofs.TurnList.{lists_step}
 
 module _ {S : Type 0} (gives : S → Request → Reply → S → Type 0) where
-  -- a turn of a session moves the service
+  -- a poll of a session changes the service by answered requests
   pub moved : (t u : S) (a b : Talk) → IsTurn gives t u a b → Moves gives t u
   moved t u a b turn =
       let g = turn.goes in (g.payloads, g.replies ++ g.unsaid, g.run)
@@ -41,7 +41,7 @@ module _ {S : Type 0} (gives : S → Request → Reply → S → Type 0) where
             (o.replies ++ o.unsaid) o.run others);
       }
 
-  -- with no connection
+  -- there is no connection
   pub none_are : (t : S) (connections : Slab Connection)
       → ((key : ℕ) → get connections key ≡ None) → AreSessions gives t connections
   none_are t connections none = record {
@@ -50,7 +50,7 @@ module _ {S : Type 0} (gives : S → Request → Reply → S → Type 0) where
     each = λ key c at. absurd (none_there connections key (none key) c at);
   }
 
-  -- each connection is one that was there, with the session that it had, or a new one
+  -- each connection is unchanged, with its session, or new
   pub still_are : (t : S) (old new : Slab Connection) → AreSessions gives t old
       → ((key : ℕ) (d : Connection) → get new key ≡ Some d
       → (d.session ≡ start) ⊎ ((c : Connection) × (get old key ≡ Some c) × (d.session ≡ c.session)))
@@ -66,7 +66,7 @@ module _ {S : Type 0} (gives : S → Request → Reply → S → Type 0) where
     ];
   }
 
-  -- one of them had a turn
+  -- one connection was polled
   pub turned_are : (t u : S) {key : ℕ} {old new : Slab Connection} {c d : Connection}
       → IsStep key old new c d → IsTurn gives t u c.session d.session → AreSessions gives t old
       → AreSessions gives u new
@@ -85,11 +85,11 @@ module _ {S : Type 0} (gives : S → Request → Reply → S → Type 0) where
     ];
   }
 
-  -- a session that didn't change
+  -- the session hasn't changed
   pub no_turn : (t : S) (a b : Talk) → b ≡ a → IsTurn gives t t a b
   no_turn t a b same = subst (IsTurn gives t t a) (sym same) (begins gives t a None None)
 
-  -- one is removed
+  -- one connection is removed
   pub removed_are : (t : S) (old new : Slab Connection) (key : ℕ) → Updates old new key None
       → AreSessions gives t old → AreSessions gives t new
   removed_are t old new key gone are = still_are t old new are (λ k e found. elim (cases_eq k key) [
@@ -97,7 +97,7 @@ module _ {S : Type 0} (gives : S → Request → Reply → S → Type 0) where
     | inr other ↦ inr (e, sym (gone.others k other) ∙ found, refl)
   ])
 
-  -- one is added
+  -- one connection is added
   pub added_are : (t : S) (old new : Slab Connection) (key : ℕ) (d : Connection)
       → Updates old new key (Some d) → d.session ≡ start → AreSessions gives t old
       → AreSessions gives t new
@@ -109,14 +109,14 @@ module _ {S : Type 0} (gives : S → Request → Reply → S → Type 0) where
         | inr other ↦ inr (e, sym (came.others k other) ∙ found, refl)
       ])
 
-  -- there is capacity for more
+  -- the table has more capacity
   pub same_are : (t : S) (old new : Slab Connection)
       → new ≡ record old { capacity = new.capacity } → AreSessions gives t old
       → AreSessions gives t new
   same_are t old new same are = still_are t old new are (λ k e found.
       inr (e, sym (ap (λ (s : Slab Connection). get s k) same) ∙ found, refl))
 
--- one of a worker's connections had a turn, and is marked as before: the invariants still hold
+-- one of a worker's connections was polled, and its mark is unchanged: the invariants still hold
 pub still_holds : {S O : Type 0} {service : Ghosts S O} (self : Sessions S O service) (u : S)
     {key : ℕ} {new : Slab Connection} {was is : Connection}
     → IsStep key self.connections new was is

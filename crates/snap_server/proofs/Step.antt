@@ -1,19 +1,20 @@
 -- How a step of one connection changes the table.
-use Rattle.std.proofs.Common.{◌≡◌, ◌↔◌, ◌<◌, ℕ, length, get_or, cond, None, Some, is_some, IsSome, sym, ◌∙◌, ap, subst, arith}
+use Rattle.std.proofs.Common.{◌≡◌, ◌↔◌, ◌<◌, ℕ, length, get_or, cond, None, Some, is_some, IsSome, sym, ◌∙◌, ap}
+use Rattle.std.proofs.Common.{subst, arith}
 use Rattle.std.proofs.lemmas.List.{get_or_past}
 use Rattle.std.proofs.lemmas.List.Sums.{sum_by-set}
 use Rattle.slab.specs.Slab.{Slab, get, slab_len, with_value}
 use Rattle.slab.proofs.SlabLemmas.{Updates-with_value}
 use Rattle.snap_server.specs.declared.connection.Connection.{Connection}
-use Rattle.snap_server.specs.declared.connection.Stage.{Stage}
-use Rattle.snap_server.specs.declared.connection.Stage.TheVariants.{Idle, Listed, Over}
+use Rattle.snap_server.specs.declared.connection.ConnectionState.{ConnectionState}
+use Rattle.snap_server.specs.declared.connection.ConnectionState.TheVariants.{Idle, Listed, Over}
 use Rattle.snap_server.specs.TurnList.{enlisted, KeepsOthers}
 
--- one that is idle, or has ended, isn't on the list
-pub not_both : (s : Stage) → s ≡ Idle → s ≡ Listed → ⊥
+-- a connection that is idle or closed isn't on the list
+pub not_both : (s : ConnectionState) → s ≡ Idle → s ≡ Listed → ⊥
 not_both s one two = let wrong : Idle ≡ Listed = sym one ∙ two in absurd cc
 
-pub over_off : (s : Stage) → s ≡ Over → s ≡ Listed → ⊥
+pub over_off : (s : ConnectionState) → s ≡ Over → s ≡ Listed → ⊥
 over_off s one two = let wrong : Over ≡ Listed = sym one ∙ two in absurd cc
 
 -- a key has one connection
@@ -21,12 +22,12 @@ pub same_value : (connections : Slab Connection) (key : ℕ) (c d : Connection)
     → get connections key ≡ Some c → get connections key ≡ Some d → c ≡ d
 same_value connections key c d one two = let both : Some c ≡ Some d = sym one ∙ two in cc
 
--- there is no connection
+-- the key has no connection
 pub none_there : (connections : Slab Connection) (key : ℕ) → get connections key ≡ None
     → (c : Connection) → get connections key ≡ Some c → ⊥
 none_there connections key none c at = let wrong : None ≡ Some c = sym none ∙ at in absurd cc
 
--- the connection of this key was `was` and is `is`, and no other one was touched
+-- the connection of this key was `was` and is `is`, and no other one changed
 pub record IsStep (key : ℕ) (old new : Slab Connection) (was is : Connection) : Type 0 where
   pub before : get old key ≡ Some was
   pub behind : get new key ≡ Some is
@@ -52,7 +53,7 @@ written old key was is at =
       );
     }
 
--- and it was appended to the list
+-- the connection was also appended to the list
 pub then_listed : {key : ℕ} {old mid : Slab Connection} {was is : Connection}
     → IsStep key old mid was is → (new : Slab Connection) → enlisted is.stage ≡ Listed
     → ((c : Connection) → get mid key ≡ Some c
@@ -66,12 +67,12 @@ then_listed {is = is} step new on listed others count = record {
   count = count ∙ step.count;
 }
 
--- there was one
+-- the key had a connection
 pub somebody : {key : ℕ} {old new : Slab Connection} {was is : Connection}
     → IsStep key old new was is → get old key ≡ None → ⊥
 somebody {key} {old} {new} {was} step none = none_there old key none was step.before
 
--- A property of one of the two is a property of any connection that is found at the key.
+-- A property of `was` is a property of any connection that is found at the key before, and likewise of `is` after.
 pub of_old : (P : Connection → Type 0) {key : ℕ} {old new : Slab Connection} {was is : Connection}
     → IsStep key old new was is → P was → (c : Connection) → get old key ≡ Some c → P c
 of_old P {key} {old} {new} {was} step known c at =
@@ -89,8 +90,8 @@ of_both P {was = was} {is = is} step known c d at_c at_d =
     of_new (P c) step (of_old (λ z. P z is) step known c at_c) d at_d
 
 -- its mark hasn't changed
-pub same_stage : {a b : Stage} → b ≡ a → b ≡ Listed ↔ a ≡ Listed
+pub same_stage : {a b : ConnectionState} → b ≡ a → b ≡ Listed ↔ a ≡ Listed
 same_stage same = (λ on. sym same ∙ on, λ on. same ∙ on)
 
-pub ends_idle : {a b : Stage} → a ≡ Idle → b ≡ Over → b ≡ Listed ↔ a ≡ Listed
+pub ends_idle : {a b : ConnectionState} → a ≡ Idle → b ≡ Over → b ≡ Listed ↔ a ≡ Listed
 ends_idle {a} {b} idle over = (λ on. absurd (over_off b over on), λ on. absurd (not_both a idle on))

@@ -1,6 +1,8 @@
--- The list of the connections that get a turn.
-use Rattle.std.proofs.Common.{◌≡◌, ◌≢◌, ◌↔◌, ◌⊎◌, ℕ, suc, ◌+◌, ◌<◌, ◌≤◌, List, [], ◌∷◌, ◌++◌, length, length-append, get_or, set}
-use Rattle.std.proofs.Common.{Option, Some, None, is_some, IsSome, cond, count_by, refl, sym, ◌∙◌, ap, subst, inl, inr, arith, AllPairs}
+-- The list of the connections to poll.
+use Rattle.std.proofs.Common.{◌≡◌, ◌≢◌, ◌↔◌, ◌⊎◌, ℕ, suc, ◌+◌, ◌<◌, ◌≤◌, List, [], ◌∷◌, ◌++◌, length, length-append}
+use Rattle.std.proofs.Common.{get_or, set}
+use Rattle.std.proofs.Common.{Option, Some, None, is_some, IsSome, cond, count_by, refl, sym, ◌∙◌, ap, subst, inl}
+use Rattle.std.proofs.Common.{inr, arith, AllPairs}
 use Rattle.std.proofs.Common.{Contains}
 use mathlib.Core.Logic.{∥∥₁_elim}
 use Rattle.std.specs.Coded.{le_prop}
@@ -12,8 +14,8 @@ use Rattle.std.proofs.lemmas.List.Quantifiers.{all_pairs_push}
 use Rattle.slab.specs.Slab.{Slab, get, slab_len, Updates}
 use Rattle.slab.proofs.SlabLemmas.{Contains-cons, Contains-cons_cases}
 use Rattle.snap_server.specs.declared.connection.Connection.{Connection}
-use Rattle.snap_server.specs.declared.connection.Stage.{Stage}
-use Rattle.snap_server.specs.declared.connection.Stage.TheVariants.{Idle, Listed, Over}
+use Rattle.snap_server.specs.declared.connection.ConnectionState.{ConnectionState}
+use Rattle.snap_server.specs.declared.connection.ConnectionState.TheVariants.{Idle, Listed, Over}
 use Rattle.snap_server.specs.TurnList.{IsListed, Lists, enlisted, listed_behind, KeepsOthers}
 use Rattle.snap_server.proofs.Step.{IsStep, same_value, none_there, not_both}
 
@@ -56,7 +58,7 @@ pub lists_fit : (keys : List ℕ) (connections : Slab Connection) → Lists keys
 lists_fit keys connections lists =
     keys_fit keys connections.slots lists.once (λ key at. ap is_some ((lists.same key).0 at).1)
 
--- so there is room for one more that is marked as listed
+-- so there is capacity for one more connection that is marked as listed
 pub lists_room : (keys : List ℕ) (key : ℕ) (connections : Slab Connection) (room : ℕ)
     → slab_len connections ≤ room → ∥ Lists (keys ++ key ∷ []) connections ∥₁ → length keys < room
 lists_room keys key connections room few lists =
@@ -67,21 +69,21 @@ lists_room keys key connections room few lists =
       length-append keys (key ∷ []),
     ))
 
--- one that isn't idle keeps its state
-pub enlisted_same : (s : Stage) → (s ≡ Idle → ⊥) → enlisted s ≡ s
+-- a connection that isn't idle keeps its state
+pub enlisted_same : (s : ConnectionState) → (s ≡ Idle → ⊥) → enlisted s ≡ s
 enlisted_same Idle off = absurd (off refl)
 enlisted_same Listed off = refl
 enlisted_same Over off = refl
 
--- one that isn't idle isn't put on the list
-pub behind_same : (s : Stage) (key : ℕ) (keys : List ℕ) → (s ≡ Idle → ⊥)
+-- a connection that isn't idle isn't put on the list
+pub behind_same : (s : ConnectionState) (key : ℕ) (keys : List ℕ) → (s ≡ Idle → ⊥)
     → keys ≡ listed_behind s key keys
 behind_same Idle key keys off = absurd (off refl)
 behind_same Listed key keys off = refl
 behind_same Over key keys off = refl
 
--- one that hasn't ended is on the list then
-pub enlisted_going : (s : Stage) → (s ≡ Over → ⊥) → enlisted s ≡ Listed
+-- a connection that isn't closed is on the list then
+pub enlisted_going : (s : ConnectionState) → (s ≡ Over → ⊥) → enlisted s ≡ Listed
 enlisted_going Idle off = refl
 enlisted_going Listed off = refl
 enlisted_going Over off = absurd (off refl)
@@ -97,7 +99,7 @@ none_list connections none = record {
   );
 }
 
--- one connection has changed, and is marked as before
+-- one connection has changed, and its mark is unchanged
 pub lists_kept : (keys : List ℕ) (old new : Slab Connection) (key : ℕ) → KeepsOthers key old new
     → (IsListed old key → IsListed new key) → (IsListed new key → IsListed old key)
     → Lists keys old → Lists keys new
@@ -118,7 +120,7 @@ lists_kept keys old new key others on back lists = record {
       | inr other ↦ (at.0, sym (others k other) ∙ at.1, at.2)
     ]
 
--- there is capacity for more
+-- the table has more capacity
 pub lists_same : (keys : List ℕ) (old new : Slab Connection)
     → new ≡ record old { capacity = new.capacity } → Lists keys old → Lists keys new
 lists_same keys old new same lists = record {
@@ -159,7 +161,7 @@ lists_more keys {key} {old} {new} {c} {d} step idle listed lists = record {
           ((lists.same k).1 (there.0, sym (step.others k other) ∙ there.1, there.2))
     ]
 
--- the first one is taken off
+-- the first connection is taken off the list
 pub lists_rest : (rest : List ℕ) {key : ℕ} {old new : Slab Connection} {c d : Connection}
     → IsStep key old new c d → d.stage ≡ Idle → Lists (key ∷ rest) old → Lists rest new
 lists_rest rest {key} {old} {new} {d = d} step idle lists = record {
@@ -188,7 +190,7 @@ lists_rest rest {key} {old} {new} {d = d} step idle lists = record {
           ]
     ]
 
--- the connection of a key has changed, and is marked as before
+-- the connection of a key has changed, and its mark is unchanged
 pub lists_step : (keys : List ℕ) {key : ℕ} {old new : Slab Connection} {c d : Connection}
     → IsStep key old new c d → (d.stage ≡ Listed ↔ c.stage ≡ Listed) → Lists keys old
     → Lists keys new
@@ -208,7 +210,7 @@ lists_step keys {key} {old} {new} {c} {d} step says lists =
     ))
     lists
 
--- one that isn't on the list is removed
+-- a connection that isn't on the list is removed
 pub lists_removed : (keys : List ℕ) (old new : Slab Connection) (key : ℕ) (c : Connection)
     → get old key ≡ Some c → c.stage ≢ Listed → Updates old new key None → Lists keys old
     → Lists keys new
@@ -218,7 +220,7 @@ lists_removed keys old new key c at off gone lists =
     (λ p. absurd (none_there new key gone.changed p.0 p.1))
     lists
 
--- one that isn't on the list is added
+-- a connection that isn't on the list is added
 pub lists_added : (keys : List ℕ) (old new : Slab Connection) (key : ℕ) (d : Connection)
     → get old key ≡ None → d.stage ≡ Idle → Updates old new key (Some d) → Lists keys old
     → Lists keys new

@@ -1,4 +1,4 @@
--- How long a turn of a connection takes.
+-- The rounds of one poll of a connection.
 use Rattle.std.specs.Prelude.{◌≡◌, ℕ, Some}
 use Rattle.slab.specs.Slab.{Slab, get}
 use Rattle.snap_frame.specs.declared.request.Request.{Request}
@@ -6,30 +6,29 @@ use Rattle.snap_frame.specs.declared.reply.Reply.{Reply}
 use Rattle.snap_session.specs.Talk.{Moves}
 use Rattle.snap_session.specs.Turns.{Scene, FewRounds, WholeRounds, most_rounds}
 use Rattle.snap_server.specs.declared.connection.Connection.{Connection}
-use Rattle.snap_server.specs.declared.connection.Stage.{Stage}
-use Rattle.snap_server.specs.declared.connection.Stage.TheVariants.{Idle, Listed, Over}
+use Rattle.snap_server.specs.declared.connection.ConnectionState.{ConnectionState}
+use Rattle.snap_server.specs.declared.connection.ConnectionState.TheVariants.{Idle, Listed, Over}
 use Rattle.snap_server.specs.TurnList.{KeepsOthers}
 use Rattle.snap_server.specs.Scene.{scene}
 
--- The rounds of one turn, with pieces of at most `most` bytes, by the connection's state after it.
--- One that is listed again took all rounds that a turn may take; any other would block before the
--- last of them, or has ended.
-abbrev pub HadRounds : {S : Type 0} (gives : S → Request → Reply → S → Type 0) (most : ℕ) → Stage
+-- The rounds of one poll, with reads of at most `most` bytes, by the connection's state after it. If it is listed
+-- again, the poll took all rounds that it may take. Otherwise it would block before the last of them, or is closed.
+abbrev pub HadRounds : {S : Type 0} (gives : S → Request → Reply → S → Type 0) (most : ℕ) → ConnectionState
     → Scene S → Scene S → Type 0
 HadRounds gives most Idle a b = FewRounds gives most a b
 HadRounds gives most Listed a b = WholeRounds gives most most_rounds a b
 HadRounds gives most Over a b = FewRounds gives most a b
 
--- The connection of this key had one turn, and no other one was touched.
+-- The connection of this key was polled once, and no other one changed.
 pub record HadTurn {S : Type 0} (gives : S → Request → Reply → S → Type 0) (most key : ℕ) (s t : S)
     (old new : Slab Connection) : Type 0 where
   pub rounds : (c : Connection) → (d : Connection) → get old key ≡ Some c → get new key ≡ Some d
       → HadRounds gives most d.stage (scene s c.session) (scene t d.session)
   pub others : KeepsOthers key old new
 
--- A connection in this state, while the service went from s to t: a listed one had one turn, with
--- others' before and after it, and any other was left alone.
-abbrev pub HadItsTurn : {S : Type 0} (gives : S → Request → Reply → S → Type 0) (most : ℕ) → Stage
+-- A connection in this state, while the service changed from s to t. A listed connection was polled once, with others
+-- before and after it; any other is unchanged.
+abbrev pub HadItsTurn : {S : Type 0} (gives : S → Request → Reply → S → Type 0) (most : ℕ) → ConnectionState
     → S → S → Connection → Connection → Type 0
 HadItsTurn gives most Idle s t c d = d ≡ c
 HadItsTurn {S} gives most Listed s t c d =

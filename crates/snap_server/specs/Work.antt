@@ -7,8 +7,8 @@ use Rattle.snap_session.specs.Talk.{Moves}
 use Rattle.snap_session.specs.declared.service.Service.{Ghosts}
 use Rattle.snap_server.specs.declared.worker.Worker.{Worker}
 
--- it took connections until no more would arrive, none of them is left, and its service has changed
--- by answered requests alone
+-- The worker took connections until no more would arrive. None of them is left, and its service has changed by answered
+-- requests alone.
 pub record HasServed {S O : Type 0} {service : Ghosts S O}
     (gives : S → Request → Reply → S → Type 0) (old new : Worker S O service) : Type 0 where
   pub closed : new.is_open ≡ false

@@ -1,158 +1,146 @@
-//! The thread that accepts for all workers.
-ghost use Rattle.std.specs.Prelude.{◌≡◌, ◌⊎◌, ◌+◌, IfOk, IfErr, OnOk, OnErr, IsOk, Some, true, false, min, length};
-ghost use Rattle.std.specs.Prelude.{slice_get};
-ghost use Rattle.snap_server.specs.declared.listen.Arrival.{Arrival};
-ghost use Rattle.snap_server.specs.Deals.{Deals, Gives, turn_of};
+//! The acceptor: accepts connections while fewer than the limit are open.
+ghost use Rattle.std.specs.Prelude.{◌≡◌, ◌⊎◌, IfErr, IfNone, IfOk, IfSome, Ok, Err};
+ghost use Rattle.snap_server.specs.Deals.{AsksInVain, Gives};
 
-use crate::door::Hand;
-use crate::fault::ServerFault;
-use crate::intake::Intake;
-use crate::listen::{Arrival, Listen};
-use crate::note::Note;
+use crate::connection_limit::ConnectionLimit;
+use crate::listen::{AcceptFault, Accepted, Listen};
+use crate::server_event::ServerEvent;
 use std::rt::Clock;
 use std::sync::Wait;
+use std::thread;
+use std::time::Duration;
 
-/// Hands accepted connections to the workers, in turn.
+/// The pauses after consecutive faults of a listener, as multiples of the first pause: ten thousand
+/// in all, so that a passing fault doesn't end the server.
+const FAULT_RESTS: [u32; 16] = [
+    1, 2, 4, 8, 16, 32, 64, 128, 256, 512, 1_024, 1_600, 1_600, 1_600, 1_600, 1_600,
+];
+
+/// The pause before accepting is tried again, in milliseconds, if the limit is reached or the
+/// system has no descriptor or memory for a socket.
+const ROOM_REST: u64 = 10;
+
+/// The divisor for [`Room`](ServerEvent::Room): it is reported once one in `PART` of the
+/// connections that were open at [`Full`](ServerEvent::Full) has closed, or if more are open than
+/// then. So connections that open and close one by one at the limit don't fill the log.
+const PART: usize = 8;
+
+/// Accepts connections from a listener while fewer than the limit are open.
 #[derive(Drop)]
-pub struct Dealer<'a, H: Hand> {
-    intake: Intake<'a>,
-    doors: &'a [H],
-    /// The place of the next worker, or one past the last.
-    next: usize,
-    /// How many connections were handed to workers.
-    dealt: u64,
+pub struct Acceptor<'a> {
+    limit: &'a ConnectionLimit,
+    /// The pause after the first of several consecutive faults of a listener.
+    fault_rest: Duration,
+    /// The number of connections that were open when [`Full`](ServerEvent::Full) was reported;
+    /// `None` if [`Room`](ServerEvent::Room) was reported since.
+    full_at: Option<usize>,
 }
 
-impl<'a, H: Hand> Dealer<'a, H> {
-    /// A dealer that takes connections from `intake` and begins with the first door.
-    pub fn new(intake: Intake<'a>, doors: &'a [H]) -> Dealer<'a, H>
-        ensures doors { result.doors ≡ doors.entry }
-        ensures first { result.next ≡ 0 }
-        ensures none { result.dealt ≡ 0 }
-    {
-        Dealer {
-            intake,
-            doors,
-            next: 0,
-            dealt: 0,
+impl<'a> Acceptor<'a> {
+    /// An acceptor that counts connections in `limit`, and pauses for `fault_rest` after the first
+    /// fault of a listener.
+    pub fn new(limit: &'a ConnectionLimit, fault_rest: Duration) -> Acceptor<'a> {
+        Acceptor {
+            limit,
+            fault_rest,
+            full_at: None,
         }
     }
 
-    /// Hands a connection to the next worker; `false` if that worker has ended.
-    fn deal<X: Wait + Clock>(&mut self, rt: &X, arrival: Arrival) -> bool
-        ensures counted { result ≡ true
-            → self.new.dealt ≡ min (self.old.dealt + 1) 18446744073709551615 }
-        ensures refused { result ≡ false → self.new.dealt ≡ self.old.dealt }
-        ensures in_turn { result ≡ true
-            → self.new.next ≡ turn_of self.old.next (length self.old.doors.now) + 1 }
-        ensures handed { result ≡ true → (door : H) × (slice_get self.old.doors.now
-            (turn_of self.old.next (length self.old.doors.now)) ≡ Some door)
-            × H.takes door arrival }
-        ensures doors { self.new.doors.now ≡ self.old.doors.now }
-    {
-        if self.next >= self.doors.len() {
-            self.next = 0;
-        }
-        let Some(door) = self.doors.get(self.next) else {
-            return false;
-        };
-        self.next += 1;
-        if !door.hand(rt, arrival) {
-            return false;
-        }
-        self.dealt = self.dealt.saturating_add(1);
-        true
-    }
-
-    /// Accepts one connection and hands it to the next worker.
-    fn accept_one<X: Wait + Clock, L: Listen, N: Fn(&Note)>(
+    /// Accepts the next connection. `None` after 16 consecutive faults of the listener, with a
+    /// pause after each that grows.
+    ///
+    /// Reaching the limit is no fault: clients wait in the system's queue, and are accepted once a
+    /// connection has closed.
+    pub fn next<X: Wait + Clock, L: Listen, N: Fn(&ServerEvent)>(
         &mut self,
         rt: &X,
         listener: &mut L,
         note: &N,
-    ) -> Result<(), ServerFault>
+    ) -> Option<Accepted>
         requires { N.IsAlwaysCallable note.now }
-        ensures counted { OnOk result
-            (self.new.dealt ≡ min (self.old.dealt + 1) 18446744073709551615) }
-        ensures refused { OnErr result (self.new.dealt ≡ self.old.dealt) }
-        ensures in_turn { OnOk result
-            (self.new.next ≡ turn_of self.old.next (length self.old.doors.now) + 1) }
-        ensures handed { OnOk result ((arrival : Arrival) × (door : H)
-            × Gives L.accepts listener.old arrival listener.new
-            × (slice_get self.old.doors.now (turn_of self.old.next (length self.old.doors.now))
-            ≡ Some door) × H.takes door arrival) }
-        ensures doors { self.new.doors.now ≡ self.old.doors.now }
+        ensures came { IfSome result (λ a. Gives L.accepts listener.old a listener.new) }
+        ensures deaf { IfNone result (L.refuses listener.old) }
         ensures same { L.refuses listener.new → L.refuses listener.old }
-        ensures faults { IfErr result (λ fault.
-            (fault ≡ ServerFault.AcceptFailed) ⊎ (fault ≡ ServerFault.PollFailed)) }
-        ensures deaf { IfErr result (λ fault.
-            fault ≡ ServerFault.AcceptFailed → L.refuses listener.old) }
     {
-        let Some(arrival) = self.intake.next(rt, listener, note) else {
-            return Err(ServerFault::AcceptFailed);
-        };
-        if self.deal(rt, arrival) {
-            Ok(())
-        } else {
-            Err(ServerFault::PollFailed)
+        for rest in &FAULT_RESTS {
+            if let Some(arrival) = self.wait_for_one(rt, listener, note) {
+                return Some(arrival);
+            }
+            thread::sleep(rt, self.fault_rest.saturating_mul(*rest));
         }
+        note(&ServerEvent::Deaf);
+        None
     }
 
-    /// Accepts `most` connections and hands them to the workers in turn.
-    fn accept_so_many<X: Wait + Clock, L: Listen, N: Fn(&Note)>(
+    /// Accepts the next connection, waiting while the limit is reached or the system has no
+    /// descriptor or memory for a socket. `None` if the listener has failed.
+    fn wait_for_one<X: Wait + Clock, L: Listen, N: Fn(&ServerEvent)>(
         &mut self,
         rt: &X,
         listener: &mut L,
-        most: u64,
         note: &N,
-    ) -> Result<(), ServerFault>
-        requires none { self.old.dealt ≡ 0 }
-        requires first { self.old.next ≡ 0 }
-        requires note { N.IsAlwaysCallable note.now }
-        ensures dealt { OnOk result (self.new.dealt ≡ most) }
-        ensures deals { OnOk result
-            (Deals L.accepts H.takes self.old.doors.now most listener.old listener.new) }
-        ensures none { most ≡ 0 → IsOk result }
-        ensures faults { IfErr result (λ fault.
-            (fault ≡ ServerFault.AcceptFailed) ⊎ (fault ≡ ServerFault.PollFailed)) }
-        ensures deaf { IfErr result (λ fault.
-            fault ≡ ServerFault.AcceptFailed → L.refuses listener.old) }
+    ) -> Option<Accepted>
+        requires { N.IsAlwaysCallable note.now }
+        ensures came { IfSome result (λ a. Gives L.accepts listener.old a listener.new) }
+        ensures vain { IfNone result (AsksInVain L.accepts listener.old listener.new) }
+        ensures deaf { IfNone result (L.refuses listener.old) }
+        ensures same { L.refuses listener.new → L.refuses listener.old }
     {
-        for _ in 0..most {
-            self.accept_one(rt, listener, note)?;
-        }
-        Ok(())
-    }
-
-    /// Accepts `connections` connections, or without end if `None`, and hands them to the workers
-    /// in turn. It fails after 16 faults of the listener in a row, or if a worker has ended.
-    pub fn accept_all<X: Wait + Clock, L: Listen, N: Fn(&Note)>(
-        &mut self,
-        rt: &X,
-        listener: &mut L,
-        connections: Option<u64>,
-        note: &N,
-    ) -> Result<u64, ServerFault>
-        requires none { self.old.dealt ≡ 0 }
-        requires first { self.old.next ≡ 0 }
-        requires note { N.IsAlwaysCallable note.now }
-        ensures asked { IfOk result (λ k. connections ≡ Some k) }
-        ensures dealt { IfOk result (λ k. self.new.dealt ≡ k) }
-        ensures deals { IfOk result (λ k.
-            Deals L.accepts H.takes self.old.doors.now k listener.old listener.new) }
-        ensures none { connections ≡ Some 0 → IsOk result }
-        ensures faults { IfErr result (λ fault.
-            (fault ≡ ServerFault.AcceptFailed) ⊎ (fault ≡ ServerFault.PollFailed)) }
-        ensures deaf { IfErr result (λ fault.
-            fault ≡ ServerFault.AcceptFailed → L.refuses listener.old) }
-    {
-        if let Some(most) = connections {
-            self.accept_so_many(rt, listener, most, note)?;
-            return Ok(most);
-        }
         for _ in rt.forever() {
-            self.accept_one(rt, listener, note)?;
+            match self.try_one(listener) {
+                Ok(arrival) => {
+                    self.limit.enter();
+                    self.note_room(note);
+                    return Some(arrival);
+                }
+                Err(AcceptFault::Gone) => {}
+                Err(AcceptFault::NoRoom) => {
+                    self.note_full(note);
+                    thread::sleep(rt, Duration::from_millis(ROOM_REST));
+                }
+                Err(AcceptFault::Failed) => return None,
+            }
         }
         unreachable!()
+    }
+
+    /// Accepts one connection from the listener, if fewer than the limit are open.
+    fn try_one<L: Listen>(&self, listener: &mut L) -> Result<Accepted, AcceptFault>
+        ensures came { IfOk result (λ a. L.accepts listener.old (Ok a) listener.new) }
+        ensures vain { IfErr result (λ why. (listener.new ≡ listener.old)
+            ⊎ L.accepts listener.old (Err why) listener.new) }
+        ensures deaf { IfErr result (λ why. why ≡ AcceptFault.Failed → L.refuses listener.old) }
+        ensures same { L.refuses listener.new → L.refuses listener.old }
+    {
+        if !self.limit.is_free() {
+            return Err(AcceptFault::NoRoom);
+        }
+        listener.accept()
+    }
+
+    /// Reports [`Full`](ServerEvent::Full), unless that was reported.
+    fn note_full<N: Fn(&ServerEvent)>(&mut self, note: &N)
+        requires { N.IsAlwaysCallable note.now }
+    {
+        if self.full_at.is_none() {
+            let open = self.limit.open();
+            self.full_at = Some(open);
+            note(&ServerEvent::Full { open });
+        }
+    }
+
+    /// Reports [`Room`](ServerEvent::Room), if [`Full`](ServerEvent::Full) was reported and there
+    /// is room again. The connection just accepted is counted as open.
+    fn note_room<N: Fn(&ServerEvent)>(&mut self, note: &N)
+        requires { N.IsAlwaysCallable note.now }
+    {
+        if let Some(full) = self.full_at {
+            let open = self.limit.open();
+            if open > full || open <= full - full / PART {
+                self.full_at = None;
+                note(&ServerEvent::Room);
+            }
+        }
     }
 }

@@ -1,23 +1,23 @@
-//! Announcing that a server is ready.
+//! Announcements: a server tells its starter that it is ready.
 ghost use Rattle.std.specs.Prelude.{◌≡◌, OnErr, OnOk};
 
 use std::io;
 
-/// Announces that a server is ready.
+/// Announces to `T` that a server is ready, for example by printing its address.
 pub trait Announce<T> {
-    /// The effects of a successful announcement.
+    /// The effects of an announcement that succeeded, on `to`.
     ghost announces: { Self → T → T → Type 0 };
 
-    /// The effects of a failed one.
+    /// The effects of an announcement that failed, on `to`.
     ghost fails: { Self → T → T → Type 0 };
 
-    /// Announces it to `to`. After an error no connection is accepted.
+    /// Announces the server to `to`. After an error no connection is accepted.
     fn announce(&self, to: &mut T) -> io::Result<()>
         ensures said { OnOk result (Self.announces self.now to.old to.new) }
         ensures failed { OnErr result (Self.fails self.now to.old to.new) };
 }
 
-/// Announces nothing.
+/// An announcement that does nothing.
 #[derive(Clone, Copy, Drop)]
 pub struct NoAnnouncement;
 

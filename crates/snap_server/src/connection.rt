@@ -1,4 +1,4 @@
-//! One connection of a worker.
+//! One connection of a worker: its socket, its session and its state.
 ghost use Rattle.std.specs.Prelude.{◌≡◌, ◌↔◌, ◌≤◌, None, OnSome, IfSome, IsSome, length, true, false};
 ghost use Rattle.snap_session.specs.Talk.{HoldsFrameAnd, start, most_owed};
 ghost use Rattle.snap_session.specs.Turns.{StandsAt, TakesRounds};
@@ -6,59 +6,61 @@ ghost use Rattle.snap_server.specs.Scene.{scene};
 ghost use Rattle.snap_server.specs.declared.connection.TheConstants.{PIECE};
 
 use crate::endpoint::Peer;
-use crate::listen::Arrival;
-use crate::silence::{Look, Silence};
+use crate::idle_timeout::{IdleCheck, IdleTimeout};
+use crate::listen::Accepted;
 use crate::socket::Socket;
 use mio::{Interest, Registry, Token};
-use snap_session::{End, Service, Session, Turn, proceed};
+use snap_session::{End, Polled, Service, Session, proceed};
 use std::alloc::Global;
 use std::io;
 
-/// The most bytes of one read.
+/// The size of a worker's read buffer, in bytes: the most bytes of one read.
 pub const PIECE: usize = 4096;
 
-/// Why a connection ended.
+/// Why a connection was closed.
 #[derive(Clone, Copy, Debug, PartialEq, Eq, Drop)]
-pub enum Ending {
-    /// Its session ended so.
+pub enum CloseReason {
+    /// Its session ended, for this reason.
     Session(End),
-    /// The system reported an error of its socket while a request was under way.
+    /// The system reported an error of its socket while a request was being worked on.
     Lost,
-    /// It was silent for its idle timeout, with no request under way.
+    /// The socket was idle for the idle timeout, and no request was being worked on.
     Silent,
-    /// The server stops, and it had nothing under way.
+    /// The server is stopping, and no request had begun.
     Stopped,
 }
 
-/// A connection that has ended.
+/// A connection that was closed, and why.
 #[derive(Clone, Copy, Debug, PartialEq, Eq, Drop)]
-pub struct Ended {
-    /// Its peer.
+pub struct Closed {
+    /// The peer of the connection.
     pub peer: Peer,
-    /// Why it ended.
-    pub how: Ending,
+    /// The reason for the close.
+    pub how: CloseReason,
 }
 
-/// The state of a connection between its turns.
+/// The state of a connection between two polls.
 #[derive(Drop)]
-pub enum Stage {
-    /// It waits for an event of its socket, or for an outcome.
+pub enum ConnectionState {
+    /// It waits for an event of its socket, or for the outcome of a request.
     Idle,
-    /// It is on the list of connections that get a turn.
+    /// It is on the worker's list of connections to poll.
     Listed,
-    /// It has ended, and gets no further turn.
+    /// It is closed, and isn't polled again.
     Over,
 }
 
-/// A socket that doesn't block, and its session. It holds at most one frame and one piece of what
-/// arrived: a peer's bytes are read no faster than it takes its replies.
+/// A non-blocking socket and its session.
+///
+/// Holds at most one frame and one piece of [`PIECE`] bytes of the peer's input: bytes are read no
+/// faster than the peer takes its replies.
 #[derive(Drop)]
 pub struct Connection {
     socket: Socket,
     peer: Peer,
     session: Session,
-    stage: Stage,
-    /// How many idle checks in a row have found it silent.
+    stage: ConnectionState,
+    /// The number of consecutive idle checks that found it silent.
     looks: u32,
     ghost held: { HoldsFrameAnd PIECE session },
 }
@@ -66,25 +68,26 @@ pub struct Connection {
 impl Connection {
     ghost use Rattle.snap_server.specs.SharedService.{IsTurn};
     ghost use Rattle.snap_server.specs.TurnList.{enlisted};
-    ghost use Rattle.snap_server.specs.Stages.{MayEnd};
+    ghost use Rattle.snap_server.specs.ConnectionStates.{MayEnd};
 
-    /// A connection to which nothing has arrived yet.
-    pub fn new(alloc: Global, arrival: Arrival) -> Connection
+    /// A new connection, from which nothing was read yet.
+    pub fn new(alloc: Global, arrival: Accepted) -> Connection
         ensures session { result.session ≡ start }
         ensures peer { result.peer ≡ arrival.peer }
-        ensures stage { result.stage ≡ Stage.Idle }
+        ensures stage { result.stage ≡ ConnectionState.Idle }
     {
-        let Arrival { stream, peer } = arrival;
+        let Accepted { stream, peer } = arrival;
         Connection {
             socket: Socket::new(stream),
             peer,
             session: Session::new(alloc),
-            stage: Stage::Idle,
+            stage: ConnectionState::Idle,
             looks: 0,
         }
     }
 
-    /// Registers the socket, so that the system reports under this token when it can be read or written.
+    /// Registers the socket, so that the system reports under `token` when it is readable or
+    /// writable.
     pub fn register(&mut self, registry: &Registry, token: Token) -> io::Result<()>
         ensures session { self.new.session ≡ self.old.session }
         ensures peer { self.new.peer ≡ self.old.peer }
@@ -94,33 +97,35 @@ impl Connection {
         self.socket.register(registry, token, interest)
     }
 
-    /// Marks it as listed, unless it is listed or has ended; true if the caller has to put it on the list.
+    /// Marks it as listed, unless it is listed or closed. If `true`, the caller has to append it to
+    /// the list.
     pub fn enlist(&mut self) -> bool
-        ensures idle { result ≡ true ↔ self.old.stage ≡ Stage.Idle }
+        ensures idle { result ≡ true ↔ self.old.stage ≡ ConnectionState.Idle }
         ensures listed { self.new ≡ record self.old { stage = enlisted self.old.stage } }
     {
-        if let Stage::Idle = self.stage {
-            self.stage = Stage::Listed;
+        if let ConnectionState::Idle = self.stage {
+            self.stage = ConnectionState::Listed;
             return true;
         }
         false
     }
 
-    /// Marks it as no longer listed.
+    /// Marks it as idle, when the caller has taken it off the list.
     pub fn delist(&mut self)
-        ensures { self.new ≡ record self.old { stage = Stage.Idle } }
+        ensures { self.new ≡ record self.old { stage = ConnectionState.Idle } }
     {
-        self.stage = Stage::Idle;
+        self.stage = ConnectionState::Idle;
     }
 
-    /// Takes one turn of its session: reads, answers and writes as far as the socket lets it. Of
-    /// the bytes on the socket nothing is known but that some were read and some written.
+    /// Polls its session once: reads, answers and writes as far as the socket allows.
+    ///
+    /// Of the bytes on the socket the contract says only that some were read and some written.
     pub fn go_on<S: Service>(
         &mut self,
         service: &mut S,
         key: usize,
         piece: &mut [u8; PIECE],
-    ) -> Turn
+    ) -> Polled
         ensures goes { IsTurn S.gives service.old service.new self.old.session self.new.session }
         ensures stands { StandsAt result self.new.session None }
         ensures bounded { length self.old.session.owed ≤ most_owed → length self.new.session.owed ≤ most_owed }
@@ -144,8 +149,8 @@ impl Connection {
         )
     }
 
-    /// Answers the request that was handed over, by its outcome, and no later one. `false` if the
-    /// connection has ended.
+    /// Answers the request that was handed over, by its outcome, and no later request. `false` if
+    /// the connection is closed.
     pub fn take_outcome<S: Service>(&mut self, service: &mut S, outcome: S::Outcome) -> bool
     where
         S::Outcome: Drop,
@@ -155,7 +160,7 @@ impl Connection {
         ensures nobody { self.old.session.asked ≡ None → self.new.session ≡ self.old.session }
         ensures peer { self.new.peer ≡ self.old.peer }
         ensures stage { self.new.stage ≡ self.old.stage }
-        ensures ended { result ≡ false ↔ self.old.stage ≡ Stage.Over }
+        ensures ended { result ≡ false ↔ self.old.stage ≡ ConnectionState.Over }
     {
         if self.session.over().is_none() {
             self.session.finish(service, outcome);
@@ -163,68 +168,72 @@ impl Connection {
         !self.is_over()
     }
 
-    /// Checks it between its turns: returns why it ends, if it does. It doesn't end while it is
-    /// listed, nor while it waits for an outcome unless its peer is lost.
-    pub fn look(&mut self, why: &Look) -> Option<Ending>
+    /// Checks the connection between two polls, and returns the reason if it has to be closed.
+    ///
+    /// It isn't closed while it is listed, nor while it waits for an outcome, unless its peer is
+    /// lost.
+    pub fn look(&mut self, why: &IdleCheck) -> Option<CloseReason>
         ensures may { IfSome result (λ how. MayEnd how self.new.session) }
-        ensures idle { IsSome result → self.new.stage ≡ Stage.Idle }
+        ensures idle { IsSome result → self.new.stage ≡ ConnectionState.Idle }
         ensures session { self.new.session ≡ self.old.session }
         ensures peer { self.new.peer ≡ self.old.peer }
         ensures stage { self.new.stage ≡ self.old.stage }
     {
-        let Stage::Idle = self.stage else {
+        let ConnectionState::Idle = self.stage else {
             return None;
         };
         match why {
-            Look::Lost if self.is_free() => None,
-            Look::Lost => Some(Ending::Lost),
-            Look::Silence(_) if !self.is_free() => None,
-            Look::Silence(silence) => self.count_silent(silence),
+            IdleCheck::Lost if self.is_free() => None,
+            IdleCheck::Lost => Some(CloseReason::Lost),
+            IdleCheck::Silence(_) if !self.is_free() => None,
+            IdleCheck::Silence(timeout) => self.count_silent(timeout),
         }
     }
 
-    /// Counts an idle check that finds it silent with no request under way.
-    fn count_silent(&mut self, silence: &Silence) -> Option<Ending>
+    /// Counts an idle check that finds it silent, with no request being worked on.
+    fn count_silent(&mut self, timeout: &IdleTimeout) -> Option<CloseReason>
         requires { self.old.session.asked ≡ None }
         ensures may { IfSome result (λ how. MayEnd how self.new.session) }
         ensures session { self.new.session ≡ self.old.session }
         ensures peer { self.new.peer ≡ self.old.peer }
         ensures stage { self.new.stage ≡ self.old.stage }
     {
-        if silence.stops && self.session.is_between() && self.session.owed().is_empty() {
-            return Some(Ending::Stopped);
+        if timeout.stops && self.session.is_between() && self.session.owed().is_empty() {
+            return Some(CloseReason::Stopped);
         }
-        if self.looks >= silence.looks {
-            return Some(Ending::Silent);
+        if self.looks >= timeout.looks {
+            return Some(CloseReason::Silent);
         }
         self.looks += 1;
         None
     }
 
-    /// Ends it and closes its descriptor, also if an outcome is still to arrive for it. The socket's
-    /// writing side is shut down first, so that the peer reads all that was written before the end.
-    pub fn end(&mut self, how: Ending) -> Ended
+    /// Closes the connection and its descriptor, also if an outcome is still to arrive for it.
+    ///
+    /// The socket's writing side is shut down first, so that the peer reads all that was written
+    /// before the end of the stream.
+    pub fn end(&mut self, how: CloseReason) -> Closed
         requires { MayEnd how self.old.session }
-        ensures over { self.new ≡ record self.old { stage = Stage.Over; socket = self.new.socket } }
+        ensures over { self.new ≡ record self.old { stage = ConnectionState.Over; socket = self.new.socket } }
         ensures peer { result.peer ≡ self.old.peer }
         ensures how { result.how ≡ how }
     {
-        self.stage = Stage::Over;
+        self.stage = ConnectionState::Over;
         self.socket.close();
-        Ended {
+        Closed {
             peer: self.peer,
             how,
         }
     }
 
-    /// Whether it has ended, so that it gets no further turn.
+    /// Whether it is closed, so that it isn't polled again.
     pub fn is_over(&self) -> bool
-        ensures { result ≡ true ↔ self.now.stage ≡ Stage.Over }
+        ensures { result ≡ true ↔ self.now.stage ≡ ConnectionState.Over }
     {
-        matches!(self.stage, Stage::Over)
+        matches!(self.stage, ConnectionState::Over)
     }
 
-    /// Whether no outcome is still to arrive for it.
+    /// Whether no request of this connection waits for an outcome.
     pub fn is_free(&self) -> bool
         ensures { result ≡ true ↔ self.now.session.asked ≡ None }
     {

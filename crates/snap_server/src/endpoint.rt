@@ -1,11 +1,11 @@
-//! Both ends of a connection, with their texts.
+//! Addresses of listeners and of peers, with their texts.
 ghost use Rattle.std.specs.Prelude.{Some};
 ghost use Rattle.snap_server.specs.Endpoints.{endpoint_text, peer_text};
 
 use std::fmt;
 use std::net::SocketAddr;
 
-/// The address of a listener. Its text is what clients are given.
+/// The address of a listener. `Display` gives the text that clients connect to.
 #[derive(Debug, PartialEq, Eq, Drop)]
 pub enum Endpoint {
     /// A TCP address with its port.
@@ -25,12 +25,12 @@ impl fmt::Display for Endpoint {
     }
 }
 
-/// The peer of a connection.
+/// The address of a connection's peer.
 #[derive(Clone, Copy, Debug, PartialEq, Eq, Drop)]
 pub enum Peer {
-    /// A TCP peer, by its address.
+    /// The address of a TCP peer.
     Tcp(SocketAddr),
-    /// A process of this machine, by a Unix socket. It has no address.
+    /// A process on this machine, connected by a Unix socket. It has no address.
     Unix,
 }
 

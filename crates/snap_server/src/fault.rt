@@ -1,4 +1,4 @@
-//! Why a server ended.
+//! Why a server stopped.
 
 use std::io;
 use thiserror::Error;
@@ -6,13 +6,13 @@ use thiserror::Error;
 /// Why [`run`](crate::run) stopped serving. `Display` gives the message for the operator.
 #[derive(Clone, Copy, Debug, PartialEq, Eq, Error)]
 pub enum ServerFault {
-    /// 16 connections in a row couldn't be accepted.
+    /// The listener failed 16 times in a row.
     #[error("16 connections in a row couldn't be accepted")]
     AcceptFailed,
     /// A worker's wait for events failed.
     #[error("the system refused to watch the connections of a worker")]
     PollFailed,
-    /// The system refused a worker its poll or its waker.
+    /// The system refused a worker its event queue or its waker.
     #[error("the system refused to watch the connections of a worker")]
     NoPoll,
     /// The system refused a thread.
@@ -26,8 +26,8 @@ pub enum ServerFault {
 /// Why [`run`](crate::run) ended early.
 #[derive(Debug, Drop)]
 pub enum RunFault {
-    /// The server couldn't begin, or stopped serving.
+    /// The server couldn't start, or stopped serving.
     Server(ServerFault),
-    /// The announcement failed for this reason, and no connection was accepted.
+    /// The announcement failed, for this reason, and no connection was accepted.
     Announcement(io::Error),
 }

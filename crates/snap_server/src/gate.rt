@@ -1,21 +1,21 @@
-//! A hook around each request.
+//! A hook that is called around each request.
 ghost use Rattle.std.specs.Prelude.{◌≡◌};
 
 use snap_disk::Refusal;
 use snap_frame::{Reply, Request};
 use snap_session::Service;
 
-/// Is called before each request is answered and after, on the thread that answers it.
+/// A hook that a worker calls before and after each request, on the worker's thread.
 pub trait Gate {
-    /// A request will be answered. No lock is held.
+    /// Called before a request is answered. No lock is held.
     fn enter(&self);
 
-    /// The request was answered. Not called for a request that was handed over and whose outcome
-    /// never arrives.
+    /// Called after a request was answered. Not called for a request that was handed over and whose
+    /// outcome never arrives.
     fn leave(&self);
 }
 
-/// Does nothing.
+/// A hook that does nothing.
 #[derive(Drop)]
 pub struct NoGate;
 
@@ -25,7 +25,7 @@ impl Gate for NoGate {
     fn leave(&self) {}
 }
 
-/// A service with a gate around each request. Its replies are the inner service's.
+/// A service with a hook around each request. Its replies are those of the inner service.
 #[derive(Drop)]
 pub struct Gated<'a, S: Drop, G> {
     service: S,
@@ -33,7 +33,7 @@ pub struct Gated<'a, S: Drop, G> {
 }
 
 impl<'a, S: Drop, G> Gated<'a, S, G> {
-    /// Wraps `service`, so that each of its requests passes the gate.
+    /// Wraps `service`, so that `gate` is called around each of its requests.
     pub fn new(service: S, gate: &'a G) -> Gated<'a, S, G>
         ensures { result.service ≡ service }
     {

@@ -1,8 +1,8 @@
-//! Several listeners as one.
+//! Several listeners in one.
 ghost use Rattle.std.specs.Prelude.{◌≡◌, List};
 
 use crate::endpoint::Endpoint;
-use crate::listen::{Arrival, Listen, Locate, Unaccepted, why_not};
+use crate::listen::{AcceptFault, Accepted, Listen, LocalAddress, why_not};
 use crate::tcp::Tcp;
 use crate::unix::{BindFault, UnixSocket};
 use mio::unix::SourceFd;
@@ -17,7 +17,7 @@ use std::rt::{Clock, Files};
 /// The most events of one wait.
 const MAX_EVENTS: usize = 16;
 
-/// One of the listeners.
+/// One of the listeners, over TCP or a Unix socket.
 #[derive(Drop)]
 enum Opened<'a, R: Files<File = File> + Clock> {
     Tcp(Tcp),
@@ -25,15 +25,15 @@ enum Opened<'a, R: Files<File = File> + Clock> {
 }
 
 impl<R: Files<File = File> + Clock> Opened<'_, R> {
-    /// The next connection; `None` if it doesn't block and there is none.
-    fn take(&self) -> Result<Option<Arrival>, Unaccepted> {
+    /// Accepts the next connection; `None` if the listener doesn't block and no connection waits.
+    fn take(&self) -> Result<Option<Accepted>, AcceptFault> {
         match self {
             Opened::Tcp(tcp) => tcp.take(),
             Opened::Unix(socket) => socket.take(),
         }
     }
 
-    /// Makes it non-blocking.
+    /// Makes the listener non-blocking.
     fn stop_waiting(&self) -> io::Result<()> {
         match self {
             Opened::Tcp(tcp) => tcp.stop_waiting(),
@@ -41,7 +41,7 @@ impl<R: Files<File = File> + Clock> Opened<'_, R> {
         }
     }
 
-    /// Its descriptor.
+    /// The listener's descriptor.
     fn descriptor(&self) -> RawFd {
         match self {
             Opened::Tcp(tcp) => tcp.descriptor(),
@@ -49,7 +49,7 @@ impl<R: Files<File = File> + Clock> Opened<'_, R> {
         }
     }
 
-    /// Closes it to further connections.
+    /// Closes the listener: clients that connect later are refused at once.
     fn close(&self) {
         match self {
             Opened::Tcp(tcp) => tcp.close(),
@@ -65,12 +65,13 @@ pub struct Listeners<'a, R: Files<File = File> + Clock> {
     events: Events,
     opened: Vec<Opened<'a, R>>,
     endpoints: Vec<Endpoint>,
-    /// The place of the next listener in turn, or one past the last.
+    /// The index of the next listener in turn, or one past the last.
     next: usize,
 }
 
 impl<'a, R: Files<File = File> + Clock> Listeners<'a, R> {
-    /// An empty set of listeners. A fault is the system's, or that memory ran out.
+    /// An empty set of listeners. Fails if the system refuses its event queue, or if memory runs
+    /// out.
     pub fn new(net: &impl Net, alloc: Global) -> Result<Listeners<'a, R>, BindFault> {
         let poll = Poll::new(net)?;
         let Ok(events) = Events::with_capacity(alloc, MAX_EVENTS) else {
@@ -112,7 +113,7 @@ impl<'a, R: Files<File = File> + Clock> Listeners<'a, R> {
         Ok(())
     }
 
-    /// Registers it, so that the system reports its callers.
+    /// Registers the listener, so that the system reports its waiting connections.
     fn watch(&mut self, opened: &Opened<'a, R>) -> io::Result<()> {
         let descriptor = opened.descriptor();
         let mut source = SourceFd(&descriptor);
@@ -122,8 +123,9 @@ impl<'a, R: Files<File = File> + Clock> Listeners<'a, R> {
             .register(&mut source, token, Interest::READABLE)
     }
 
-    /// The next connection, of the first listener in turn that has one; `None` if none has.
-    fn take_in_turn(&mut self) -> Result<Option<Arrival>, Unaccepted> {
+    /// Accepts a connection from the first listener in turn at which one waits; `None` if none
+    /// waits.
+    fn take_in_turn(&mut self) -> Result<Option<Accepted>, AcceptFault> {
         for _ in 0..self.opened.len() {
             if self.next >= self.opened.len() {
                 self.next = 0;
@@ -144,18 +146,19 @@ impl<R: Files<File = File> + Clock> Listen for Listeners<'_, R> {
     /// The system may fail at any time.
     ghost refuses = { λ _. Unit {0} };
 
-    /// The system reports each caller only once, so all listeners are tried before it waits.
-    fn accept(&mut self) -> Result<Arrival, Unaccepted> {
+    /// The system reports a waiting connection only once, so all listeners are tried before it
+    /// waits.
+    fn accept(&mut self) -> Result<Accepted, AcceptFault> {
         if let Some(arrival) = self.take_in_turn()? {
             return Ok(arrival);
         }
         if let Err(error) = self.poll.poll(&mut self.events, None) {
             return Err(why_not(&error));
         }
-        self.take_in_turn()?.ok_or(Unaccepted::Gone)
+        self.take_in_turn()?.ok_or(AcceptFault::Gone)
     }
 
-    /// Their descriptors stay open, but accept no more.
+    /// Closes all listeners to further connections. Their descriptors stay open.
     fn close(&self) {
         for opened in &self.opened {
             opened.close();
@@ -163,8 +166,8 @@ impl<R: Files<File = File> + Clock> Listen for Listeners<'_, R> {
     }
 }
 
-impl<R: Files<File = File> + Clock> Locate for Listeners<'_, R> {
-    /// The premise: a socket is bound at the address that the system returns (`getsockname`), or at
+impl<R: Files<File = File> + Clock> LocalAddress for Listeners<'_, R> {
+    /// A premise: a socket is bound at the address that the system returns (`getsockname`), or at
     /// the path that it was given. The kit has no contract for that.
     ghost is_at = { λ listeners endpoints. endpoints ≡ listeners.endpoints.items };
 

@@ -1,20 +1,20 @@
-//! All threads of a server.
+//! The threads of a server.
 ghost use Rattle.std.specs.Prelude.{◌≡◌, ◌⊎◌, [], All, IfOk, IfErr, OnOk, Some, map, true, vec_len};
 ghost use Rattle.std.specs.List.{range_with_len};
 ghost use Rattle.std.specs.Thread.{IsSync, IsSend};
 ghost use Rattle.snap_server.specs.Announced.{Announced, end_of, was_announced};
 ghost use Rattle.snap_server.specs.Deals.{Deals, GivesSoMany};
 
-use crate::acceptor::Dealer;
+use crate::acceptor::Acceptor;
 use crate::announce::Announce;
-use crate::door::{Door, Hand, Mail};
+use crate::connection_limit::ConnectionLimit;
+use crate::dispatcher::Dispatcher;
 use crate::fault::{RunFault, ServerFault};
 use crate::gate::{Gate, Gated};
-use crate::intake::Intake;
+use crate::idle_timeout::IdleTimeout;
 use crate::listen::Listen;
-use crate::note::Note;
-use crate::room::Room;
-use crate::silence::Silence;
+use crate::mailbox::{Deliver, MailboxSender, Message};
+use crate::server_event::ServerEvent;
 use crate::threads::{Work, have_served, start_backgrounds, start_workers};
 use crate::worker::Worker;
 use snap_session::{Background, Service};
@@ -29,28 +29,32 @@ use std::time::Duration;
 /// The limits of a server.
 #[derive(Clone, Copy, Debug)]
 pub struct Limits {
-    /// How many connections it serves in all; `None` for no limit.
+    /// The number of connections that it serves in all; `None` for no limit.
     pub connections: Option<u64>,
-    /// How many of them may be open at once.
+    /// The number of connections that may be open at once.
     pub clients: usize,
-    /// The pause after a fault of the listener, before the next try. It grows with each fault in a
-    /// row, to ten thousand times this in all.
+    /// The pause after the first fault of the listener, before the next try. It grows with each
+    /// consecutive fault, to ten thousand times this in all.
     pub fault_rest: Duration,
-    /// The idle timeout: how long a connection may be silent with no request under way; `None` for
-    /// no limit. A silent one is closed at most a quarter of this time late.
+    /// The idle timeout: how long a connection may be silent with no request being worked on;
+    /// `None` for no limit. A silent connection is closed at most a quarter of this time late.
     pub idle: Option<Duration>,
 }
 
-/// Notifies the workers that no more connections will arrive. They serve those that they have to
-/// their end, or close them if the server has failed.
-fn close_all<X: Wait + Clock, H: Hand>(rt: &X, doors: &[H], has_served: bool) {
-    for door in doors {
-        let mail = if has_served { Mail::Close } else { Mail::Stop };
-        door.post(rt, mail);
+/// Tells the workers that no more connections will arrive. They serve their connections until these
+/// end, or close them if the server has failed.
+fn close_all<X: Wait + Clock, H: Deliver>(rt: &X, senders: &[H], has_served: bool) {
+    for sender in senders {
+        let message = if has_served {
+            Message::Close
+        } else {
+            Message::Stop
+        };
+        sender.post(rt, message);
     }
 }
 
-/// Wraps each service with the gate.
+/// Wraps each service with the hook `gate`.
 fn gate_all<'a, S: Service + Drop, G: Gate>(
     alloc: Global,
     services: Vec<S>,
@@ -68,50 +72,51 @@ fn gate_all<'a, S: Service + Drop, G: Gate>(
     Ok(gated)
 }
 
-/// Makes a worker for each service, and their doors in the same order, numbered by place.
+/// Makes a worker for each service, and their senders in the same order, numbered by index.
 fn open_workers<X: Net, S: Service + Drop>(
     net: &X,
     alloc: Global,
     services: Vec<S>,
     idle: Option<Duration>,
-) -> Result<(Vec<Worker<S>>, Vec<Door<S::Outcome>>), ServerFault>
+) -> Result<(Vec<Worker<S>>, Vec<MailboxSender<S::Outcome>>), ServerFault>
 where
     S::Outcome: Drop,
     ensures workers { IfOk result (λ made.
         map (λ worker. worker.sessions.service) made.0.items ≡ services.items) }
-    ensures doors { IfOk result (λ made. vec_len made.1 ≡ vec_len services) }
-    ensures places { IfOk result (λ made. map (λ worker. worker.inbox.place) made.0.items
+    ensures senders { IfOk result (λ made. vec_len made.1 ≡ vec_len services) }
+    ensures places { IfOk result (λ made. map (λ worker. worker.mailbox.place) made.0.items
         ≡ range_with_len 0 (vec_len services)) }
-    ensures theirs { IfOk result (λ made. map (λ door. door.place) made.1.items
+    ensures theirs { IfOk result (λ made. map (λ sender. sender.place) made.1.items
         ≡ range_with_len 0 (vec_len services)) }
     ensures faults { IfErr result (λ fault.
         (fault ≡ ServerFault.NoPoll) ⊎ (fault ≡ ServerFault.NoMemory)) }
 {
     let mut workers = Vec::new(alloc);
-    let mut doors = Vec::new(alloc);
+    let mut senders = Vec::new(alloc);
     'services: for service in services {
         let place = workers.len();
-        let (worker, door) = Worker::new(net, alloc, service, place, idle.map(Silence::of))?;
-        if workers.push(worker).is_err() || doors.push(door).is_err() {
+        let (worker, sender) = Worker::new(net, alloc, service, place, idle.map(IdleTimeout::of))?;
+        if workers.push(worker).is_err() || senders.push(sender).is_err() {
             return Err(ServerFault::NoMemory);
         }
     }
-    Ok((workers, doors))
+    Ok((workers, senders))
 }
 
-/// Makes a worker for each service, wrapped with the gate, and their doors in the same order.
+/// Makes a worker for each service, wrapped with the hook `gate`, and their senders in the same
+/// order.
 fn open_all<'a, X: Net, S: Service + Drop, G: Gate>(
     net: &X,
     alloc: Global,
     services: Vec<S>,
     gate: &'a G,
     idle: Option<Duration>,
-) -> Result<(Vec<Worker<Gated<'a, S, G>>>, Vec<Door<S::Outcome>>), ServerFault>
+) -> Result<(Vec<Worker<Gated<'a, S, G>>>, Vec<MailboxSender<S::Outcome>>), ServerFault>
 where
     S::Outcome: Drop,
-    ensures places { IfOk result (λ made. map (λ worker. worker.inbox.place) made.0.items
+    ensures places { IfOk result (λ made. map (λ worker. worker.mailbox.place) made.0.items
         ≡ range_with_len 0 (vec_len made.0)) }
-    ensures theirs { IfOk result (λ made. map (λ door. door.place) made.1.items
+    ensures theirs { IfOk result (λ made. map (λ sender. sender.place) made.1.items
         ≡ range_with_len 0 (vec_len made.0)) }
     ensures faults { IfErr result (λ fault.
         (fault ≡ ServerFault.NoPoll) ⊎ (fault ≡ ServerFault.NoMemory)) }
@@ -120,12 +125,12 @@ where
     open_workers(net, alloc, services, idle)
 }
 
-/// Announces the server if it has all its threads, and then accepts `connections` connections, or
-/// without end, and hands them out.
+/// Announces the server, which has all its threads, then accepts `connections` connections and
+/// delivers them to the workers; without end if `None`.
 fn accept_announced<X, L, H, N, T, A>(
     rt: &X,
     listener: &mut L,
-    mut dealer: Dealer<'_, H>,
+    mut dispatcher: Dispatcher<'_, H>,
     is_whole: bool,
     connections: Option<u64>,
     note: &N,
@@ -135,15 +140,15 @@ fn accept_announced<X, L, H, N, T, A>(
 where
     X: Wait + Clock,
     L: Listen,
-    H: Hand,
-    N: Fn(&Note),
+    H: Deliver,
+    N: Fn(&ServerEvent),
     A: Announce<T>,
-    requires none { dealer.dealt ≡ 0 }
-    requires first { dealer.next ≡ 0 }
+    requires none { dispatcher.dealt ≡ 0 }
+    requires first { dispatcher.next ≡ 0 }
     requires note { N.IsAlwaysCallable note.now }
     ensures whole { OnOk result (is_whole ≡ true) }
     ensures asked { IfOk result (λ k. connections ≡ Some k) }
-    ensures deals { IfOk result (λ k. Deals L.accepts H.takes dealer.entry.doors.now k
+    ensures deals { IfOk result (λ k. Deals L.accepts H.takes dispatcher.entry.senders.now k
         listener.old listener.new) }
     ensures accepted { IfOk result (λ k. GivesSoMany L.accepts k listener.old listener.new) }
     ensures deaf { IfErr result (λ why.
@@ -157,21 +162,23 @@ where
     if let Err(why) = announce.announce(to) {
         return Err(RunFault::Announcement(why));
     }
-    match dealer.accept_all(rt, listener, connections, note) {
+    match dispatcher.accept_all(rt, listener, connections, note) {
         Ok(accepted) => Ok(accepted),
         Err(fault) => Err(RunFault::Server(fault)),
     }
 }
 
-/// Runs the threads of all workers and backgrounds. Once all run it announces the server, and
-/// accepts on the calling thread. It has served only if each worker says so, and each connection
-/// was handed to the door whose turn it was.
+/// Runs the threads of all workers and backgrounds. Once all are running it announces the server,
+/// and accepts on the calling thread.
+///
+/// It succeeds only if each worker has served all its connections, and each connection was
+/// delivered to the sender whose turn it was.
 fn run_threads<X, L, K, H, B, N, T, A>(
     rt: &X,
     alloc: Global,
     listener: L,
     workers: Vec<K>,
-    doors: &[H],
+    senders: &[H],
     backgrounds: Vec<B>,
     limits: Limits,
     note: &N,
@@ -182,23 +189,23 @@ where
     X: Threads + Wait + Clock + Sync,
     L: Listen + Drop,
     K: Work + Send + Drop,
-    H: Hand + Sync,
+    H: Deliver + Sync,
     H::Outcome: Send + Drop,
     B: Background<Outcome = H::Outcome> + Send + Drop,
-    N: Fn(&Note) + Sync,
+    N: Fn(&ServerEvent) + Sync,
     A: Announce<T>,
     requires { N.IsAlwaysCallable note.now }
     ensures asked { IfOk result (λ k. limits.connections ≡ Some k) }
     ensures deals { IfOk result (λ k.
-        (left : L) × Deals L.accepts H.takes doors.now k listener left) }
+        (left : L) × Deals L.accepts H.takes senders.now k listener left) }
     ensures served { OnOk result (All K.serves workers.items) }
     ensures deaf { IfErr result (λ why.
         why ≡ RunFault.Server ServerFault.AcceptFailed → L.refuses listener) }
     ensures announced { Announced (A.announces announce.now) (A.fails announce.now)
         to.old result to.new }
 {
-    let room = Room::new(limits.clients);
-    let room = &room;
+    let limit = ConnectionLimit::new(limits.clients);
+    let limit = &limit;
     let Ok(threads) = Vec::with_capacity(alloc, workers.len()) else {
         return Err(RunFault::Server(ServerFault::NoMemory));
     };
@@ -210,7 +217,7 @@ where
                 × N.IsAlwaysCallable note.now × (threads.items ≡ []) }
             ensures asked { IfOk result.0 (λ k. limits.connections ≡ Some k) }
             ensures deals { IfOk result.0 (λ k.
-                (left : L) × Deals L.accepts H.takes doors.entry.now k listener left) }
+                (left : L) × Deals L.accepts H.takes senders.entry.now k listener left) }
             ensures served { OnOk result.0 (All K.serves workers.items) }
             ensures deaf { IfErr result.0 (λ why.
                 why ≡ RunFault.Server ServerFault.AcceptFailed → L.refuses listener) }
@@ -219,24 +226,24 @@ where
             ensures same { result.1.ghost_name ≡ to.entry.ghost_name }
         {
             let mut threads = threads;
-            let is_told = start_backgrounds(scope, rt, doors, backgrounds);
-            let is_worked = start_workers(scope, rt, room, note, workers, &mut threads);
+            let is_told = start_backgrounds(scope, rt, senders, backgrounds);
+            let is_worked = start_workers(scope, rt, limit, note, workers, &mut threads);
             let mut listener = listener;
-            let dealer = Dealer::new(Intake::new(room, limits.fault_rest), doors);
+            let dispatcher = Dispatcher::new(Acceptor::new(limit, limits.fault_rest), senders);
             let asked = limits.connections;
             let accepted = accept_announced(
                 rt,
                 &mut listener,
-                dealer,
+                dispatcher,
                 is_told && is_worked,
                 asked,
                 note,
                 announce,
                 to,
             );
-            // Further callers are refused at once.
+            // Clients that connect later are refused at once.
             listener.close();
-            close_all(rt, doors, accepted.is_ok());
+            close_all(rt, senders, accepted.is_ok());
             // `to` is returned, since nothing is known of what a moved closure changed.
             (end_of(accepted, !have_served(rt, threads)), to)
         },
@@ -244,29 +251,31 @@ where
     ended
 }
 
-/// Serves the listener's connections, handed in turn to one worker for each service, until as many
-/// as the limits say have been accepted and have ended; returns their number, each of which was
-/// handed to a worker. While the limit of open connections is reached further callers wait in the
-/// listener's queue.
+/// Serves the listener's connections until as many as the limits allow were accepted and closed,
+/// and returns their number. Connections are delivered in turn to the workers, one for each
+/// service.
 ///
-/// Once its threads, their polls and their memory are there, and before it accepts, the server is
-/// announced to `to`. If that fails it ends, and has accepted none. Each background works in a
-/// thread of its own, and has ended once the services are dropped. The gate's `enter` comes before
-/// a request is answered and its `leave` after. `note` is called for each connection that has
-/// ended, on its worker's thread, and when there is no place for a connection, when there is again,
-/// and when accepting has ended.
+/// While the limit of open connections is reached, clients wait in the listener's queue.
+///
+/// The server is announced to `to` once it has its threads, their event queues and their memory,
+/// and before it accepts. If the announcement fails, `run` returns and has accepted no connection.
+/// Each background works in a thread of its own, and has ended once the services are dropped. The
+/// gate's `enter` is called before a request is answered, and its `leave` after. `note` gets each
+/// [`ServerEvent`](crate::ServerEvent): the close of a connection on its worker's thread, and the
+/// others on the calling thread.
 ///
 /// The listener is closed once no more connections are accepted. After a fault the open connections
-/// are closed: each once it has nothing under way, or was silent within a request for five seconds.
+/// are closed: each between two requests, or after five seconds of silence within one.
 ///
-/// - [`NoMemory`](ServerFault::NoMemory): memory for `run` itself ran out. A connection for which
-///   memory runs out is closed, and that is no fault.
-/// - [`NoPoll`](ServerFault::NoPoll), [`NoThread`](ServerFault::NoThread): the system refused a worker
-///   its poll or its thread. No connection was accepted.
-/// - [`AcceptFailed`](ServerFault::AcceptFailed): 16 faults of the listener in a row. A lack of
-///   descriptors or of memory for a socket is none.
-/// - [`PollFailed`](ServerFault::PollFailed): a worker's wait for events failed. Its connections are
-///   closed without a note, and accepting ends with the next one that is handed to it.
+/// - [`NoMemory`](ServerFault::NoMemory): memory for `run` itself ran out. If it runs out for a
+///   connection, that connection is closed, and `run` goes on.
+/// - [`NoPoll`](ServerFault::NoPoll), [`NoThread`](ServerFault::NoThread): the system refused a
+///   worker its event queue or its thread. No connection was accepted.
+/// - [`AcceptFailed`](ServerFault::AcceptFailed): 16 consecutive faults of the listener. A lack of
+///   descriptors or of memory for a socket doesn't count.
+/// - [`PollFailed`](ServerFault::PollFailed): a worker's wait for events failed. Its connections
+///   are closed without an event, and accepting ends with the next connection that is delivered to
+///   it.
 pub fn run<X, L, S, B, G, N, T, A>(
     rt: &X,
     alloc: Global,
@@ -286,7 +295,7 @@ where
     S::Outcome: Send + Drop,
     B: Background<Outcome = S::Outcome> + Send + Drop,
     G: Gate + Sync,
-    N: Fn(&Note) + Sync,
+    N: Fn(&ServerEvent) + Sync,
     A: Announce<T>,
     requires { N.IsAlwaysCallable note.now }
     ensures asked { IfOk result (λ k. limits.connections ≡ Some k) }
@@ -297,7 +306,7 @@ where
     ensures announced { Announced (A.announces announce.now) (A.fails announce.now)
         to.old result to.new }
 {
-    let (workers, doors) = match open_all(rt, alloc, services, gate, limits.idle) {
+    let (workers, senders) = match open_all(rt, alloc, services, gate, limits.idle) {
         Ok(opened) => opened,
         Err(fault) => return Err(RunFault::Server(fault)),
     };
@@ -306,7 +315,7 @@ where
         alloc,
         listener,
         workers,
-        doors.as_slice(),
+        senders.as_slice(),
         backgrounds,
         limits,
         note,
@@ -315,8 +324,8 @@ where
     )
 }
 
-/// The end of a server whose threads have ended: `PollFailed` if one of them failed, unless the
-/// server never began to serve.
+/// The result of a server whose threads have ended: `PollFailed` if one of them failed, unless the
+/// server wasn't announced.
 fn end_of(served: Result<u64, RunFault>, has_failed: bool) -> Result<u64, RunFault>
     ensures { result ≡ end_of served has_failed }
 {
@@ -326,7 +335,7 @@ fn end_of(served: Result<u64, RunFault>, has_failed: bool) -> Result<u64, RunFau
     served
 }
 
-/// Whether a server that ended so had begun to serve.
+/// Whether a server with this result was announced.
 fn was_announced(served: &Result<u64, RunFault>) -> bool
     ensures { result ≡ was_announced served.now }
 {

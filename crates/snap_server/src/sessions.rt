@@ -8,28 +8,29 @@ ghost use Rattle.snap_session.specs.Talk.{Talk, Moves, start};
 ghost use Rattle.snap_server.specs.SharedService.{AreSessions, IsTurn};
 ghost use Rattle.snap_server.specs.TurnList.{Lists, enlisted, listed_behind, again_behind, KeepsOthers};
 ghost use Rattle.snap_server.specs.Scene.{scene};
-ghost use Rattle.snap_server.specs.Stages.{Waits, HasEnded};
+ghost use Rattle.snap_server.specs.ConnectionStates.{Waits, HasEnded};
 ghost use Rattle.snap_server.specs.Turns.{HadRounds};
 ghost use Rattle.snap_server.specs.declared.connection.TheConstants.{PIECE};
 
-use crate::connection::{Connection, Ended, Ending, PIECE, Stage};
-use crate::listen::Arrival;
-use crate::silence::Look;
+use crate::connection::{CloseReason, Closed, Connection, ConnectionState, PIECE};
+use crate::idle_timeout::IdleCheck;
+use crate::listen::Accepted;
 use mio::{Registry, Token};
 use slab::Slab;
-use snap_session::{Service, Turn};
+use snap_session::{Polled, Service};
 use std::alloc::Global;
 use std::collections::VecDeque;
 
-/// A service, the connections whose sessions share it, and the list of those that get a turn.
+/// A service, the connections whose sessions share it, and the list of those to poll. To poll a
+/// connection is to give its session one turn ([`proceed`](snap_session::proceed)).
 ///
-/// From its start to now, each connection is one session on the service, with other connections'
+/// Each connection is one session on the service from its start to now, with other connections'
 /// requests answered between its own.
 #[derive(Drop)]
 pub struct Sessions<S: Service + Drop> {
     service: S,
     connections: Slab<Connection>,
-    /// The keys of the connections that get a turn, each once. It has capacity for all.
+    /// The keys of the connections to poll, each once. It has capacity for all connections.
     listed: VecDeque<usize>,
     ghost are: { ∥ AreSessions S.gives service connections ∥₁ },
     ghost lists: { ∥ Lists listed.items connections ∥₁ },
@@ -37,7 +38,7 @@ pub struct Sessions<S: Service + Drop> {
 }
 
 impl<S: Service + Drop> Sessions<S> {
-    /// A service with no connection yet.
+    /// Wraps `service`, with no connection yet.
     pub fn new(alloc: Global, service: S) -> Sessions<S>
         ensures service { result.service ≡ service }
         ensures none { slab_len result.connections ≡ 0 }
@@ -56,12 +57,12 @@ impl<S: Service + Drop> Sessions<S> {
         self.connections.is_empty()
     }
 
-    /// All connections' keys are below this number.
+    /// An exclusive upper bound of all connections' keys.
     pub fn places(&self) -> usize {
         self.connections.capacity()
     }
 
-    /// How many connections are on the list.
+    /// The number of connections on the list.
     pub fn turns(&self) -> usize
         ensures { result ≡ deque_len self.now.listed }
     {
@@ -69,8 +70,8 @@ impl<S: Service + Drop> Sessions<S> {
     }
 
     /// Adds a connection, and registers it under its key. `false` if memory runs out or the system
-    /// refuses it: then it is closed, and the others aren't affected.
-    pub fn adopt(&mut self, alloc: Global, registry: &Registry, arrival: Arrival) -> bool
+    /// refuses it: then the connection is closed, and the others aren't affected.
+    pub fn adopt(&mut self, alloc: Global, registry: &Registry, arrival: Accepted) -> bool
         ensures service { self.new.service ≡ self.old.service }
         ensures kept { (key : ℕ) → (c : Connection) → get self.old.connections key ≡ Some c
             → get self.new.connections key ≡ Some c }
@@ -94,7 +95,7 @@ impl<S: Service + Drop> Sessions<S> {
         true
     }
 
-    /// Appends a connection to the list, unless it is listed or has ended.
+    /// Appends a connection to the list, unless it is listed or closed.
     pub fn list(&mut self, key: usize)
         ensures service { self.new.service ≡ self.old.service }
         ensures listed { (c : Connection) → get self.old.connections key ≡ Some c
@@ -121,10 +122,10 @@ impl<S: Service + Drop> Sessions<S> {
         ensures service { self.new.service ≡ self.old.service }
         ensures first { self.old.listed.items ≡ option_to_list result ++ self.new.listed.items }
         ensures idle { IfSome result (λ key. (c : Connection)
-            → get self.new.connections key ≡ Some c → c.stage ≡ Stage.Idle) }
+            → get self.new.connections key ≡ Some c → c.stage ≡ ConnectionState.Idle) }
         ensures sessions { IfSome result (λ key. (c : Connection)
             → get self.old.connections key ≡ Some c
-            → get self.new.connections key ≡ Some (record c { stage = Stage.Idle })) }
+            → get self.new.connections key ≡ Some (record c { stage = ConnectionState.Idle })) }
         ensures others { IfSome result (λ key.
             KeepsOthers key self.old.connections self.new.connections) }
         ensures nobody { IfNone result (self.old.listed.items ≡ []) }
@@ -137,15 +138,15 @@ impl<S: Service + Drop> Sessions<S> {
         Some(key)
     }
 
-    /// Gives a connection its turn, and returns its end if it has ended. If it has more to do at
-    /// once it is appended to the list again.
-    pub fn turn(&mut self, key: usize, piece: &mut [u8; PIECE]) -> Option<Ended>
+    /// Polls a connection once, and returns its close if it is closed. If it may have more to do at
+    /// once, it is appended to the list again.
+    pub fn turn(&mut self, key: usize, piece: &mut [u8; PIECE]) -> Option<Closed>
         requires { (c : Connection) → get self.old.connections key ≡ Some c
-            → c.stage ≡ Stage.Idle }
+            → c.stage ≡ ConnectionState.Idle }
         ensures ended { IfSome result (λ ended. (c : Connection)
             × (get self.new.connections key ≡ Some c) × HasEnded c ended) }
         ensures waits { IfNone result ((c : Connection) → get self.new.connections key ≡ Some c
-            → (c.stage ≡ Stage.Listed) ⊎ Waits c.session) }
+            → (c.stage ≡ ConnectionState.Listed) ⊎ Waits c.session) }
         ensures turn { (c : Connection) → (d : Connection)
             → get self.old.connections key ≡ Some c → get self.new.connections key ≡ Some d
             → IsTurn S.gives self.old.service self.new.service c.session d.session }
@@ -170,17 +171,17 @@ impl<S: Service + Drop> Sessions<S> {
     {
         let connection = self.connections.get_mut(key)?;
         match connection.go_on(&mut self.service, key, piece) {
-            Turn::Again => {
+            Polled::Again => {
                 self.list(key);
                 None
             }
-            Turn::NeedsInput | Turn::NeedsRoom | Turn::NeedsOutcome => None,
-            Turn::Over(end) => Some(connection.end(Ending::Session(end))),
+            Polled::NeedsInput | Polled::NeedsRoom | Polled::NeedsOutcome => None,
+            Polled::Over(end) => Some(connection.end(CloseReason::Session(end))),
         }
     }
 
-    /// Checks a connection between its turns, and returns its end if it has ended.
-    pub fn look(&mut self, key: usize, why: &Look) -> Option<Ended>
+    /// Checks a connection between two polls, and returns its close if it is closed.
+    pub fn look(&mut self, key: usize, why: &IdleCheck) -> Option<Closed>
         ensures service { self.new.service ≡ self.old.service }
         ensures ended { IfSome result (λ ended. (c : Connection)
             × (get self.new.connections key ≡ Some c) × HasEnded c ended) }
@@ -199,14 +200,14 @@ impl<S: Service + Drop> Sessions<S> {
         Some(connection.end(how))
     }
 
-    /// Removes a connection that has ended, unless an outcome is still to arrive for it.
+    /// Removes a closed connection, unless an outcome is still to arrive for it.
     pub fn let_go(&mut self, key: usize)
         ensures service { self.new.service ≡ self.old.service }
         ensures gone { (c : Connection) → get self.old.connections key ≡ Some c
-            → c.stage ≡ Stage.Over → c.session.asked ≡ None
+            → c.stage ≡ ConnectionState.Over → c.session.asked ≡ None
             → get self.new.connections key ≡ None }
         ensures kept { (c : Connection) → get self.old.connections key ≡ Some c
-            → (c.stage ≢ Stage.Over) ⊎ (c.session.asked ≢ None)
+            → (c.stage ≢ ConnectionState.Over) ⊎ (c.session.asked ≢ None)
             → get self.new.connections key ≡ Some c }
         ensures same { (c : Connection) → get self.new.connections key ≡ Some c
             → get self.old.connections key ≡ Some c }
@@ -221,7 +222,8 @@ impl<S: Service + Drop> Sessions<S> {
         }
     }
 
-    /// Answers a connection's request by its outcome, and lists the connection. If it has ended it is removed.
+    /// Answers a connection's request by its outcome, and lists the connection. A closed connection
+    /// is removed.
     pub fn tell(&mut self, key: usize, outcome: S::Outcome)
     where
         S::Outcome: Drop,
@@ -240,15 +242,15 @@ impl<S: Service + Drop> Sessions<S> {
             → get self.old.connections key ≡ Some c → get self.new.connections key ≡ Some d
             → d.session.held ≡ c.session.held }
         ensures listed { (d : Connection) → get self.new.connections key ≡ Some d
-            → d.stage ≡ Stage.Listed }
+            → d.stage ≡ ConnectionState.Listed }
         ensures behind { (c : Connection) → get self.old.connections key ≡ Some c
             → self.new.listed.items ≡ listed_behind c.stage key self.old.listed.items }
         ensures unlisted { get self.old.connections key ≡ None
             → self.new.listed.items ≡ self.old.listed.items }
         ensures gone { (c : Connection) → get self.old.connections key ≡ Some c
-            → c.stage ≡ Stage.Over → get self.new.connections key ≡ None }
+            → c.stage ≡ ConnectionState.Over → get self.new.connections key ≡ None }
         ensures kept { (c : Connection) → get self.old.connections key ≡ Some c
-            → c.stage ≢ Stage.Over → IsSome (get self.new.connections key) }
+            → c.stage ≢ ConnectionState.Over → IsSome (get self.new.connections key) }
         ensures others { KeepsOthers key self.old.connections self.new.connections }
     {
         let Some(connection) = self.connections.get_mut(key) else {

@@ -1,25 +1,25 @@
-//! The socket of a connection.
+//! The socket of a connection, until it is closed.
 
 use crate::stream::Stream;
 use mio::{Interest, Registry, Token};
 use std::io::{self, ErrorKind, Read, Write};
 use std::net::Shutdown;
 
-/// A socket that doesn't block, until it is closed. From then on reads and writes fail.
+/// A non-blocking socket. Once it is closed, reads and writes fail.
 #[derive(Drop)]
 pub struct Socket {
     stream: Option<Stream>,
 }
 
 impl Socket {
-    /// An open socket.
+    /// Wraps an open stream.
     pub fn new(stream: Stream) -> Socket {
         Socket {
             stream: Some(stream),
         }
     }
 
-    /// Registers it, so that the system reports its events under this token.
+    /// Registers the socket, so that the system reports its events under `token`.
     pub fn register(
         &mut self,
         registry: &Registry,
@@ -32,7 +32,8 @@ impl Socket {
         }
     }
 
-    /// Shuts its writing side down, so that the peer reads all that was written, and closes its descriptor.
+    /// Shuts the writing side down, so that the peer reads all that was written, and closes the
+    /// descriptor.
     pub fn close(&mut self) {
         if let Some(stream) = self.stream.take() {
             let _ = stream.shutdown(Shutdown::Write);

@@ -1,4 +1,4 @@
-//! The socket of a connection, over TCP or a Unix socket.
+//! Streams: sockets over TCP and Unix sockets in one type.
 
 use mio::net::{TcpStream, UnixStream};
 use mio::{Interest, Registry, Token};
@@ -13,7 +13,7 @@ pub enum Stream {
 }
 
 impl Stream {
-    /// Registers it, so that the system reports its events under this token.
+    /// Registers the socket, so that the system reports its events under `token`.
     pub(crate) fn register(
         &mut self,
         registry: &Registry,
@@ -26,7 +26,7 @@ impl Stream {
         }
     }
 
-    /// Ends reading, writing or both.
+    /// Shuts down reading, writing or both.
     pub(crate) fn shutdown(&self, how: Shutdown) -> io::Result<()> {
         match self {
             Stream::Tcp(stream) => stream.shutdown(how),

@@ -1,7 +1,7 @@
 //! A TCP listener.
 
 use crate::endpoint::Peer;
-use crate::listen::{Arrival, Listen, Unaccepted, why_not};
+use crate::listen::{AcceptFault, Accepted, Listen, why_not};
 use crate::stream::Stream;
 use libc::net;
 use mio::net::TcpStream;
@@ -9,16 +9,18 @@ use std::io::{self, ErrorKind};
 use std::net::{Net, SocketAddr, TcpListener};
 use std::os::fd::{AsRawFd, RawFd};
 
-/// Accepts TCP connections, with no delay of small writes. The system finds out within two minutes
-/// whether a silent peer is still there.
+/// Accepts TCP connections. Small writes aren't delayed (`TCP_NODELAY`), and keepalive finds a lost
+/// peer within two minutes of silence.
 #[derive(Drop)]
 pub struct Tcp {
     listener: TcpListener,
 }
 
 impl Tcp {
-    /// Listens at an address, with the longest queue of connections that the system allows. At port
-    /// 0 the system picks a port, which [`address`](Tcp::address) returns. An error is the system's.
+    /// Listens at an address, with the longest queue of connections that the system allows. An
+    /// error is the system's.
+    ///
+    /// At port 0 the system picks a port, which [`address`](Tcp::address) returns.
     pub fn bind(net: &impl Net, address: SocketAddr) -> io::Result<Tcp> {
         let listener = TcpListener::from(mio::net::TcpListener::bind(net, address)?);
         listener.set_nonblocking(false)?;
@@ -31,35 +33,35 @@ impl Tcp {
         self.listener.local_addr()
     }
 
-    /// Makes it non-blocking: from now on [`take`](Tcp::take) doesn't wait.
+    /// Makes the listener non-blocking: from now on [`take`](Tcp::take) doesn't wait.
     pub(crate) fn stop_waiting(&self) -> io::Result<()> {
         self.listener.set_nonblocking(true)
     }
 
-    /// Its descriptor.
+    /// The listener's descriptor.
     pub(crate) fn descriptor(&self) -> RawFd {
         self.listener.as_raw_fd()
     }
 
-    /// The next connection; `None` if it doesn't block and there is none.
-    pub(crate) fn take(&self) -> Result<Option<Arrival>, Unaccepted> {
+    /// Accepts the next connection; `None` if the listener doesn't block and no connection waits.
+    pub(crate) fn take(&self) -> Result<Option<Accepted>, AcceptFault> {
         let (stream, peer) = match self.listener.accept() {
             Ok(accepted) => accepted,
             Err(error) if error.kind() == ErrorKind::WouldBlock => return Ok(None),
             Err(error) => return Err(why_not(&error)),
         };
-        // These calls fail if the caller has closed.
+        // These calls fail if the client has closed.
         if stream.set_nodelay(true).is_err() || stream.set_nonblocking(true).is_err() {
-            return Err(Unaccepted::Gone);
+            return Err(AcceptFault::Gone);
         }
         let stream = Stream::Tcp(TcpStream::from_std(stream));
         let peer = Peer::Tcp(peer);
-        Ok(Some(Arrival { stream, peer }))
+        Ok(Some(Accepted { stream, peer }))
     }
 
     /// Waits for the next connection.
-    fn wait_for_one(&self) -> Result<Arrival, Unaccepted> {
-        self.take()?.ok_or(Unaccepted::Gone)
+    fn wait_for_one(&self) -> Result<Accepted, AcceptFault> {
+        self.take()?.ok_or(AcceptFault::Gone)
     }
 }
 
@@ -67,11 +69,11 @@ impl Listen for Tcp {
     /// The system may fail at any time.
     ghost refuses = { λ _. Unit {0} };
 
-    fn accept(&mut self) -> Result<Arrival, Unaccepted> {
+    fn accept(&mut self) -> Result<Accepted, AcceptFault> {
         self.wait_for_one()
     }
 
-    /// Its descriptor stays open, but accepts no more.
+    /// Closes the listener to further connections. Its descriptor stays open.
     fn close(&self) {
         net::shutdown(self.listener.as_raw_fd(), net::SHUT_RDWR);
     }
@@ -80,7 +82,7 @@ impl Listen for Tcp {
 impl Listen for &Tcp {
     ghost refuses = { λ _. Unit {0} };
 
-    fn accept(&mut self) -> Result<Arrival, Unaccepted> {
+    fn accept(&mut self) -> Result<Accepted, AcceptFault> {
         Tcp::wait_for_one(*self)
     }
 
@@ -90,15 +92,15 @@ impl Listen for &Tcp {
 }
 
 /// TCP keepalive: the seconds of silence before the first probe, the seconds between two probes,
-/// and how many go unanswered before the peer is given up.
+/// and the number of unanswered probes after which the connection is lost.
 const SILENCE: u8 = 60;
 
 const QUESTION_REST: u8 = 10;
 
 const QUESTIONS: u8 = 6;
 
-/// Turns TCP keepalive on for the listener, from which its connections inherit it. If the system
-/// refuses it, a lost peer is found at the next write.
+/// Turns TCP keepalive on for the listener; its connections inherit it. If the system refuses it, a
+/// lost peer is found at the next write.
 fn ask_silent_peers(listener: &TcpListener) {
     let listener = listener.as_raw_fd();
     unsafe {
@@ -127,7 +129,7 @@ fn ask_silent_peers(listener: &TcpListener) {
     }
 }
 
-/// A number as an option's value: the four bytes of an `int`.
+/// Encodes a socket option's value: the four bytes of an `int`.
 fn option(number: u8) -> [u8; 16] {
     let mut value = [0; 16];
     value[..4].copy_from_slice(&u32::from(number).to_ne_bytes());

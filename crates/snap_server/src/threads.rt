@@ -2,27 +2,32 @@
 ghost use Rattle.std.specs.Prelude.{◌≡◌, [], All, Bool, IfSome, map, true};
 ghost use Rattle.std.specs.Thread.{IsSend, IsSync};
 
-use crate::door::{Hand, Mail};
-use crate::note::Note;
-use crate::room::Room;
-use snap_session::{Background, Done};
+use crate::connection_limit::ConnectionLimit;
+use crate::mailbox::{Deliver, Message};
+use crate::server_event::ServerEvent;
+use snap_session::{Background, Completion};
 use std::rt::Clock;
 use std::snapshot::Snapshot;
 use std::sync::Wait;
 use std::thread::{Promise, PromisedHandle, Scope, Threads};
 
-/// Works in a thread of its own.
+/// Work that is done in a thread of its own.
 pub trait Work {
-    /// It has served all that was sent to it.
+    /// All connections that were delivered to it have been served.
     ghost serves: { Self → Type 0 };
 
-    /// Works to its end; `false` if it failed.
-    fn work_off<X: Wait + Clock, N: Fn(&Note)>(self, rt: &X, room: &Room, note: &N) -> bool
+    /// Works until no more connections will arrive and none is left; `false` if it failed.
+    fn work_off<X: Wait + Clock, N: Fn(&ServerEvent)>(
+        self,
+        rt: &X,
+        limit: &ConnectionLimit,
+        note: &N,
+    ) -> bool
         requires { N.IsAlwaysCallable note.now }
         ensures { result ≡ true → serves self };
 }
 
-/// The promise that a thread returns `true` only if its worker has served.
+/// A promise that a thread returns `true` only if its worker has served.
 #[derive(Drop)]
 pub struct Serving<K> {
     worker: Snapshot<K>,
@@ -32,7 +37,7 @@ impl<K: Work> Promise<bool> for Serving<K> {
     ghost kept_by = { λ promise has_served. has_served ≡ true → K.serves promise.worker.value };
 }
 
-/// Starts a thread for this worker; `None` if the system refused it.
+/// Starts a thread for a worker; `None` if the system refuses it.
 fn start<'s, E, K: Work, F: FnOnce() -> bool + Send + Drop + 's>(
     scope: &Scope<'s, E>,
     promise: Serving<K>,
@@ -48,24 +53,24 @@ fn start<'s, E, K: Work, F: FnOnce() -> bool + Send + Drop + 's>(
     }
 }
 
-/// Starts a thread for this work; `false` if the system refused it.
+/// Starts a thread for `work`; `false` if the system refuses it.
 fn starts<'s, E, F: FnOnce() + Send + Drop + 's>(scope: &Scope<'s, E>, work: F) -> bool
     requires { F.pre work }
 {
     scope.spawn(work).is_ok()
 }
 
-/// Starts a thread for each background; `false` if the system refused one.
+/// Starts a thread for each background; `false` if the system refuses one.
 pub fn start_backgrounds<'s, E, X, B, H>(
     scope: &Scope<'s, E>,
     rt: &'s X,
-    doors: &'s [H],
+    senders: &'s [H],
     backgrounds: Vec<B>,
 ) -> bool
 where
     X: Wait + Clock + Sync,
     B: Background<Outcome = H::Outcome> + Send + Drop + 's,
-    H: Hand + Sync,
+    H: Deliver + Sync,
     H::Outcome: Send + Drop,
 {
     let mut is_whole = true;
@@ -73,39 +78,39 @@ where
         let told = move ||
             requires { IsSync X.row × IsSync H.row × IsSend B.row }
         {
-            tell_all(rt, background, doors);
+            tell_all(rt, background, senders);
         };
         is_whole &= starts(scope, told);
     }
     is_whole
 }
 
-/// Sends each outcome to its worker, until no more will arrive.
-fn tell_all<X: Wait + Clock, B: Background + Drop, H: Hand<Outcome = B::Outcome>>(
+/// Sends each outcome of a background to its worker, until no more will arrive.
+fn tell_all<X: Wait + Clock, B: Background + Drop, H: Deliver<Outcome = B::Outcome>>(
     rt: &X,
     mut background: B,
-    doors: &[H],
+    senders: &[H],
 ) {
     for _ in rt.forever() {
         let Some(done) = background.next_done() else {
             return;
         };
-        let Done {
+        let Completion {
             worker,
             key,
             outcome,
         } = done;
-        if let Some(door) = doors.get(worker) {
-            door.post(rt, Mail::Done { key, outcome });
+        if let Some(sender) = senders.get(worker) {
+            sender.post(rt, Message::Done { key, outcome });
         }
     }
 }
 
-/// Starts a thread for each worker; `false` if the system refused one.
+/// Starts a thread for each worker; `false` if the system refuses one.
 pub fn start_workers<'s, E, X, K, N>(
     scope: &Scope<'s, E>,
     rt: &'s X,
-    room: &'s Room,
+    limit: &'s ConnectionLimit,
     note: &'s N,
     workers: Vec<K>,
     threads: &mut Vec<PromisedHandle<bool, Serving<K>>>,
@@ -113,7 +118,7 @@ pub fn start_workers<'s, E, X, K, N>(
 where
     X: Wait + Clock + Sync,
     K: Work + Send + Drop + 's,
-    N: Fn(&Note) + Sync,
+    N: Fn(&ServerEvent) + Sync,
     requires none { threads.old.items ≡ [] }
     requires note { N.IsAlwaysCallable note.now }
     ensures { result ≡ true
@@ -124,7 +129,7 @@ where
         let work = move || -> bool
             requires { IsSync X.row × IsSync N.row × IsSend K.row × N.IsAlwaysCallable note.now }
             ensures { result ≡ true → K.serves worker }
-        { worker.work_off(rt, room, note) };
+        { worker.work_off(rt, limit, note) };
         let Some(thread) = start(
             scope,
             Serving {
@@ -141,7 +146,7 @@ where
     true
 }
 
-/// Waits for all workers' threads; true if each has served.
+/// Waits for all workers' threads; `true` if each has served.
 pub fn have_served<X: Threads, K: Work>(
     rt: &X,
     threads: Vec<PromisedHandle<bool, Serving<K>>>,

@@ -2,7 +2,7 @@
 ghost use Rattle.std.specs.Prelude.{◌≤◌};
 
 use crate::endpoint::Peer;
-use crate::listen::{Arrival, Unaccepted, why_not};
+use crate::listen::{AcceptFault, Accepted, why_not};
 use crate::stream::Stream;
 use libc::net;
 use mio::net::UnixStream;
@@ -21,40 +21,40 @@ use thiserror::Error;
 /// The longest path of a Unix socket, in bytes.
 const MAX_SOCKET_PATH: usize = 107;
 
-/// How many times another process's lock on the folder is tried again, and the pause before each
-/// try: a second in all.
+/// How often a lock on the folder is tried again while another process holds it, and the pause
+/// before each try: a second in all.
 const LOCK_RESTS: u32 = 50;
 
 const LOCK_REST_MILLIS: u64 = 20;
 
-/// The longest queue that the system allows.
+/// The length of the listener's queue: -1 is the longest that the system allows.
 const BACKLOG: i32 = -1;
 
-/// An upper bound of that queue.
+/// An upper bound of that length.
 const MAX_QUEUE: u32 = 1 << 20;
 
-/// Why nothing was bound at an address. The files there are unchanged, except that a socket's file
-/// without a process may have been removed.
+/// Why no socket was bound at an address. The files there are unchanged, except that the file of a
+/// socket without a process may have been removed.
 #[derive(Debug, Drop, Error)]
 pub enum BindFault {
-    /// The system's own reason.
+    /// The system refused it, for this reason.
     #[error("{0}")]
     System(io::Error),
     /// Another process has a socket at this path.
     #[error("another process listens there")]
     Taken,
-    /// The path names a socket that this user may not connect to or not remove, so it isn't known
+    /// This user may not connect to the socket at this path, or not remove it, so it isn't known
     /// whether a process has it.
     #[error("a socket of another user is there")]
     Foreign,
     /// The file at the path is no socket.
     #[error("it is there, and no socket")]
     NoSocket,
-    /// Another process had a lock on the path's folder for a second.
+    /// Another process held a lock on the path's folder for a second.
     #[error("another process has locked its folder")]
     Locked,
-    /// The process's umask takes bits of the mode, and they can't be restored, since others may put
-    /// a link in the file's place.
+    /// The process's umask removed bits of the mode, and they can't be restored safely, since other
+    /// users may put a link in the file's place.
     #[error("this process's umask takes bits of its mode, and others may change its folder")]
     Masked,
     /// Memory ran out.
@@ -73,7 +73,7 @@ impl From<io::Error> for BindFault {
     }
 }
 
-/// The identity of a file.
+/// The identity of a file: its device and its inode.
 #[derive(Clone, Copy, PartialEq, Eq)]
 struct SocketFile {
     device: u64,
@@ -89,7 +89,7 @@ impl SocketFile {
     }
 }
 
-/// A listening socket at a path. Its file is removed with it, if the path still names that file.
+/// A listening socket at a path. Dropping it removes its file, if the path still names that file.
 pub struct UnixSocket<'a, R: Files<File = File> + Clock> {
     rt: &'a R,
     path: String,
@@ -98,11 +98,11 @@ pub struct UnixSocket<'a, R: Files<File = File> + Clock> {
 }
 
 impl<'a, R: Files<File = File> + Clock> UnixSocket<'a, R> {
-    /// Listens at a path, by a file with this mode that it makes: whoever may write the file may
-    /// connect, and never anybody else. A socket's file without a process is replaced.
+    /// Listens at `path`, with a socket file of this mode: exactly those who may write the file may
+    /// connect, at any time. The file of a socket without a process is replaced.
     ///
-    /// It locks the path's folder meanwhile, so of two servers that find such a file one replaces
-    /// it, and the other one then finds it [`Taken`](BindFault::Taken).
+    /// The path's folder is locked meanwhile. So if two servers find such a file, one replaces it,
+    /// and the other then finds it [`Taken`](BindFault::Taken).
     pub fn bind(
         rt: &'a R,
         alloc: Global,
@@ -119,8 +119,8 @@ impl<'a, R: Files<File = File> + Clock> UnixSocket<'a, R> {
         let folder = lock_folder(rt, path)?;
         make_way(rt, path)?;
         let socket = rt.unix_socket()?;
-        // The file is made with this mode, less the process's umask: it never has another bit, as
-        // it would have if the mode were set afterwards.
+        // The file is created with this mode, less the process's umask, so it never has another
+        // bit. It would if the mode were set afterwards.
         if libc::fchmod(socket.as_raw_fd(), mode) != 0 {
             return Err(BindFault::System(last_error()));
         }
@@ -147,32 +147,32 @@ impl<'a, R: Files<File = File> + Clock> UnixSocket<'a, R> {
         self.path.as_str()
     }
 
-    /// Its descriptor.
+    /// The listener's descriptor.
     pub(crate) fn descriptor(&self) -> RawFd {
         self.listener.as_raw_fd()
     }
 
-    /// Makes it non-blocking: from now on [`take`](UnixSocket::take) doesn't wait.
+    /// Makes the listener non-blocking: from now on [`take`](UnixSocket::take) doesn't wait.
     pub(crate) fn stop_waiting(&self) -> io::Result<()> {
         self.listener.set_nonblocking(true)
     }
 
-    /// The next connection; `None` if it doesn't block and there is none.
-    pub(crate) fn take(&self) -> Result<Option<Arrival>, Unaccepted> {
+    /// Accepts the next connection; `None` if the listener doesn't block and no connection waits.
+    pub(crate) fn take(&self) -> Result<Option<Accepted>, AcceptFault> {
         let (stream, _) = match self.listener.accept() {
             Ok(accepted) => accepted,
             Err(error) if error.kind() == ErrorKind::WouldBlock => return Ok(None),
             Err(error) => return Err(why_not(&error)),
         };
         if stream.set_nonblocking(true).is_err() {
-            return Err(Unaccepted::Gone);
+            return Err(AcceptFault::Gone);
         }
         let stream = Stream::Unix(UnixStream::from_std(stream));
         let peer = Peer::Unix;
-        Ok(Some(Arrival { stream, peer }))
+        Ok(Some(Accepted { stream, peer }))
     }
 
-    /// Closes it to further connections, and removes its file.
+    /// Closes the listener to further connections, and removes its file.
     pub(crate) fn close(&self) {
         net::shutdown(self.descriptor(), net::SHUT_RDWR);
         self.remove();
@@ -191,8 +191,10 @@ impl<'a, R: Files<File = File> + Clock> UnixSocket<'a, R> {
         }
     }
 
-    /// Removes its file, if its path still names it. While its descriptor is open no other server
-    /// takes the file for one without a process, and no other file gets its inode number.
+    /// Removes its file, if its path still names that file.
+    ///
+    /// While its descriptor is open, no other server takes the file for one without a process, and
+    /// no other file gets its inode number.
     fn remove(&self) {
         if let Ok(found) = fs::symlink_metadata(self.rt, self.path()) {
             if SocketFile::of(&found) == self.file {
@@ -214,7 +216,7 @@ impl<R: Files<File = File> + Clock> Drop for UnixSocket<'_, R> {
     }
 }
 
-/// The folder of this path.
+/// The folder of a path.
 fn folder_of(path: &str) -> &str {
     match path.rsplit_once('/') {
         None => ".",
@@ -223,7 +225,7 @@ fn folder_of(path: &str) -> &str {
     }
 }
 
-/// Opens the folder of this path, with an exclusive lock that is released when the file is dropped.
+/// Opens the folder of a path with an exclusive lock, which is released when the file is dropped.
 fn lock_folder<R: Files<File = File> + Clock>(rt: &R, path: &str) -> Result<File, BindFault> {
     let folder = OpenOptions::new().read(true).open(rt, folder_of(path))?;
     for _ in 0..LOCK_RESTS {
@@ -243,11 +245,11 @@ const MODE_BITS: u32 = 0o777;
 /// The bits by which others than a folder's owner may change it.
 const OTHERS_WRITE: u32 = 0o022;
 
-/// The sticky bit of a folder: only the folder's owner and a file's owner remove that file.
+/// The sticky bit of a folder: only the folder's owner and a file's owner may remove the file.
 const STICKY: u32 = 0o1000;
 
-/// Restores the bits that the umask took of the mode of the file at this path. A path follows
-/// links, so that is done only if nobody else may put a link there.
+/// Restores the bits that the umask removed from the mode of the file at `path`. A path follows
+/// links, so that is done only if no other user may put a link there.
 fn give_back<R: Files<File = File>>(
     rt: &R,
     folder: &File,
@@ -264,7 +266,7 @@ fn give_back<R: Files<File = File>>(
     Ok(())
 }
 
-/// Removes the file of a socket without a process. Any other file stays.
+/// Removes the file of a socket without a process. Any other file is kept.
 fn make_way<R: Files>(rt: &R, path: &str) -> Result<(), BindFault> {
     let found = match fs::symlink_metadata(rt, path) {
         Ok(found) => found,
@@ -287,8 +289,10 @@ fn make_way<R: Files>(rt: &R, path: &str) -> Result<(), BindFault> {
 /// Linux's EPROTOTYPE: a socket of another kind is bound there.
 const WRONG_KIND: i32 = 91;
 
-/// Whether a process has the socket at this path. It tries to connect a datagram socket, which the
-/// system refuses for a stream socket: so the socket's owner never gets a connection of it.
+/// Whether a process has the socket at this path.
+///
+/// It tries to connect a datagram socket, which the system refuses for a stream socket. So the
+/// socket's owner never gets a connection of it.
 fn has_owner(path: &str) -> Result<bool, BindFault> {
     let mut address = [0u8; net::_SS_SIZE];
     let len = write_address(path, &mut address);
@@ -305,18 +309,18 @@ fn has_owner(path: &str) -> Result<bool, BindFault> {
     }
     match error.raw_os_error() {
         Some(WRONG_KIND) => Ok(true),
-        // Or it was removed just now, with its server.
+        // ENOENT: it was removed just now, together with its server.
         Some(libc::ECONNREFUSED | libc::ENOENT) => Ok(false),
         Some(libc::EACCES) => Err(BindFault::Foreign),
         _ => Err(BindFault::System(error)),
     }
 }
 
-/// The place of the path in the address of a Unix socket, after the family.
+/// The offset of the path in the address of a Unix socket, after the family.
 const PATH_AT: usize = 2;
 
 /// Writes the address of a Unix socket as the system reads it, and returns its length. A path that
-/// is too long is cut.
+/// is too long is truncated.
 fn write_address(path: &str, address: &mut [u8; net::_SS_SIZE]) -> u32
     ensures { result ≤ 128 }
 {
@@ -327,7 +331,7 @@ fn write_address(path: &str, address: &mut [u8; net::_SS_SIZE]) -> u32
     (PATH_AT + len + 1) as u32
 }
 
-/// Why the last system call failed.
+/// The error of the last system call.
 fn last_error() -> io::Error {
     io::Error::from_raw_os_error(os::errno())
 }

@@ -1,5 +1,6 @@
 -- Lists of entries.
-use Rattle.std.proofs.Common.{◌≡◌, ℕ, zero, suc, ◌+◌, ◌-◌, ◌^◌, ◌<◌, ◌≤◌, All, List, [], ◌∷◌, ◌++◌, length, map, slice_get, get_or}
+use Rattle.std.proofs.Common.{◌≡◌, ℕ, zero, suc, ◌+◌, ◌-◌, ◌^◌, ◌<◌, ◌≤◌, All, List, [], ◌∷◌, ◌++◌, length, map}
+use Rattle.std.proofs.Common.{slice_get, get_or}
 use Rattle.std.proofs.Common.{Some, ap, sym, subst, ◌∙◌, arith}
 use Rattle.std.specs.Option.{option_map}
 use Rattle.std.proofs.lemmas.List.{length-map, length_push}
@@ -90,7 +91,7 @@ module _ (set : ℕ) (a b : Known) (among : set < 2 ^ segments b.plan) (below : 
             ∙ ap (option_map segment_of) second) (omega arith),
       )
 
--- if two lists have the same numbers and values, and one has short values, so has the other
+-- if two lists have equal numbers and values, and one has short values, so has the other
 pub short_as : (list : List NamedValue) (values : List SegmentValue)
     → map named_pair list ≡ map pair_of values → All (λ s. IsShort s.value) values
     → All (λ v. IsShort v.value) list
@@ -116,7 +117,7 @@ count_le set k (suc d) =
     (more set (k + d) (λ l. length (named_below set k) ≤ length l)
     (λ is. (let long = length_push (named_below set (k + d)) (k + d) in omega arith)) (λ un. old))
 
--- a segment of the set counts
+-- each segment of the set counts
 pub counts : (set k : ℕ) → k < 16 → Names set k → length (named_below set k) < size set
 counts set k l is =
     let e = ap length (with set k is) in

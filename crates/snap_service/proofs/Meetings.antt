@@ -11,7 +11,7 @@ use Rattle.snap_service.specs.Settled.{IsSettled, IsSettledAt, IsTellable, reply
 use Rattle.snap_service.specs.Updated.{HasMet}
 
 module _ {D : Type 0} (s0 s1 : Known) (w0 w1 : WriterState D) where
-  -- they are of one memory, and have seen the same
+  -- they are of one memory, and have seen equal histories
   same_number : AreTogether s0 w0.seat → Meets s0 s1 → Meets w0.seat w1.seat
       → s1.seen ≡ w1.seat.seen → number_of w1 ≡ number_in s1 s1.seen (own_of w0.seat)
   same_number t ms mw e =

@@ -7,7 +7,8 @@ use Rattle.snap_writer.specs.Writer.{WriterState, number_of, value_of}
 use Rattle.snap_writer.specs.Judge.{IsJudged, IsAnswer}
 use Rattle.snap_writer.specs.Update.{Advances, Fails}
 use Rattle.snap_writer.specs.declared.judgement.Judgement.{Judgement}
-use Rattle.snap_writer.specs.declared.judgement.Judgement.TheVariants.{TooLong, Stored, Conflict, OutOfStep, Exhausted, Fenced, Worn}
+use Rattle.snap_writer.specs.declared.judgement.Judgement.TheVariants.{TooLong, Stored, Conflict, OutOfStep}
+use Rattle.snap_writer.specs.declared.judgement.Judgement.TheVariants.{Exhausted, Fenced, Worn}
 use Rattle.snap_writer.specs.declared.judgement.Judgement.TheVariants.{Go}
 use Rattle.snap_writer.proofs.Judgements.{some_rule}
 use Rattle.snap_service.specs.Settled.{MayRefuse, IsTellable}

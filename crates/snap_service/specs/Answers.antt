@@ -1,4 +1,4 @@
--- How the service may answer, from what its scanner had seen before to what it has seen after.
+-- How the service may answer, by what its scanner has seen before and after.
 use Rattle.std.specs.Prelude.{◌≡◌, ℕ, ◌^◌, ◌<◌, ◌≤◌, ◌⊎◌, List, length, map}
 use Rattle.snap_disk.specs.declared.refusal.Refusal.{Refusal}
 use Rattle.snap_disk.specs.declared.refusal.Refusal.TheVariants.{NoSegment, TooLong, NoMemory, Worn}
@@ -18,7 +18,7 @@ use Rattle.snap_service.specs.Settled.{IsSettledAt}
 
 -- the reply to an update of segment i to number k and value v
 pub data AnswersUpdate (a : Known) (i k : ℕ) (v : List ℕ) (reply : Reply) (b : Known) : Type 0 where
-  -- there is no such segment
+  -- the segment doesn't exist
   Outside : segments a.plan ≤ i → reply ≡ Refused NoSegment (segments a.plan) → b ≡ a
       → AnswersUpdate a i k v reply b
   -- the value is too long
@@ -42,8 +42,8 @@ named_pair v = (v.number, v.value)
 abbrev pub HasScanned : Known → Known → Type 0
 HasScanned a b = Grows a b × TakesLooks a b
 
--- The reply to a scan: the numbers and the values of all segments at one moment of what the scanner
--- has seen, with all that it had seen before, and all that was there at the scan's first look.
+-- The reply to a scan: the numbers and the values of all segments at one moment that the scanner has seen, with all
+-- that it had seen before, and all that was in the history at the scan's first look.
 abbrev pub AnswersScan : Known → Reply → Known → Type 0
 AnswersScan a (Snapshot values) b = IsSnapshot a b (map pair_of values.items) × HasScanned a b
 AnswersScan a (Refused why detail) b = (detail ≡ 0) × MayRefuse (segments a.plan) a why b
@@ -51,8 +51,8 @@ AnswersScan a (Stored number) b = ⊥
 AnswersScan a (Status statuses) b = ⊥
 AnswersScan a (Part values) b = ⊥
 
--- the reply to a scan of the named segments, which all exist: in ascending order each with its
--- number and its value, at one moment as of a scan
+-- the reply to a scan of the named segments, which all exist: each in ascending order with its number and its value, at
+-- one moment, as in a scan of all
 pub record IsPartOf (a : Known) (set : ℕ) (list : List NamedValue) (b : Known) : Type 0 where
   pub among : set < 2 ^ segments a.plan
   pub names : map segment_of list ≡ named set
@@ -81,8 +81,7 @@ AnswersStatus a (Stored number) b = ⊥
 AnswersStatus a (Snapshot values) b = ⊥
 AnswersStatus a (Part values) b = ⊥
 
--- The service's relation: from what was seen before, the request may get this reply and leave what
--- is seen after.
+-- The service's relation: a scanner that had seen `a` may give this reply to the request, and then has seen `b`.
 abbrev pub Answers : Known → Request → Reply → Known → Type 0
 Answers a (request.Update segment k v) reply b = AnswersUpdate a segment k v reply b
 Answers a request.Scan reply b = AnswersScan a reply b

@@ -1,4 +1,4 @@
--- Counters, and how much a request may add to one.
+-- Counters, and how much a request may add to them.
 use Rattle.std.specs.Prelude.{◌≡◌, ℕ, ◌+◌, ◌%◌, ◌^◌, ◌<◌, ◌≤◌, ◌⊎◌, List, length}
 use Rattle.snap_history.specs.declared.limits.TheConstants.{MAX_VALUE_LEN}
 use Rattle.snap_history.specs.Limits.{IsShort}
@@ -11,7 +11,7 @@ use Rattle.snap_frame.specs.declared.request.Request.TheVariants as request
 abbrev pub next_count : ℕ → ℕ
 next_count k = (k + 1) % 2 ^ 64
 
--- a node's scanner, how many locks of writers the node took, and how many updates it did by them
+-- a node's scanner, how many locks of writers the node took, and how many updates it did under them
 pub record NodeState : Type 0 where
   pub scanner : Known
   pub locks : ℕ
@@ -26,7 +26,7 @@ pub record CountsNothing (old new : NodeState) : Type 0 where
 abbrev pub LooksOnce : Known → Known → Type 0
 LooksOnce a b = a.left ≤ b.left + 1
 
--- there is no segment i, or the value is too long
+-- segment i doesn't exist, or the value is too long
 abbrev pub IsMisplaced : Known → ℕ → List ℕ → Type 0
 IsMisplaced a i v = (segments a.plan ≤ i) ⊎ (MAX_VALUE_LEN < length v)
 
@@ -42,15 +42,15 @@ CountsUpdate old i v new =
     (IsMisplaced old.scanner i v × (new ≡ old))
     ⊎ ((i < segments old.scanner.plan) × IsShort v × CountsOne old new)
 
--- An update is done once by its writer or not at all, as `CountsUpdate` has it; no other request
--- changes a writer. A scan takes no lock.
+-- An update is done once by its writer or not at all, as `CountsUpdate` says; no other request changes a writer. A scan
+-- takes no lock.
 abbrev pub Counts : NodeState → Request → NodeState → Type 0
 Counts old (request.Update segment k v) new = CountsUpdate old segment v new
 Counts old request.Scan new = CountsNothing old new
 Counts old request.Status new = new.updates ≡ old.updates
 Counts old (request.Part set) new = CountsNothing old new
 
--- an update takes at most one look, also if its writer isn't asked
+-- an update takes at most one look, also if its writer isn't used
 abbrev pub TakesFewLooks : Known → Request → Known → Type 0
 TakesFewLooks a (request.Update segment k v) b = LooksOnce a b
 TakesFewLooks a request.Scan b = Unit {0}

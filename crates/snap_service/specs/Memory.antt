@@ -6,7 +6,7 @@ use Rattle.snap_memory.specs.Rule.{segments}
 use Rattle.snap_memory.specs.Seat.{Known, own_of}
 use Rattle.snap_writer.specs.Writer.{WriterState}
 
--- the seat is of these registers
+-- the seat belongs to these registers
 pub record IsOf (table : RegistersId) (plan : Plan) (a : Known) : Type 0 where
   pub table_is : a.table ≡ table
   pub plan_is : a.plan ≡ plan
@@ -28,6 +28,6 @@ pub record AreDisplaced {D : Type 0} (table : RegistersId) (plan : Plan)
   pub stands : slice_get writers place ≡ Some writer
   pub elsewhere : own_of writer.seat ≢ place
 
--- the plan that is named where no memory is meant
+-- the plan that is named if no memory is meant
 abbrev pub no_plan : Plan
 no_plan = record { scanners = 0; looks = 0; block_words = 0; start = [] }

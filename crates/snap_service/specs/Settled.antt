@@ -41,8 +41,8 @@ IsSettled c u k v (Part values) = ⊥
 abbrev pub IsSettledAt : Known → ℕ → ℕ → List ℕ → Reply → Type 0
 IsSettledAt a i k v reply = IsSettled (number_in a a.seen i) (value_in a a.seen i) k v reply
 
--- The reply to an update of segment i whose writer wasn't asked fits what a look at the segment
--- found: nothing is stored, and a next number is refused as fenced.
+-- The reply to an update of segment i without its writer fits what a look at the segment found: nothing is stored, and
+-- the next number is refused as fenced.
 pub record IsReplyByLook (a : Known) (i k : ℕ) (v : List ℕ) (reply : Reply) : Type 0 where
   pub settled : IsSettledAt a i k v reply
   pub fenced : k ≡ number_in a a.seen i + 1 → IsNumber k

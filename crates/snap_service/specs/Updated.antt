@@ -1,4 +1,4 @@
--- What an update changes of its writer, and what a meeting after it changes.
+-- The change of a writer by an update, and by a meeting after it.
 use Rattle.std.specs.Prelude.{◌≡◌, ℕ, List, Result}
 use Rattle.snap_disk.specs.declared.refusal.Refusal.{Refusal}
 use Rattle.snap_memory.specs.Seat.{Known, Meets, own_of}
@@ -23,8 +23,8 @@ pub record IsUpdatedAndTold {D : Type 0} (disk : Disk.Ghosts D)
   pub met : HasMet between new
   pub said : reply ≡ reply_of (number_of new) told
 
--- The reply is the writer's result, and the scanner met the writer. If the result fits an update of
--- the writer's segment, the reply fits what the scanner has seen.
+-- The reply is the writer's result, and the scanner met the writer. If the result fits an update of the writer's
+-- segment, the reply fits what the scanner has seen.
 pub record RepliesTold {D : Type 0} (answer : Result ℕ Refusal) (old new : WriterState D)
     (before after : Known) (reply : Reply) : Type 0 where
   pub told : reply ≡ reply_of (number_of new) answer

@@ -1,12 +1,13 @@
 //! Answers requests on the shared memory: updates by the segments' writers, scans and statuses.
+//! Begin with the relation `Answers` (specs/Answers.antt).
 //!
-//! One relation, `Answers` of specs/Answers.antt, says how a service may answer, from what its
-//! scanner had seen before to what it has seen after. The reply to an update is its writer's result
-//! ([`settle`]); a scan is the memory at one moment of what the scanner sees ([`answer_scan`]).
+//! `Answers` says how a service may answer, by what its scanner has seen before and after. The
+//! reply to an update is its writer's result ([`settle`], settlement.rt); a scan is the memory at
+//! one moment that the scanner sees ([`answer_scan`], scans.rt).
 //!
 //! [`Node`] (node.rt, with shared.rt, lock.rt and locked_writer.rt) is a service whose writers are
 //! under locks, one for each segment: a scan takes no lock, and an update locks its own segment
-//! alone. It is for a server within another program, as in tests and benchmarks; `snapd` runs the
+//! alone. It is for a server inside another program, as in tests and benchmarks; `snapd` uses the
 //! desks of `snap_desk`.
 #![tactic(auto)]
 
@@ -19,7 +20,7 @@ mod settlement;
 mod shared;
 mod verdict;
 
-pub use memory::{Memory, WriterOf};
+pub use memory::Memory;
 pub use node::Node;
 pub use scans::{answer_part, answer_scan};
 pub use settlement::{reply_told, settle, update};

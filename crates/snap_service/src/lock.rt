@@ -7,8 +7,8 @@ ghost use Rattle.snap_service.specs.Memory.{IsOf};
 ghost use Rattle.snap_service.specs.Answers.{AnswersUpdate};
 ghost use Rattle.snap_service.specs.Counted.{next_count, LooksOnce};
 
-use crate::locked_writer::{LockedWriter, Pen};
-use crate::memory::{Memory, WriterOf};
+use crate::locked_writer::{LockToken, LockedWriter};
+use crate::memory::Memory;
 use snap_disk::Disk;
 use snap_frame::{Reply, SegmentStatus};
 use std::sync::{Mutex, Wait};
@@ -21,23 +21,23 @@ pub(crate) struct WriterLock<M: Memory, D: Disk + Drop> {
 
 impl<M: Memory, D: Disk + Drop> WriterLock<M, D> {
     /// Puts a writer under a lock.
-    pub(crate) fn of(writer: WriterOf<M, D>) -> WriterLock<M, D> {
+    pub(crate) fn of(writer: LockedWriter<M, D>) -> WriterLock<M, D> {
         WriterLock {
-            held: Mutex::new(LockedWriter::of(writer)),
+            held: Mutex::new(writer),
         }
     }
 
-    /// The writer, out of its lock.
-    pub(crate) fn into_writer(self) -> WriterOf<M, D> {
-        self.held.into_inner().release()
+    /// Takes the writer out of its lock.
+    pub(crate) fn into_inner(self) -> LockedWriter<M, D> {
+        self.held.into_inner()
     }
 
-    /// The segment's number, and whether it is fenced, read under the lock.
-    pub(crate) fn status<R: Wait>(&self, rt: &R, pen: &mut Pen) -> SegmentStatus
+    /// Reads the segment's number, and whether it is fenced, under the lock.
+    pub(crate) fn status<R: Wait>(&self, rt: &R, token: &mut LockToken) -> SegmentStatus
         ensures limits { IsStatus result }
-        ensures counts { pen.new ≡ record pen.old { locks = next_count pen.old.locks } }
+        ensures counts { token.new ≡ record token.old { locks = next_count token.old.locks } }
     {
-        pen.count_lock();
+        token.count_lock();
         self.held.lock(rt).status()
     }
 
@@ -45,22 +45,22 @@ impl<M: Memory, D: Disk + Drop> WriterLock<M, D> {
     pub(crate) fn update<R: Wait>(
         &self,
         rt: &R,
-        pen: &mut Pen,
+        token: &mut LockToken,
         segment: usize,
         number: u64,
         value: &[u8],
     ) -> Reply
-        requires memory { IsOf M.table M.plan pen.old.scanner }
-        requires segment { segment < segments pen.old.scanner.plan }
+        requires memory { IsOf M.table M.plan token.old.scanner }
+        requires segment { segment < segments token.old.scanner.plan }
         requires size { IsShort value.now }
-        ensures answer { AnswersUpdate pen.old.scanner segment number value.now result
-            pen.new.scanner }
-        ensures looks { LooksOnce pen.old.scanner pen.new.scanner }
+        ensures answer { AnswersUpdate token.old.scanner segment number value.now result
+            token.new.scanner }
+        ensures looks { LooksOnce token.old.scanner token.new.scanner }
         ensures limits { IsInLimits result }
-        ensures locks { pen.new.locks ≡ next_count pen.old.locks }
-        ensures updates { pen.new.updates ≡ next_count pen.old.updates }
+        ensures locks { token.new.locks ≡ next_count token.old.locks }
+        ensures updates { token.new.updates ≡ next_count token.old.updates }
     {
-        pen.count_lock();
-        self.held.lock(rt).update(pen, segment, number, value)
+        token.count_lock();
+        self.held.lock(rt).update(token, segment, number, value)
     }
 }

@@ -1,5 +1,5 @@
 //! A writer under its lock, and the token that changing it needs.
-ghost use Rattle.std.specs.Prelude.{◌≡◌, ◌≢◌, ◌<◌, ◌↔◌, IsTrue, IsSome};
+ghost use Rattle.std.specs.Prelude.{◌≡◌, ◌≢◌, ◌+◌, ◌<◌, ◌↔◌, IsTrue, IsSome};
 ghost use Rattle.snap_history.specs.Limits.{IsShort};
 ghost use Rattle.snap_memory.specs.Rule.{segments};
 ghost use Rattle.snap_memory.specs.Seat.{own_of};
@@ -10,28 +10,30 @@ ghost use Rattle.snap_service.specs.Answers.{AnswersUpdate, AnswersScan, Answers
 ghost use Rattle.snap_service.specs.Updated.{IsUpdatedAndTold};
 ghost use Rattle.snap_service.specs.Counted.{next_count, CountsNothing, LooksOnce};
 
-use crate::memory::{Memory, WriterOf};
+use crate::memory::Memory;
 use crate::scans::{answer_part, answer_scan};
+use crate::settlement::settle;
 use crate::verdict::answer_by_look;
 use snap_disk::Disk;
 use snap_frame::{Reply, SegmentSet, SegmentStatus};
 use snap_memory::Scanner;
+use snap_writer::Writer;
 use std::alloc::Global;
-use std::marker::Model;
+use std::marker::{Model, PhantomData};
 
-/// A node's scanner, with counts of the locks that the node took and of the updates that it did,
-/// both modulo 2^64.
+/// The right to take the writers' locks: a node's scanner, with counts of the locks that the node
+/// took and of the updates that it did, both modulo 2^64.
 ///
-/// Taking a writer's lock and updating a writer under one need a pen. A pen is made of a scanner
-/// alone, so a node has exactly one.
+/// Taking a writer's lock, and updating a writer under one, need a token. A token is made from a
+/// scanner alone, so a node has exactly one.
 #[derive(Drop)]
-pub(crate) struct Pen {
+pub(crate) struct LockToken {
     scanner: Scanner,
     locks: u64,
     updates: u64,
 }
 
-impl Model for Pen {
+impl Model for LockToken {
     ghost use Rattle.snap_service.specs.Counted.{NodeState};
 
     ghost Value = { NodeState };
@@ -39,12 +41,12 @@ impl Model for Pen {
     ghost view = { λ p. record { scanner = p.scanner; locks = p.locks; updates = p.updates } };
 }
 
-impl Pen {
-    /// A pen of this scanner, with both counts at 0.
-    pub(crate) fn of(scanner: Scanner) -> Pen
+impl LockToken {
+    /// A token with this scanner, and both counts at 0.
+    pub(crate) fn of(scanner: Scanner) -> LockToken
         ensures { result ≡ record { scanner = scanner; locks = 0; updates = 0 } }
     {
-        Pen {
+        LockToken {
             scanner,
             locks: 0,
             updates: 0,
@@ -58,14 +60,15 @@ impl Pen {
         &self.scanner
     }
 
-    /// The scanner, unchanged.
+    /// Returns the scanner, unchanged.
     pub(crate) fn into_scanner(self) -> Scanner
         ensures { result ≡ self.scanner }
     {
         self.scanner
     }
 
-    /// Answers a scan, as [`answer_scan`](crate::answer_scan) does. No lock is taken, and no writer changes.
+    /// Answers a scan, as [`answer_scan`](crate::answer_scan) does. No lock is taken, and no writer
+    /// changes.
     pub(crate) fn scan(&mut self, alloc: Global) -> Reply
         ensures answer { AnswersScan self.old.scanner result self.new.scanner }
         ensures limits { IsInLimits result }
@@ -104,36 +107,63 @@ impl Pen {
     }
 }
 
-/// The writer of a segment under its lock.
+/// The writer of a segment of the memory `M`, under its lock.
 #[derive(Drop)]
 pub(crate) struct LockedWriter<M: Memory, D: Disk> {
-    writer: WriterOf<M, D>,
+    writer: Writer<D>,
+    segment: usize,
+    of: PhantomData<M>,
 }
 
 impl<M: Memory, D: Disk> Model for LockedWriter<M, D> {
+    ghost use Rattle.std.specs.Prelude.{◌≡◌};
+    ghost use Rattle.snap_memory.specs.Seat.{own_of};
     ghost use Rattle.snap_writer.specs.Writer.{WriterState};
+    ghost use Rattle.snap_service.specs.Memory.{IsOf};
 
     ghost Value = { WriterState D };
 
     ghost view = { λ h. h.writer };
+
+    ghost invariant = { λ h. IsOf M.table M.plan h.writer.seat
+        × (own_of h.writer.seat ≡ h.segment) };
 }
 
 impl<M: Memory, D: Disk> LockedWriter<M, D> {
-    /// Wraps a writer, to be put under a lock.
-    pub(crate) fn of(writer: WriterOf<M, D>) -> LockedWriter<M, D>
+    /// Wraps `writer`, which belongs to the memory `M` and writes `segment`, to be put under a
+    /// lock.
+    pub(crate) fn new(writer: Writer<D>, segment: usize) -> LockedWriter<M, D>
+        requires memory { IsOf M.table M.plan writer.seat }
+        requires own { own_of writer.seat ≡ segment }
         ensures { result ≡ writer }
     {
-        LockedWriter { writer }
+        LockedWriter {
+            writer,
+            segment,
+            of: PhantomData,
+        }
     }
 
-    /// The writer, unchanged.
-    pub(crate) fn release(self) -> WriterOf<M, D>
-        ensures { result ≡ self }
+    /// The segment that it writes.
+    pub(crate) fn segment(&self) -> usize
+        ensures own { result ≡ own_of self.now.seat }
+        ensures memory { IsOf M.table M.plan self.now.seat }
     {
+        self.segment
+    }
+
+    /// Returns the inner writer, unchanged.
+    pub(crate) fn into_writer(self) -> Writer<D>
+        ensures writer { result ≡ self }
+        ensures memory { IsOf M.table M.plan result.seat }
+        ensures alone { result.seat.high ≡ result.seat.low + 1 }
+    {
+        // Called for its clause on the seat: it writes no other segment (docs/DECISIONS.md, 180).
+        let _own = self.writer.segment();
         self.writer
     }
 
-    /// The writer's number, and whether it is fenced. The writer doesn't change.
+    /// Reads the writer's number, and whether it is fenced. The writer doesn't change.
     pub(crate) fn status(&self) -> SegmentStatus
         ensures number { result.number ≡ number_of self.now }
         ensures fence { IsTrue result.is_fenced ↔ IsSome self.now.segment.begun }
@@ -145,31 +175,32 @@ impl<M: Memory, D: Disk> LockedWriter<M, D> {
         }
     }
 
-    /// Updates `segment` by the writer, and replies with the writer's result. A writer of another
-    /// segment doesn't change: then a look answers.
+    /// Updates `segment` by the writer, and replies with the writer's result. If the writer is of
+    /// another segment, it doesn't change, and the reply comes from one look.
     pub(crate) fn update(
         &mut self,
-        pen: &mut Pen,
+        token: &mut LockToken,
         segment: usize,
         number: u64,
         value: &[u8],
     ) -> Reply
-        requires memory { IsOf M.table M.plan pen.old.scanner }
-        requires segment { segment < segments pen.old.scanner.plan }
+        requires memory { IsOf M.table M.plan token.old.scanner }
+        requires segment { segment < segments token.old.scanner.plan }
         requires size { IsShort value.now }
-        ensures answer { AnswersUpdate pen.old.scanner segment number value.now result
-            pen.new.scanner }
-        ensures looks { LooksOnce pen.old.scanner pen.new.scanner }
+        ensures answer { AnswersUpdate token.old.scanner segment number value.now result
+            token.new.scanner }
+        ensures looks { LooksOnce token.old.scanner token.new.scanner }
         ensures limits { IsInLimits result }
-        ensures own { own_of self.old.seat ≡ segment → IsUpdatedAndTold D.Disk self.old self.new number value.now result }
+        ensures own { own_of self.old.seat ≡ segment
+            → IsUpdatedAndTold D.Disk self.old self.new number value.now result }
         ensures other { own_of self.old.seat ≢ segment → self.new ≡ self.old }
-        ensures locks { pen.new.locks ≡ pen.old.locks }
-        ensures counts { pen.new.updates ≡ next_count pen.old.updates }
+        ensures locks { token.new.locks ≡ token.old.locks }
+        ensures counts { token.new.updates ≡ next_count token.old.updates }
     {
-        pen.count_update();
-        if self.writer.segment() != segment {
-            return answer_by_look(&mut pen.scanner, segment, number, value);
+        token.count_update();
+        if self.segment != segment {
+            return answer_by_look(&mut token.scanner, segment, number, value);
         }
-        self.writer.settle(&mut pen.scanner, segment, number, value)
+        settle(&mut self.writer, &mut token.scanner, segment, number, value)
     }
 }

@@ -1,4 +1,4 @@
-//! A service over writers under locks.
+//! The node: a service over writers under locks.
 ghost use Rattle.std.specs.Prelude.{◌≡◌, ◌<◌};
 ghost use Rattle.snap_frame.specs.Messages.{IsInLimits, IsAskable};
 ghost use Rattle.snap_service.specs.Memory.{IsOf};
@@ -11,7 +11,7 @@ ghost use Rattle.snap_service.specs.Answers.{
   AnswersStatus,
 };
 
-use crate::locked_writer::Pen;
+use crate::locked_writer::LockToken;
 use crate::memory::Memory;
 use crate::shared::Shared;
 use crate::verdict::refuse_place;
@@ -24,17 +24,19 @@ use std::marker::Model;
 use std::sync::Wait;
 
 /// A [`Service`] with a scanner of its own, over writers that all nodes share. It answers every
-/// request at once. Models what its scanner knows, how many locks of writers it took, and how many
-/// updates it did by them, both modulo 2^64.
+/// request at once.
 ///
 /// An update locks its own segment, once, and is done once. A status locks one segment after the
 /// other and changes no writer. A scan takes no lock and changes no writer.
+///
+/// Models what its scanner knows, how many locks of writers it took, and how many updates it did
+/// under them, both modulo 2^64.
 #[derive(Drop)]
 pub struct Node<'a, R: Wait, M: Memory, D: Disk + Drop> {
     rt: &'a R,
     alloc: Global,
     shared: &'a Shared<M, D>,
-    pen: Pen,
+    token: LockToken,
 }
 
 impl<'a, R: Wait, M: Memory, D: Disk + Drop> Model for Node<'a, R, M, D> {
@@ -43,13 +45,13 @@ impl<'a, R: Wait, M: Memory, D: Disk + Drop> Model for Node<'a, R, M, D> {
 
     ghost Value = { NodeState };
 
-    ghost view = { λ n. n.pen };
+    ghost view = { λ n. n.token };
 
-    ghost invariant = { λ n. IsOf M.table M.plan n.pen.scanner };
+    ghost invariant = { λ n. IsOf M.table M.plan n.token.scanner };
 }
 
 impl<'a, R: Wait, M: Memory, D: Disk + Drop> Node<'a, R, M, D> {
-    /// A node with this scanner, of the writers' memory.
+    /// A node with this scanner, which belongs to the writers' memory.
     pub fn new(
         rt: &'a R,
         alloc: Global,
@@ -63,22 +65,22 @@ impl<'a, R: Wait, M: Memory, D: Disk + Drop> Node<'a, R, M, D> {
             rt,
             alloc,
             shared,
-            pen: Pen::of(scanner),
+            token: LockToken::of(scanner),
         }
     }
 
-    /// Answers an update. Its segment and its length are checked before any lock.
+    /// Answers an update. Its segment and its length are checked before any lock is taken.
     fn update(&mut self, segment: usize, number: u64, value: &[u8]) -> Reply
         ensures answer { AnswersUpdate self.old.scanner segment number value.now result
             self.new.scanner }
         ensures limits { IsInLimits result }
         ensures counts { CountsUpdate self.old segment value.now self.new }
     {
-        if let Some(reply) = refuse_place(self.pen.scanner(), segment, value) {
+        if let Some(reply) = refuse_place(self.token.scanner(), segment, value) {
             return reply;
         }
         let shared = self.shared;
-        shared.update(self.rt, &mut self.pen, segment, number, value)
+        shared.update(self.rt, &mut self.token, segment, number, value)
     }
 
     /// Answers a status: each segment as it was while its lock was held. No writer changes.
@@ -87,10 +89,10 @@ impl<'a, R: Wait, M: Memory, D: Disk + Drop> Node<'a, R, M, D> {
         ensures limits { IsInLimits result }
         ensures counts { self.new.updates ≡ self.old.updates }
     {
-        // for its clause on the scanner (docs/DECISIONS.md, 180)
-        let _segments = self.pen.scanner().segments();
+        // Called for its clause on the scanner (docs/DECISIONS.md, 180).
+        let _segments = self.token.scanner().segments();
         let shared = self.shared;
-        match shared.list_statuses(self.rt, self.alloc, &mut self.pen) {
+        match shared.list_statuses(self.rt, self.alloc, &mut self.token) {
             Ok(statuses) => Reply::Status(statuses),
             Err(AllocError) => Reply::Refused {
                 why: Refusal::NoMemory,
@@ -105,7 +107,7 @@ impl<'a, R: Wait, M: Memory, D: Disk + Drop> Node<'a, R, M, D> {
         ensures limits { IsInLimits result }
         ensures counts { CountsNothing self.old self.new }
     {
-        self.pen.scan(self.alloc)
+        self.token.scan(self.alloc)
     }
 
     /// Answers a scan of some segments. No lock is taken, and no writer changes.
@@ -115,7 +117,7 @@ impl<'a, R: Wait, M: Memory, D: Disk + Drop> Node<'a, R, M, D> {
         ensures limits { IsInLimits result }
         ensures counts { CountsNothing self.old self.new }
     {
-        self.pen.part(self.alloc, set)
+        self.token.part(self.alloc, set)
     }
 
     /// Answers any request.
@@ -137,12 +139,12 @@ impl<'a, R: Wait, M: Memory, D: Disk + Drop> Node<'a, R, M, D> {
         }
     }
 
-    /// The scanner, unchanged: a store can be closed once its scanners have come back.
+    /// Returns the scanner, unchanged. A store can be closed once all its scanners were returned.
     pub fn into_scanner(self) -> Scanner
         ensures scanner { result ≡ self.entry.scanner }
         ensures memory { IsOf M.table M.plan result }
     {
-        self.pen.into_scanner()
+        self.token.into_scanner()
     }
 }
 

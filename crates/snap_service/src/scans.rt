@@ -12,9 +12,11 @@ use snap_history::MAX_COUNT;
 use snap_memory::Scanner;
 use std::alloc::{AllocError, Global};
 
-/// Answers a scan: the number and the value of each segment, all of one moment, with all updates
-/// that were in the history at the scan's first look. It takes no lock and is wait-free. Values
-/// that the scanner has answered before are shared; only those that have changed are read.
+/// Answers a scan: the number and the value of each segment, all from one moment, with all updates
+/// that were in the history at the scan's first look.
+///
+/// It takes no lock and is wait-free. Values that the scanner has answered before are shared; only
+/// those that have changed are read.
 ///
 /// Refused with detail 0: as `Worn` if fewer looks are left than a scan might take, and then
 /// nothing changes; as `NoMemory` if memory runs out for a value or the list.
@@ -35,8 +37,8 @@ pub fn answer_scan(alloc: Global, scanner: &mut Scanner) -> Reply
 /// in ascending order, as [`answer_scan`] answers all of them.
 ///
 /// Refused as `NoSegment`, with the number of segments, if a named one doesn't exist; then nothing
-/// changes. Else it is refused as [`answer_scan`] is, by the looks that a scan of the named
-/// segments might take.
+/// changes. Otherwise refused as [`answer_scan`] is, by the looks that a scan of the named segments
+/// might take.
 pub fn answer_part(alloc: Global, scanner: &mut Scanner, set: SegmentSet) -> Reply
     requires some { 0 < set.bits }
     ensures answer { AnswersPart scanner.old set.bits result scanner.new }

@@ -1,4 +1,4 @@
-//! The reply to an update: its writer's result.
+//! Settling an update: does it by its writer, and replies with the writer's result.
 ghost use Rattle.std.specs.Prelude.{◌≡◌};
 ghost use Rattle.snap_history.specs.Limits.{IsShort};
 ghost use Rattle.snap_memory.specs.Seat.{AreTogether, Meets, own_of};
@@ -13,14 +13,14 @@ use snap_frame::Reply;
 use snap_memory::Scanner;
 use snap_writer::Writer;
 
-/// Updates by the writer, as [`Writer::update`] does. The clause `tellable` allows a reply with
-/// this result while the writer is unchanged.
+/// Updates the segment by its writer, as [`Writer::update`] does. The clause `tellable` allows a
+/// reply with this result while the writer is unchanged.
 pub fn update<D: Disk>(writer: &mut Writer<D>, number: u64, value: &[u8]) -> Result<u64, Refusal>
     requires size { IsShort value.now }
     ensures updated { IsUpdated D.Disk writer.old writer.new number value.now result }
     ensures tellable { IsTellable writer.new number value.now result }
 {
-    // for their clauses on the writer before and after (docs/DECISIONS.md, 180)
+    // Called for their clauses on the writer before and after (docs/DECISIONS.md, 180).
     let _before = writer.number();
     let told = writer.update(number, value);
     let _after = writer.number();
@@ -28,8 +28,10 @@ pub fn update<D: Disk>(writer: &mut Writer<D>, number: u64, value: &[u8]) -> Res
     told
 }
 
-/// The reply for the writer's result. The scanner meets the writer, so it has seen the update, and
-/// the reply fits what it has seen. No look is taken.
+/// Makes the reply from the writer's result.
+///
+/// The scanner meets the writer, so it has seen the update, and the reply fits what it has seen. No
+/// look is taken.
 pub fn reply_told<D: Disk>(
     told: Result<u64, Refusal>,
     writer: &mut Writer<D>,
@@ -38,7 +40,7 @@ pub fn reply_told<D: Disk>(
     requires together { AreTogether scanner.old writer.old.seat }
     ensures { RepliesTold told writer.old writer.new scanner.old scanner.new result }
 {
-    // for their clauses on the writer before and after (docs/DECISIONS.md, 180)
+    // Called for their clauses on the writer before and after (docs/DECISIONS.md, 180).
     let _before = writer.number();
     let _held = writer.value();
     writer.meet(scanner);
@@ -53,9 +55,10 @@ pub fn reply_told<D: Disk>(
     }
 }
 
-/// Updates by the writer, and replies with its result. The writer is the segment's, and of the
-/// scanner's memory. Its refusals are those of [`Writer::update`], with the segment's number as
-/// detail, except 3: the value isn't too long.
+/// Updates the segment by its writer, and replies with the result.
+///
+/// The writer is the segment's, and belongs to the scanner's memory. The refusals are those of
+/// [`Writer::update`], with the segment's number as detail, except 3: the value isn't too long.
 ///
 /// The scanner meets the writer after the update. So the reply is the writer's result, whatever the
 /// scanner had seen before, and the scanner's next scan has the update. No look is taken.

@@ -22,8 +22,8 @@ ghost use Rattle.snap_service.specs.Answers.{AnswersUpdate};
 ghost use Rattle.snap_service.specs.Counted.{CountsOne};
 
 use crate::lock::WriterLock;
-use crate::locked_writer::Pen;
-use crate::memory::{Memory, WriterOf};
+use crate::locked_writer::{LockToken, LockedWriter};
+use crate::memory::Memory;
 use snap_disk::Disk;
 use snap_frame::{Reply, SegmentStatus};
 use snap_writer::Writer;
@@ -38,7 +38,8 @@ pub struct Shared<M: Memory, D: Disk + Drop> {
 }
 
 impl<M: Memory, D: Disk + Drop> Shared<M, D> {
-    /// Puts the writer of each segment under a lock. If memory runs out, the error has the writers, unchanged.
+    /// Puts the writer of each segment under a lock. If memory runs out, the error returns the
+    /// writers, unchanged.
     pub fn new(alloc: Global, writers: Vec<Writer<D>>) -> Result<Shared<M, D>, Vec<Writer<D>>>
         requires { AreWriters M.table M.plan writers.items }
         ensures { IfErr result (λ back. back.items ≡ writers.items) }
@@ -48,7 +49,7 @@ impl<M: Memory, D: Disk + Drop> Shared<M, D> {
         };
         'writers: for writer in writers {
             let segment = locks.len();
-            match locks.push(WriterLock::of(WriterOf::new(writer, segment))) {
+            match locks.push(WriterLock::of(LockedWriter::new(writer, segment))) {
                 Ok(()) => {}
                 Err(_) => unreachable!(),
             }
@@ -60,46 +61,47 @@ impl<M: Memory, D: Disk + Drop> Shared<M, D> {
     pub(crate) fn update<R: Wait>(
         &self,
         rt: &R,
-        pen: &mut Pen,
+        token: &mut LockToken,
         segment: usize,
         number: u64,
         value: &[u8],
     ) -> Reply
-        requires memory { IsOf M.table M.plan pen.old.scanner }
+        requires memory { IsOf M.table M.plan token.old.scanner }
         requires segment { segment < segments M.plan }
         requires size { IsShort value.now }
-        ensures answer { AnswersUpdate pen.old.scanner segment number value.now result
-            pen.new.scanner }
+        ensures answer { AnswersUpdate token.old.scanner segment number value.now result
+            token.new.scanner }
         ensures limits { IsInLimits result }
-        ensures counts { CountsOne pen.old pen.new }
+        ensures counts { CountsOne token.old token.new }
     {
-        self.writers[segment].update(rt, pen, segment, number, value)
+        self.writers[segment].update(rt, token, segment, number, value)
     }
 
-    /// The number and the fence of each segment, each read under its lock.
+    /// Reads the number and the fence of each segment, each under its lock.
     pub(crate) fn list_statuses<R: Wait>(
         &self,
         rt: &R,
         alloc: Global,
-        pen: &mut Pen,
+        token: &mut LockToken,
     ) -> Result<Vec<SegmentStatus>, AllocError>
         ensures count { IfOk result (λ s. length s.items ≡ segments M.plan) }
         ensures limits { IfOk result (λ s. All IsStatus s.items) }
-        ensures scanner { pen.new.scanner ≡ pen.old.scanner }
-        ensures updates { pen.new.updates ≡ pen.old.updates }
+        ensures scanner { token.new.scanner ≡ token.old.scanner }
+        ensures updates { token.new.updates ≡ token.old.updates }
     {
         let mut statuses = Vec::new(alloc);
         for lock in &self.writers {
-            statuses.push(lock.status(rt, pen))?;
+            statuses.push(lock.status(rt, token))?;
         }
         Ok(statuses)
     }
 
-    /// The writers of all segments, in order, out of their locks, so that a store can be closed
-    /// with them. `room` is empty and has capacity for all of them, so no memory is taken.
+    /// Takes the writers of all segments out of their locks, in order, so that a store can be
+    /// closed with them.
     ///
-    /// [`Shared::new`] puts each writer at its segment's place. If one isn't there, the error has
-    /// all writers in the order in which they were.
+    /// `room` is empty and has capacity for all of them, so nothing is allocated. [`Shared::new`]
+    /// puts each writer at its segment's place. If one isn't at that place, the error has all
+    /// writers in the order in which they were.
     pub fn into_writers(self, room: Vec<Writer<D>>) -> Result<Vec<Writer<D>>, Vec<Writer<D>>>
         requires empty { room.items ≡ [] }
         requires room { segments M.plan ≤ vec_capacity room }
@@ -112,7 +114,7 @@ impl<M: Memory, D: Disk + Drop> Shared<M, D> {
         let mut is_displaced = false;
         'locks: for lock in self.writers {
             let place = writers.len();
-            let writer = lock.into_writer();
+            let writer = lock.into_inner();
             if writer.segment() != place {
                 is_displaced = true;
             }

@@ -1,4 +1,4 @@
-//! Replies to updates that need no writer.
+//! Replies to updates without the segment's writer.
 ghost use Rattle.std.specs.Prelude.{◌≡◌, ℕ, ◌+◌, ◌<◌, IfSome, IfNone};
 ghost use Rattle.snap_disk.specs.declared.refusal.Refusal.{Refusal};
 ghost use Rattle.snap_history.specs.Limits.{IsNumber, IsShort};
@@ -15,7 +15,7 @@ use snap_history::{LAST_NUMBER, MAX_VALUE_LEN};
 use snap_memory::Scanner;
 
 /// Refuses an update whose segment doesn't exist (2, with the number of segments), or whose value
-/// is too long (3, with its length), in this order. `None` if neither is so.
+/// is too long (3, with its length), in this order. `None` if both are valid.
 pub fn refuse_place(scanner: &Scanner, segment: usize, value: &[u8]) -> Option<Reply>
     ensures refused { IfSome result (λ r. (number : ℕ)
         → AnswersUpdate scanner.now segment number value.now r scanner.now) }
@@ -39,11 +39,12 @@ pub fn refuse_place(scanner: &Scanner, segment: usize, value: &[u8]) -> Option<R
     None
 }
 
-/// Answers an update without its writer, by one look at its segment: stored if the segment has that
-/// number and value; refused as `Conflict` if it has that number and another value; a next number
-/// as `Fenced`, or as `Exhausted` after the largest one; any other number as `OutOfStep`. The
-/// detail is the segment's number, and nothing is stored. Without a look left it is refused as
-/// `Worn`, with detail 0, and the scanner doesn't change.
+/// Answers an update without its writer, by one look at its segment. Nothing is stored.
+///
+/// The reply is `Stored` if the segment has that number and value. Otherwise it is a refusal with
+/// the segment's number as detail: `Conflict` if the segment has that number and another value;
+/// `Fenced` for the next number, or `Exhausted` after the largest one; `OutOfStep` for any other
+/// number. If no look is left it is `Worn`, with detail 0, and the scanner doesn't change.
 pub fn answer_by_look(scanner: &mut Scanner, segment: usize, number: u64, value: &[u8]) -> Reply
     requires segment { segment < segments scanner.old.plan }
     requires size { IsShort value.now }
@@ -63,7 +64,7 @@ pub fn answer_by_look(scanner: &mut Scanner, segment: usize, number: u64, value:
     }
     let mut held = [0; MAX_VALUE_LEN];
     let (current, size) = scanner.read_one(segment, &mut held);
-    // for its clause on the scanner (docs/DECISIONS.md, 180)
+    // Called for its clause on the scanner (docs/DECISIONS.md, 180).
     let _segments = scanner.segments();
     reply_found(number, value, current, &held[..size])
 }

@@ -1,5 +1,6 @@
--- A talk that continues.
-use Rattle.std.proofs.Common.{◌≡◌, ◌+◌, ℕ, List, [], ◌++◌, length, length-append, arith, Option, Some, None, refl, sym, ◌∙◌, ap, subst}
+-- Joining the steps of a session.
+use Rattle.std.proofs.Common.{◌≡◌, ◌+◌, ℕ, List, [], ◌++◌, length, length-append, arith, Option, Some, None, refl}
+use Rattle.std.proofs.Common.{sym, ◌∙◌, ap, subst}
 use Rattle.std.proofs.Common.{append-nil, append_assoc}
 use Rattle.snap_frame.specs.declared.request.Request.{Request}
 use Rattle.snap_frame.specs.declared.reply.Reply.{Reply}
@@ -16,7 +17,7 @@ phase_any None taken more ps qs rs ss us rest held tail p = p
 phase_any (Some TooLarge) taken more ps qs rs ss us rest held tail p = p
 phase_any (Some NoMemory) taken more ps qs rs ss us rest held tail p = p
 
--- a talk that is over stays over
+-- a session that is over stays over
 phase_over : (o : Option Failure) (w : Failure) (taken : List ℕ) (ps rs us : List (List ℕ))
     (rest held kept tail : List ℕ) → Phase o (Some w) taken ps rs us rest held tail
     → Phase o (Some w) taken ps rs us rest kept tail
@@ -144,12 +145,12 @@ module _ {S : Type 0} (between : S → S → Type 0) (joins : Joins between)
   goes_by None is one two = goes_going is one two
   goes_by (Some w) is one two = goes_over w is one two
 
-  -- two parts of a talk are one
+  -- two steps of a session, one after the other, are one
   pub goes_on : Goes between gives s t t0 a g t1 → Goes between gives t u t1 b h t2
       → Goes between gives s u t0 (a ++ b) (g ++ h) t2
   goes_on one two = (goes_by t1.over refl one two).0
 
--- another run of these payloads, with these replies, gives `Goes` too
+-- another run of these payloads, with equal replies, gives `Goes` too
 pub by_run : {S : Type 0} (before between : S → S → Type 0) (gives : S → Request → Reply → S
     → Type 0) (s t u : S) (old : Talk) (taken given : List ℕ) (new : Talk)
     (one : Goes before gives s t old taken given new)
@@ -169,7 +170,7 @@ by_run before between gives s t u old taken given new one run =
     }
 
 module _ {S : Type 0} (gives : S → Request → Reply → S → Type 0) where
-  -- two parts with nothing read or written are one, with the frames that both answer
+  -- two steps with nothing read or written are one, with the frames that both answer
   pub goes_more : (s t u : S) (t0 t1 t2 : Talk) (m n : ℕ) → GoesBy m Stays gives s t t0 [] [] t1
       → GoesBy n Stays gives t u t1 [] [] t2 → GoesBy (m + n) Stays gives s u t0 [] [] t2
   goes_more s t u t0 t1 t2 m n one two =
@@ -177,7 +178,7 @@ module _ {S : Type 0} (gives : S → Request → Reply → S → Type 0) where
       goes_by Stays stays_joins gives s t u t0 t1 t2 [] [] [] [] t1.over refl one.0 two.0 in
       (both.0, omega (arith, both.1, one.1, two.1))
 
-  -- a talk without other sessions in between is one in which there may be some
+  -- a step without other sessions in between is also one in which there may be some
   pub loosen : (s t : S) (old : Talk) (taken given : List ℕ) (new : Talk)
       → Goes Stays gives s t old taken given new → Goes (Moves gives) gives s t old taken given new
   loosen s t old taken given new one =

@@ -1,4 +1,4 @@
--- The answer of a feed, and the bytes that it leaves.
+-- The result of decoding the first frame, and the bytes that it leaves.
 use Rattle.std.proofs.Common.{◌≡◌, ℕ, List, None, Err, Ok, Some, inl, inr, sym, ◌∙◌, ap}
 use Rattle.snap_disk.specs.declared.refusal.Refusal.{Refusal}
 use Rattle.snap_disk.specs.declared.refusal.Refusal.TheVariants as refusals
@@ -12,7 +12,7 @@ malformed_apart : (f : Failure) → refusals.Malformed ≡ refusal_of f → ⊥
 malformed_apart NoMemory wrong = absurd cc
 malformed_apart TooLarge wrong = absurd cc
 
--- it continues after a request, and after a malformed frame
+-- the session continues after a request, and after a malformed frame
 pub asked_leaves : (bytes : List ℕ) (q : Request) (new : Held)
     → IsNextRequest bytes (Ok (Some q)) new → IsBytes bytes
     → (new.failure ≡ None) × IsBytes new.bytes
@@ -31,7 +31,7 @@ too_large_by : (bytes : List ℕ) (f : Failure) (new : Held) → refusals.TooLar
 too_large_by bytes NoMemory new is fails = absurd cc
 too_large_by bytes TooLarge new is fails = (fails.0, ap (λ (z : Held). z.bytes) fails.1)
 
--- a length above the limit isn't taken off
+-- a length above the limit isn't removed from the bytes
 pub too_large_leaves : (bytes : List ℕ) (why : Refusal) (new : Held) → why ≡ refusals.TooLarge
     → IsNextRequest bytes (Err why) new → HasLongLength bytes × (new.bytes ≡ bytes)
 too_large_leaves bytes why new is (inl next) =

@@ -23,7 +23,7 @@ bytes_behind xs x rest bytes has i =
 pub shorter_behind : (xs x rest : List ℕ) → HasFrame xs x rest → length rest ≤ length xs
 shorter_behind xs x rest has = omega (arith, ap length has.split, length-append (frame x) rest)
 
--- no more is held after bytes were written and frames answered
+-- no more bytes are held after bytes were written and frames answered
 pub holds_sent : (more : ℕ) (old mid : Talk) (w0 w1 : _) → Sends old mid w0 w1
     → HoldsFrameAnd more old → HoldsFrameAnd more mid
 holds_sent more old mid w0 w1 sent holds going =
@@ -34,7 +34,7 @@ pub holds_answered : (more : ℕ) (old new : Talk) → old.over ≡ None
     → HoldsFrameAnd more new
 holds_answered more old new going fewer holds still = omega (arith, fewer still, holds going)
 
--- a piece after less than a frame
+-- a read is taken in while less than a frame is held
 pub holds_taken : (more : ℕ) (old : Talk) (piece : List ℕ) (new : Talk)
     → length old.held < longest_frame → length piece ≤ more → HasTaken old piece new
     → HoldsFrameAnd more new
@@ -47,6 +47,6 @@ still_is : (o : Option Failure) → is_some o ≡ false → o ≡ None
 still_is None is = refl
 still_is (Some f) is = let wrong : true ≡ false = is in absurd cc
 
--- it isn't over
+-- the session isn't over
 pub still_going : (o : Option Failure) (is : Bool) → is ≡ is_some o → is ≡ false → o ≡ None
 still_going o is told so = still_is o (sym told ∙ so)

@@ -24,7 +24,7 @@ module _ {S : Type 0} (gives : S → Request → Reply → S → Type 0) (most :
     reads = (consumes_none r, inl (refl, refl));
   }
 
-  -- then frames are answered, and a read gives nothing
+  -- then frames are answered, and a read returns nothing
   pub reads_nothing : (s t : S) (old mid new : Talk) (r0 r1 w0 w1 : Option (List ℕ))
       → Sends old mid w0 w1 → GoesBy most_answers Stays gives s t mid [] [] new
       → Consumes r0 r1 [] → Round gives most (scene s old r0 w0) (scene t new r1 w1)
@@ -37,7 +37,7 @@ module _ {S : Type 0} (gives : S → Request → Reply → S → Type 0) (most :
     reads = (read, inl (refl, refl));
   }
 
-  -- something new is owed, or it is over
+  -- something new is owed, or the session is over
   pub answers_some : (s t : S) (old mid new : Talk) (r w0 w1 : Option (List ℕ))
       → Sends old mid w0 w1 → GoesBy most_answers Stays gives s t mid [] [] new → mid.owed ≡ []
       → (new.over ≡ None → new.owed ≡ [] → ⊥)
@@ -55,7 +55,7 @@ module _ {S : Type 0} (gives : S → Request → Reply → S → Type 0) (most :
     gets_on = λ going none _. some going none;
   }
 
-  -- a piece is read
+  -- bytes are read
   pub reads_some : (s t : S) (old mid answered new : Talk) (piece : List ℕ)
       (r0 r1 w0 w1 : Option (List ℕ)) → Sends old mid w0 w1
       → GoesBy most_answers Stays gives s t mid [] [] answered → mid.owed ≡ []

@@ -11,7 +11,7 @@ frames-append (x ∷ xs) ys =
     ap (λ zs. frame x ++ zs) (frames-append xs ys)
     ∙ sym (append_assoc (frame x) (frames xs) (frames ys))
 
--- `between` joins
+-- `between` is transitive.
 abbrev pub Joins : {S : Type 0} → (S → S → Type 0) → Type 0
 Joins {S} between = (a b c : S) → between a b → between b c → between a c
 
@@ -20,7 +20,7 @@ stays_joins a b c one two = two ∙ one
 
 module _ {S : Type 0} (between : S → S → Type 0) (joins : Joins between)
     (gives : S → Request → Reply → S → Type 0) where
-  -- a move before a run joins it
+  -- a change by `between` before a run joins it
   pub run_after : (a b c : S) (xs ys : List (List ℕ)) → between a b → Run between gives b xs ys c
       → Run between gives a xs ys c
   run_after a b c [] [] one two = joins a b c one two
@@ -29,7 +29,7 @@ module _ {S : Type 0} (between : S → S → Type 0) (joins : Joins between)
   run_after a b c (x ∷ xs) (y ∷ ys) one two =
       (two.0, two.1, joins a b two.0 one two.2, two.3, two.4)
 
-  -- a move after a run joins it
+  -- a change by `between` after a run joins it
   pub run_then : (a b c : S) (xs ys : List (List ℕ)) → Run between gives a xs ys b → between b c
       → Run between gives a xs ys c
   run_then a b c [] [] one two = joins a b c one two
@@ -54,7 +54,7 @@ moves_joins gives a b c one two = (
   run_on Stays stays_joins gives a b c one.0 one.1 two.0 two.1 one.2 two.2,
 )
 
--- a run without other sessions in between is one in which there may be some
+-- a run without other sessions in between is also one in which there may be some
 pub loosen : {S : Type 0} (gives : S → Request → Reply → S
     → Type 0) (a b : S) (xs ys : List (List ℕ)) → Run Stays gives a xs ys b
     → Run (Moves gives) gives a xs ys b

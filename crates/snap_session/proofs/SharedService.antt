@@ -8,7 +8,7 @@ use Rattle.snap_session.proofs.Runs.{moves_joins}
 use Rattle.snap_session.proofs.Continuation.{loosen}
 use Rattle.snap_session.proofs.TurnRuns.{turns_on, begins}
 
--- another way of the talk, with these reads and writes, gives `Turns` too
+-- another `Goes` between the two states, with equal reads and writes, gives `Turns` too
 by_talk : {S : Type 0} (before between : S → S → Type 0) (gives : S → Request → Reply → S
     → Type 0) (s t u : S) (old : Talk) (r0 r1 w0 w1 : Option (List ℕ)) (new : Talk)
     (one : Turns before gives s t old r0 r1 w0 w1 new)
@@ -34,7 +34,7 @@ module _ {S : Type 0} (gives : S → Request → Reply → S → Type 0) where
   pub shares : (s : S) (t : Talk) (r w : Option (List ℕ)) → Turns (Moves gives) gives s s t r r w w t
   shares s t r w = turns_loosen s s t r r w w t (begins gives s t r w)
 
-  -- it has a turn
+  -- the session has a turn
   pub has_turn : (s t u : S) (t0 t1 t2 : Talk) (r0 r1 r2 w0 w1 w2 : Option (List ℕ))
       → Turns (Moves gives) gives s t t0 r0 r1 w0 w1 t1 → Turns Stays gives t u t1 r1 r2 w1 w2 t2
       → Turns (Moves gives) gives s u t0 r0 r2 w0 w2 t2

@@ -1,5 +1,6 @@
 -- The steps of a session.
-use Rattle.std.proofs.Common.{◌≡◌, ◌≢◌, inl, inr, ℕ, ◌≤◌, List, [], ◌∷◌, ◌++◌, length, Option, Some, None, Bool, true, false, refl, sym}
+use Rattle.std.proofs.Common.{◌≡◌, ◌≢◌, inl, inr, ℕ, ◌≤◌, List, [], ◌∷◌, ◌++◌, length, Option, Some, None, Bool}
+use Rattle.std.proofs.Common.{true, false, refl, sym}
 use Rattle.std.proofs.Common.{◌∙◌, ap, arith, append-nil, append_assoc, subst, length-append}
 use Rattle.std.specs.Int.{w32, to_be_bytes}
 use Rattle.snap_frame.specs.declared.request.Request.{Request}
@@ -8,7 +9,8 @@ use Rattle.snap_frame.specs.Stream.{HasFrame, HasLongLength}
 use Rattle.snap_frame.specs.declared.reply.Reply.{Reply}
 use Rattle.snap_frame.specs.declared.frame_buffer.Failure.{Failure}
 use Rattle.snap_frame.specs.declared.frame_buffer.Failure.TheVariants.{TooLarge, NoMemory}
-use Rattle.snap_session.specs.Talk.{refused_too_large, Talk, Goes, GoesBy, Stays, Run, Answer, Phase, HasTaken, Owes, frames, came}
+use Rattle.snap_session.specs.Talk.{refused_too_large, Talk, Goes, GoesBy, Stays, Run, Answer, Phase, HasTaken}
+use Rattle.snap_session.specs.Talk.{Owes, frames, came}
 use Rattle.snap_session.specs.Talk.{asked_bytes}
 
 abbrev pub owed_of : Talk → List ℕ
@@ -73,7 +75,7 @@ pub owes_free : (old : Talk) (y : List ℕ) (new : Talk) (ok : Bool) → Owes ol
 owes_free old y new true owes free = ap asked_of owes ∙ free
 owes_free old y new false owes free = ap asked_of owes ∙ free
 
--- after an answer bytes are owed, unless it is over
+-- after an answer bytes are owed, unless the session is over
 owes_some : (old : Talk) (y : List ℕ) (new : Talk) (ok : Bool) → Owes old y new ok
     → new.over ≡ None → new.owed ≡ [] → ⊥
 owes_some old y new true owes going none =
@@ -86,7 +88,7 @@ owes_some old y new true owes going none =
 owes_some old y new false owes going none =
     let wrong : Some NoMemory ≡ None = sym (ap over_of owes) ∙ going in absurd cc
 
--- so it needs another call, with no request handed over
+-- so the session needs another call, with no request handed over
 pub owes_turn : (old : Talk) (y : List ℕ) (new : Talk) (ok : Bool) → Owes old y new ok
     → old.asked ≡ None → (new.asked ≡ None) × (new.over ≡ None → new.owed ≡ [] → ⊥)
 owes_turn old y new ok owes free = (owes_free old y new ok owes free, owes_some old y new ok owes)
@@ -118,7 +120,7 @@ module _ {S : Type 0} (gives : S → Request → Reply → S → Type 0) where
     omega arith,
   )
 
-  -- the bytes that arrived don't change, and some that are owed are sent
+  -- the bytes that arrived don't change, and some that are owed are written
   pub sends : (s : S) (old : Talk) (given : List ℕ) (new : Talk) → old.owed ≡ given ++ new.owed
       → came new ≡ came old → new.over ≡ old.over → GoesBy 0 Stays gives s s old [] given new
   sends s old given new owed same over =
@@ -140,7 +142,7 @@ module _ {S : Type 0} (gives : S → Request → Reply → S → Type 0) where
       (phase_no_memory old.over new.over taken [] [] [] (came old ++ taken) (came new) going over
       (omega arith))
 
-  -- a piece is taken in
+  -- bytes are taken in
   pub takes : (s : S) (old : Talk) (piece : List ℕ) (new : Talk) → old.over ≡ None
       → HasTaken old piece new → GoesBy 0 Stays gives s s old piece [] new
   takes s old piece new going (inl is) =
@@ -242,7 +244,7 @@ module _ {S : Type 0} (gives : S → Request → Reply → S → Type 0) where
         None;
   }) refl (sym (came_free t free)) refl).0
 
-  -- a bound may be raised
+  -- the bound of answered frames may be raised
   pub by_more : (s t : S) (old : Talk) (taken given : List ℕ) (new : Talk) (m n : ℕ) → m ≤ n
       → GoesBy m Stays gives s t old taken given new → GoesBy n Stays gives s t old taken given new
   by_more s t old taken given new m n more goes = (goes.0, omega (arith, more, goes.1))

@@ -1,5 +1,6 @@
 -- Turns one after another.
-use Rattle.std.proofs.Common.{◌≡◌, ℕ, List, [], ◌++◌, Option, None, OnSome, Some, refl, sym, ◌∙◌, ap, subst, append-nil, append_assoc}
+use Rattle.std.proofs.Common.{◌≡◌, ℕ, List, [], ◌++◌, Option, None, OnSome, Some, refl, sym, ◌∙◌, ap, subst}
+use Rattle.std.proofs.Common.{append-nil, append_assoc}
 use Rattle.std.proofs.Common.{take, drop, length, length-append, arith, ◌≤◌, ◌∷◌, Bool, true, false, eqb-true}
 use Rattle.std.specs.Bool.{◌==◌}
 use Rattle.std.specs.Io.KnownBytes.{Appends, Consumes}
@@ -68,7 +69,7 @@ pub on_any : (a : Option Request) (P : Type 0) → P → OnSome a P
 on_any None P p = tt
 on_any (Some q) P p = p
 
--- it was handed over before, or now
+-- the request was handed over before, or now
 pub or_new : (a : Option Request) (P : Type 0) → OnSome a P → (a ≡ None → P) → P
 or_new None P before now = now refl
 or_new (Some q) P before now = before
@@ -76,7 +77,7 @@ or_new (Some q) P before now = before
 pub still_under : (a b : Option Request) (P : Type 0) → b ≡ a → OnSome a P → OnSome b P
 still_under a b P same on = subst (λ z. OnSome z P) (sym same) on
 
--- ---- how far a turn has come
+-- ---- the result of a turn
 
 -- nothing is owed
 pub none_owed : (is_empty : Bool) (seen owed : List ℕ) → is_empty ≡ true
@@ -154,7 +155,7 @@ module _ {S : Type 0} (gives : S → Request → Reply → S → Type 0) where
       then_answers s t u t0 t2 t3 r0 r1 w0 w2
       (then_sends s t t0 t1 t2 r0 r1 w0 w1 w2 one sent) goes
 
-  -- then a piece is read and taken in
+  -- then bytes are read and taken in
   pub then_takes : (s t : S) (t0 t1 t2 : Talk) (r0 r1 r2 w0 w1 : Option (List ℕ)) (piece : List ℕ)
       → Turns Stays gives s t t0 r0 r1 w0 w1 t1 → t1.over ≡ None → Consumes r1 r2 piece
       → HasTaken t1 piece t2 → Turns Stays gives s t t0 r0 r2 w0 w1 t2
@@ -169,7 +170,7 @@ module _ {S : Type 0} (gives : S → Request → Reply → S → Type 0) where
             (takes gives t t1 piece t2 going taken).0;
       })
 
-  -- then a read gives nothing
+  -- then a read returns nothing
   pub then_ends : (s t : S) (t0 t1 : Talk) (r0 r1 r2 w0 w1 : Option (List ℕ))
       → Turns Stays gives s t t0 r0 r1 w0 w1 t1 → Consumes r1 r2 []
       → Turns Stays gives s t t0 r0 r2 w0 w1 t1
@@ -194,8 +195,8 @@ module _ {S : Type 0} (gives : S → Request → Reply → S → Type 0) where
         ends = at;
       }
 
-  -- the invariant of a turn: its bytes are those of a run, few are owed and held, and a request is
-  -- handed over under the connection's key
+  -- the invariant of a turn: its bytes are those of a run, few are owed and held, and a request is handed over with the
+  -- connection's key
   pub record Stood (hands_over one : Type 0)
       (more : ℕ) (s t : S) (old new : Talk) (r0 r1 w0 w1 : Option (List ℕ)) : Type 0 where
     pub turns : Turns Stays gives s t old r0 r1 w0 w1 new
@@ -204,7 +205,7 @@ module _ {S : Type 0} (gives : S → Request → Reply → S → Type 0) where
     pub under : old.asked ≡ None → OnSome new.asked one
     pub held : HoldsFrameAnd more old → HoldsFrameAnd more new
 
-  -- it still holds after bytes that are owed are written
+  -- the invariant still holds after bytes that are owed are written
   pub stood_sent : (hands_over one : Type 0)
       (more : ℕ) (s t : S) (old mid new : Talk) (r0 r1 w0 w1 w2 : Option (List ℕ))
       → Stood hands_over one more s t old mid r0 r1 w0 w1 → Sends mid new w1 w2

@@ -1,4 +1,5 @@
 pub mod Talk
 pub mod Hears
-pub mod Wants
+pub mod Waits
 pub mod Turns
+pub mod Wrapped

@@ -10,8 +10,8 @@ use Rattle.snap_frame.specs.declared.frame_buffer.Failure.TheVariants.{TooLarge,
 use Rattle.snap_disk.specs.declared.refusal.Refusal.TheVariants as refusals
 use Rattle.snap_session.specs.declared.session.TheConstants.{MAX_OWED}
 
--- a request that was handed over, the bytes that arrived after it, the bytes that are owed, and why
--- no more are taken in
+-- a session's state: the request that was handed over, the bytes that arrived after it, the bytes that are owed (the
+-- pending output), and why no more are taken in
 pub record Talk : Type 0 where
   pub asked : Option Request
   pub held : List ℕ
@@ -42,16 +42,16 @@ abbrev pub frames : List (List ℕ) → List ℕ
 frames [] = []
 frames (x ∷ xs) = frame x ++ frames xs
 
--- a service in this state answers the payload, which fits a frame, by this one: a request by a
--- reply of its own, within the limits of replies; anything else is refused as malformed
+-- a service in this state answers the first payload, which fits a frame, by the second: a request by a reply of its
+-- own, within the limits of replies; anything else by a refusal as malformed
 abbrev pub Answer : {S : Type 0} → (S → Request → Reply → S → Type 0) → S → List ℕ → List ℕ → S
     → Type 0
 Answer {S} gives old x y new = (length x ≤ max_payload)
     × (((q : Request) × (r : Reply) × Asks x q × gives old q r new × Says y r)
     ⊎ (Malformed x × (new ≡ old) × (y ≡ refused_malformed)))
 
--- The payloads get these answers, one after another. Between two of them, and before and after all,
--- the service may move by `between`.
+-- The payloads get these answers, one after another. Between two of them, and before and after all, the service may
+-- change by `between`.
 abbrev pub Run : {S : Type 0} → (S → S → Type 0) → (S → Request → Reply → S → Type 0) → S
     → List (List ℕ) → List (List ℕ) → S → Type 0
 Run between gives old [] [] new = between old new
@@ -68,8 +68,8 @@ Stays old new = new ≡ old
 abbrev pub Moves : {S : Type 0} → (S → Request → Reply → S → Type 0) → S → S → Type 0
 Moves gives old new = (xs : List (List ℕ)) × (ys : List (List ℕ)) × Run Stays gives old xs ys new
 
--- How a talk may continue: the bytes that are left of those that arrived, and the bytes that are
--- owed after all replies. Once it is over nothing more is taken in or answered.
+-- How a session may continue: the bytes that are left of those that arrived, and the bytes that are owed after all
+-- replies. Once it is over nothing more is taken in or answered.
 abbrev pub Phase : Option Failure → Option Failure → List ℕ → List (List ℕ) → List (List ℕ)
     → List (List ℕ) → List ℕ → List ℕ → List ℕ → Type 0
 Phase None None taken payloads replies unsaid rest held tail = (unsaid ≡ []) × (tail ≡ [])
@@ -81,13 +81,13 @@ Phase None (Some NoMemory) taken payloads replies unsaid rest held tail = (lengt
 Phase (Some a) new taken payloads replies unsaid rest held tail =
     (new ≡ Some a) × (taken ≡ []) × (payloads ≡ []) × (replies ≡ []) × (unsaid ≡ []) × (tail ≡ [])
 
--- From one talk to another, with these bytes taken in and these given out: what arrived is cut into
--- frames, which the service answers in order, and the replies' frames are owed.
+-- From one state of a session to another, with these bytes taken in and these written: what arrived is cut into frames,
+-- which the service answers in order, and the replies' frames are owed.
 pub record Goes {S : Type 0} (between : S → S → Type 0) (gives : S → Request → Reply → S
     → Type 0) (s t : S) (old : Talk) (taken given : List ℕ) (new : Talk) : Type 0 where
   pub payloads : List (List ℕ)
   pub replies : List (List ℕ)
-  -- replies for which memory ran out
+  -- the replies for which memory ran out
   pub unsaid : List (List ℕ)
   pub rest : List ℕ
   pub tail : List ℕ
@@ -96,7 +96,7 @@ pub record Goes {S : Type 0} (between : S → S → Type 0) (gives : S → Reque
   pub said : given ++ new.owed ≡ old.owed ++ (frames replies ++ tail)
   pub phase : Phase old.over new.over taken payloads replies unsaid rest (came new) tail
 
--- `Goes`, with at most `most` frames answered
+-- `Goes`, with at most `most` frames answered.
 abbrev pub GoesBy : {S : Type 0} → ℕ → (S → S → Type 0) → (S → Request → Reply → S → Type 0) → S → S
     → Talk → List ℕ → List ℕ → Talk → Type 0
 GoesBy most between gives s t old taken given new =
@@ -106,7 +106,7 @@ GoesBy most between gives s t old taken given new =
 abbrev pub HasNoMemory : Talk → Talk → Type 0
 HasNoMemory old new = new ≡ record old { over = Some NoMemory }
 
--- a piece was taken in, or memory ran out
+-- these bytes were taken in, or memory ran out
 abbrev pub HasTaken : Talk → List ℕ → Talk → Type 0
 HasTaken old piece new =
     (new ≡ record old { held = old.held ++ piece }) ⊎ HasNoMemory old new

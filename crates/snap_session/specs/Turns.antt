@@ -7,11 +7,12 @@ use Rattle.snap_frame.specs.declared.reply.Reply.{Reply}
 use Rattle.snap_session.specs.declared.turns.End.{End}
 use Rattle.snap_session.specs.declared.turns.End.TheVariants as ends
 use Rattle.snap_frame.specs.declared.frame_buffer.Failure.TheVariants as failures
-use Rattle.snap_session.specs.declared.turns.Turn.{Turn}
-use Rattle.snap_session.specs.declared.turns.Turn.TheVariants.{Again, NeedsInput, NeedsRoom, NeedsOutcome, Over}
+use Rattle.snap_session.specs.declared.turns.Polled.{Polled}
+use Rattle.snap_session.specs.declared.turns.Polled.TheVariants.{Again, NeedsInput, NeedsRoom, NeedsOutcome, Over}
 use Rattle.snap_session.specs.Talk.{Talk, Goes, GoesBy, Stays, HasTaken, start, most_answers}
 
--- Bytes that were read were taken in, and bytes that were given out were written.
+-- A session's state before and after some turns: the bytes that were read were taken in, and those that were given out
+-- were written.
 pub record Turns {S : Type 0} (between : S → S → Type 0) (gives : S → Request → Reply → S
     → Type 0) (s t : S) (old : Talk) (read_old read_new written_old written_new : Option (List ℕ))
     (new : Talk) : Type 0 where
@@ -34,7 +35,7 @@ pub record Sends (old new : Talk) (written_old written_new : Option (List ℕ)) 
 abbrev pub AllSaid : Talk → Type 0
 AllSaid t = (t.over ≡ None) × (t.owed ≡ []) × (t.asked ≡ None) × IsPartial t.held
 
--- the session when its connection has ended so
+-- the session once its connection has ended with this result
 abbrev pub EndsAt : End → Talk → Option (List ℕ) → Type 0
 EndsAt ends.Closed t left = (t.over ≡ None) × (t.owed ≡ []) × (t.asked ≡ None) × (t.held ≡ [])
     × IsAtEnd left
@@ -44,8 +45,8 @@ EndsAt ends.ReadFailed t left = AllSaid t
 EndsAt ends.WriteFailed t left = t.owed ≡ [] → ⊥
 EndsAt ends.NoMemory t left = (t.over ≡ Some failures.NoMemory) × (t.owed ≡ [])
 
--- the session after a turn that came so far
-abbrev pub StandsAt : Turn → Talk → Option (List ℕ) → Type 0
+-- the session after a turn with this result
+abbrev pub StandsAt : Polled → Talk → Option (List ℕ) → Type 0
 StandsAt Again t left = Unit {0}
 StandsAt NeedsInput t left = AllSaid t
 StandsAt NeedsRoom t left = t.owed ≡ [] → ⊥
@@ -64,16 +65,16 @@ pub record Serves {S : Type 0} (gives : S → Request → Reply → S
 abbrev pub most_rounds : ℕ
 most_rounds = 16
 
--- A service and a session on it, with the bytes that its reader has left and that its writer has
--- got, where these are known.
+-- A service and a session on it, with the bytes that its reader still has and that its writer has got, where these are
+-- known.
 pub record Scene (S : Type 0) : Type 0 where
   pub service : S
   pub talk : Talk
   pub left : Option (List ℕ)
   pub written : Option (List ℕ)
 
--- Nothing is read, or one piece of at most `most` bytes: only while the session isn't over, owes
--- nothing, and no request is handed over.
+-- Nothing is read, or at most `most` bytes: only while the session isn't over, owes nothing, and no request is handed
+-- over.
 abbrev pub ReadsPiece : ℕ → Talk → Option (List ℕ) → Option (List ℕ) → List ℕ → Talk → Type 0
 ReadsPiece most old left_old left_new piece new =
     Consumes left_old left_new piece
@@ -82,8 +83,8 @@ ReadsPiece most old left_old left_new piece new =
     × HasTaken old piece new))
 
 module _ {S : Type 0} (gives : S → Request → Reply → S → Type 0) (most : ℕ) where
-  -- One round: bytes that are owed are written, frames that are held are answered, and then at most
-  -- one piece is read.
+  -- One round: bytes that are owed are written, frames that are held are answered, and then at most one read is taken
+  -- in.
   pub record Round (a b : Scene S) : Type 0 where
     pub sent : Talk
     pub answered : Talk
@@ -92,8 +93,8 @@ module _ {S : Type 0} (gives : S → Request → Reply → S → Type 0) (most :
     pub answers : GoesBy most_answers Stays gives a.service b.service sent [] [] answered
     pub reads : ReadsPiece most answered a.left b.left piece b.talk
 
-  -- A round with progress: all that was owed is written, and the session is over, or owes something
-  -- new, or has read something.
+  -- A round with progress: all that was owed is written, and the session is over, or owes something new, or has read
+  -- something.
   pub record WholeRound (a b : Scene S) : Type 0 where
     pub round : Round a b
     pub all : round.sent.owed ≡ []
@@ -108,9 +109,9 @@ module _ {S : Type 0} (gives : S → Request → Reply → S → Type 0) (most :
   abbrev pub FewRounds : Scene S → Scene S → Type 0
   FewRounds a c = (n : ℕ) × (b : Scene S) × (n < most_rounds) × WholeRounds n a b × Round b c
 
-  -- The rounds of a turn that came so far. It stops before the last round that it may take only if
-  -- it would block, or has ended.
-  abbrev pub TakesRounds : Turn → Scene S → Scene S → Type 0
+  -- The rounds of a turn with this result. It stops before the last round that it may take only if it would block, or
+  -- has ended.
+  abbrev pub TakesRounds : Polled → Scene S → Scene S → Type 0
   TakesRounds Again a c = WholeRounds most_rounds a c
   TakesRounds NeedsInput a c = FewRounds a c
   TakesRounds NeedsRoom a c = FewRounds a c

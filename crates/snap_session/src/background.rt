@@ -1,9 +1,9 @@
-//! Work on requests that a service handed over.
+//! Background work on the requests that a service hands over.
 
 /// The completion of a request that was handed over.
 #[derive(Drop)]
-pub struct Done<O: Drop> {
-    /// The service that handed it over, by its place among the server's workers.
+pub struct Completion<O: Drop> {
+    /// The index of the worker whose service handed it over.
     pub worker: usize,
     /// The key with which the request was handed over.
     pub key: usize,
@@ -18,5 +18,5 @@ pub trait Background {
 
     /// Waits for a request and works on it. `None` if no more will arrive, since the services that
     /// handed requests over were dropped.
-    fn next_done(&mut self) -> Option<Done<Self::Outcome>>;
+    fn next_done(&mut self) -> Option<Completion<Self::Outcome>>;
 }

@@ -13,22 +13,23 @@ pub trait Service {
     /// The outcome of a request that was handed over.
     type Outcome;
 
-    /// The answers that it may give: from the old state the request may get this reply and leave
-    /// the new state.
+    /// The replies that it may give: in the old state the request may get this reply and leave the
+    /// new state.
     ghost gives: { Self → Request → Reply → Self → Type 0 };
 
     /// Whether it may hand a request over.
     ghost hands_over: { Type 0 };
 
-    /// The keys under which it may do so.
+    /// The keys with which it may hand a request over.
     ghost hands_over_under: { ℕ → Type 0 } = { λ _. Unit {0} };
 
-    /// How a reply fits the outcome of the request that was handed over.
+    /// Whether a reply fits the outcome of the request that was handed over.
     ghost tells: { Self.Outcome → Request → Reply → Type 0 } = { λ _ _ _. Unit {0} };
 
-    /// Answers a request, or returns `None` if it was handed over: then the service is unchanged,
-    /// and [`finish`](Service::finish) answers the request once its outcome has arrived. `key` is
-    /// the connection's key. A scan of some segments names at least one.
+    /// Answers a request, or returns `None` if it was handed over. Then the service is unchanged,
+    /// and [`finish`](Service::finish) answers the request once its outcome has arrived.
+    ///
+    /// `key` is the connection's key. A scan of some segments names at least one.
     fn answer(&mut self, request: &Request, key: usize) -> Option<Reply>
         requires askable { IsAskable request.now }
         ensures gives { IfSome result (λ r. Self.gives self.old request.now r self.new) }
@@ -37,13 +38,14 @@ pub trait Service {
         ensures may { IfNone result Self.hands_over }
         ensures under { IfNone result (Self.hands_over_under key) };
 
-    /// Answers a request that was handed over, by its outcome. A scan of some segments names at least one.
+    /// Answers a request that was handed over, by its outcome. A scan of some segments names at
+    /// least one.
     fn finish(&mut self, request: &Request, outcome: Self::Outcome) -> Reply
         requires askable { IsAskable request.now }
         ensures gives { Self.gives self.old request.now result self.new }
         ensures limits { IsInLimits result }
         ensures tells { Self.tells outcome request.now result };
 
-    /// Notes that a session refused a frame without the service: it was no request, or too large.
+    /// Called when a session refused a frame without the service: it was no request, or too large.
     fn refused(&self, _why: Refusal) {}
 }

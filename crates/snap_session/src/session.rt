@@ -1,8 +1,9 @@
-//! One connection's conversation as a value, over memory.
+//! The session: one connection's conversation as a value, over memory.
 //!
-//! A session holds the bytes that arrived and aren't answered, and the bytes that are owed to the
-//! peer. It does no input or output itself: its caller gives it what arrived, has it answer, and
-//! takes off what was written, in any pieces and any order of these calls (`specs/Talk.antt`).
+//! A session holds the bytes that arrived and aren't answered, and the pending output. It does no
+//! input or output itself: its caller gives it the bytes that arrived, has it answer, and removes
+//! the bytes that were written, in pieces of any size and in any order of these calls
+//! (`specs/Talk.antt`).
 ghost use Rattle.std.specs.Prelude.{◌≡◌, ◌≤◌, ◌<◌, ◌+◌, ◌↔◌, IsTrue, [], length, drop};
 ghost use Rattle.std.specs.Prelude.{Some, None, IfSome, true, false};
 ghost use Rattle.snap_frame.specs.Stream.{IsPartial};
@@ -19,7 +20,7 @@ ghost use Rattle.snap_session.specs.Talk.{
   most_owed,
   most_answers,
 };
-ghost use Rattle.snap_session.specs.Wants.{WantsAt};
+ghost use Rattle.snap_session.specs.Waits.{WaitsFor};
 ghost use Rattle.snap_session.specs.Hears.{Hears};
 
 use crate::service::Service;
@@ -29,8 +30,8 @@ use snap_frame::{Failure, Feed, MAX_PAYLOAD, Reply, Request, write_reply};
 use std::alloc::Global;
 use std::marker::Model;
 
-/// The limit of owed bytes from which on no request is answered: a peer that doesn't read its
-/// replies costs at most these and one more reply.
+/// The bytes of pending output from which on no request is answered: a peer that doesn't read its
+/// replies costs at most this much memory and one more reply.
 pub const MAX_OWED: usize = 65_536;
 
 /// The most requests that one call answers, so that one peer can't starve the others.
@@ -46,9 +47,9 @@ enum Heard {
     NoMemory,
 }
 
-/// The next event that a session needs.
+/// The event that a session needs next.
 #[derive(Clone, Copy, Debug, PartialEq, Eq, Drop)]
-pub enum Wants {
+pub enum WaitingFor {
     /// More bytes: no whole frame is held.
     Bytes,
     /// Another call: there may be more to answer.
@@ -57,15 +58,14 @@ pub enum Wants {
     Outcome,
 }
 
-/// One connection's state: the bytes that arrived and aren't answered, and the bytes that are owed
-/// to the peer.
+/// One connection's state: the bytes that arrived and aren't answered, and the pending output.
 ///
 /// It is over once a length above the limit arrived or memory ran out. From then on nothing is
-/// taken in or answered; what is owed may still be sent.
+/// taken in or answered; the pending output may still be written.
 #[derive(Drop)]
 pub struct Session {
     feed: Feed,
-    /// A request that was handed over and isn't answered.
+    /// The request that was handed over and isn't answered.
     asked: Option<Request>,
     owed: BytesMut,
     over: Option<Failure>,
@@ -93,7 +93,7 @@ impl Model for Session {
 }
 
 impl Session {
-    /// A session to which nothing has arrived. It takes no memory before the first piece.
+    /// A session to which nothing has arrived. It allocates nothing before the first bytes.
     pub fn new(alloc: Global) -> Session
         ensures { result ≡ start }
     {
@@ -105,7 +105,7 @@ impl Session {
         }
     }
 
-    /// The bytes that are to be written next, in order.
+    /// The pending output: the bytes that are to be written next, in order.
     pub fn owed(&self) -> &[u8]
         ensures { result.now ≡ self.now.owed }
     {
@@ -119,14 +119,15 @@ impl Session {
         self.over
     }
 
-    /// Whether it isn't over and no byte of an unfinished frame is held.
+    /// Whether it is between two frames: it isn't over, and no byte of an unfinished frame is held.
     pub fn is_between(&self) -> bool
         ensures { IsTrue result ↔ ((self.now.over ≡ None) × (self.now.held ≡ [])) }
     {
         self.over.is_none() && self.feed.is_between()
     }
 
-    /// Removes the first `n` bytes owed, which were written. There are at least `n`.
+    /// Removes the first `n` bytes of the pending output, which were written. There are at least
+    /// `n`.
     pub fn sent(&mut self, n: usize)
         requires { n ≤ length self.old.owed }
         ensures { self.new ≡ record self.old { owed = drop n self.old.owed } }
@@ -134,8 +135,8 @@ impl Session {
         self.owed.advance(n);
     }
 
-    /// Takes in a piece of the stream. If memory runs out the session is over. Not to be called on
-    /// a session that is over.
+    /// Takes in the next bytes of the stream. If memory runs out the session is over. Not to be
+    /// called on a session that is over.
     pub fn take_in(&mut self, piece: &[u8])
         requires { self.old.over ≡ None }
         ensures { HasTaken self.old piece.now self.new }
@@ -145,7 +146,7 @@ impl Session {
         }
     }
 
-    /// Appends the frame of a reply to what is owed; `false` if memory ran out, and then the
+    /// Appends the frame of a reply to the pending output; `false` if memory ran out, and then the
     /// session is over.
     fn owe(&mut self, reply: &Reply) -> bool
         requires { IsInLimits reply.now }
@@ -159,7 +160,7 @@ impl Session {
         true
     }
 
-    /// Takes the first whole frame off.
+    /// Removes the first whole frame from the bytes held, and decodes it.
     fn hear(&mut self) -> Heard
         requires { self.old.over ≡ None }
         ensures { Hears self.old result self.new }
@@ -187,7 +188,7 @@ impl Session {
         self.asked.is_none()
     }
 
-    /// Whether one more reply may be owed.
+    /// Whether one more request may be answered: the pending output is below [`MAX_OWED`].
     fn has_room(&self) -> bool
         ensures { IsTrue result ↔ (length self.now.owed < MAX_OWED) }
     {
@@ -204,7 +205,7 @@ impl Session {
         self.asked.take()
     }
 
-    /// Keeps a request that was handed over.
+    /// Stores a request that was handed over.
     fn keep(&mut self, request: Request)
         requires fits { length (payload request) ≤ max_payload }
         requires askable { IsAskable request }
@@ -214,23 +215,23 @@ impl Session {
     }
 
     /// Answers the first whole frame.
-    fn answer_one<S: Service>(&mut self, service: &mut S, key: usize) -> Wants
+    fn answer_one<S: Service>(&mut self, service: &mut S, key: usize) -> WaitingFor
         requires going { self.old.over ≡ None }
         requires free { self.old.asked ≡ None }
         ensures goes { GoesBy 1 Stays S.gives service.old service.new self.old [] [] self.new }
-        ensures wants { WantsAt (S.hands_over × S.hands_over_under key) result self.new }
+        ensures wants { WaitsFor (S.hands_over × S.hands_over_under key) result self.new }
         ensures bounded { length self.new.owed ≤ length self.old.owed + longest_frame }
         ensures held { self.new.over ≡ None → length self.new.held ≤ length self.old.held }
     {
         match self.hear() {
-            Heard::Nothing => return Wants::Bytes,
+            Heard::Nothing => return WaitingFor::Bytes,
             Heard::Asked(request) => match service.answer(&request, key) {
                 Some(reply) => {
                     self.owe(&reply);
                 }
                 None => {
                     self.keep(request);
-                    return Wants::Outcome;
+                    return WaitingFor::Outcome;
                 }
             },
             Heard::Malformed => {
@@ -249,38 +250,38 @@ impl Session {
             }
             Heard::NoMemory => {}
         }
-        Wants::Turn
+        WaitingFor::Turn
     }
 
     /// Answers the whole frames that are held, in order, until none is left, one is handed over,
-    /// [`MAX_OWED`] bytes are owed, or [`MAX_ANSWERS`] are answered.
+    /// [`MAX_OWED`] bytes of output are pending, or [`MAX_ANSWERS`] are answered.
     ///
     /// A frame that is no request is refused as malformed. A length above the limit is refused, and
     /// the session is over. `key` is the connection's key, with which requests are handed over. Not
     /// to be called on a session that is over.
-    pub fn answer<S: Service>(&mut self, service: &mut S, key: usize) -> Wants
+    pub fn answer<S: Service>(&mut self, service: &mut S, key: usize) -> WaitingFor
         requires { self.old.over ≡ None }
         ensures goes { Goes Stays S.gives service.old service.new self.old [] [] self.new }
         ensures few { GoesBy most_answers Stays S.gives service.old service.new
             self.old [] [] self.new }
-        ensures wants { WantsAt
+        ensures wants { WaitsFor
             (self.old.asked ≡ None → S.hands_over × S.hands_over_under key) result self.new }
         ensures bounded { length self.old.owed ≤ most_owed → length self.new.owed ≤ most_owed }
         ensures held { self.new.over ≡ None → length self.new.held ≤ length self.old.held }
     {
         if !self.is_free() {
-            return Wants::Outcome;
+            return WaitingFor::Outcome;
         }
         for _ in 0..MAX_ANSWERS {
             if self.over().is_some() || !self.has_room() {
-                return Wants::Turn;
+                return WaitingFor::Turn;
             }
             match self.answer_one(service, key) {
-                Wants::Turn => {}
+                WaitingFor::Turn => {}
                 other => return other,
             }
         }
-        Wants::Turn
+        WaitingFor::Turn
     }
 
     /// Answers the request that was handed over. If there is none, the outcome is dropped and

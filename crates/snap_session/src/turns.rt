@@ -1,10 +1,10 @@
-//! A session over any reader and writer, by turns.
+//! Turns: runs a session over any reader and writer, a limited number of rounds at a time.
 ghost use Rattle.std.specs.Prelude.{◌≡◌, ◌<◌, ◌≤◌, ◌↔◌, length, [], None, OnSome};
 ghost use Rattle.snap_session.specs.Talk.{Stays, most_owed, HoldsFrameAnd};
 ghost use Rattle.snap_session.specs.Turns.{Turns, Sends, StandsAt, Serves, TakesRounds};
 
 use crate::service::Service;
-use crate::session::{Session, Wants};
+use crate::session::{Session, WaitingFor};
 use snap_frame::Failure;
 use std::alloc::Global;
 use std::io;
@@ -20,11 +20,11 @@ const MAX_ROUNDS: u32 = 16;
 /// Why a connection ended.
 #[derive(Clone, Copy, Debug, PartialEq, Eq, Drop)]
 pub enum End {
-    /// The input ended between frames.
+    /// The input ended between two frames.
     Closed,
     /// The input ended inside a frame.
     Truncated,
-    /// A length above the limit arrived: it was refused, as the last reply.
+    /// A length above the limit arrived; its refusal was the last reply.
     TooLarge,
     /// A read failed.
     ReadFailed,
@@ -34,29 +34,29 @@ pub enum End {
     NoMemory,
 }
 
-/// How far a turn came.
+/// The result of a turn: what the session waits for, or its end.
 #[derive(Clone, Copy, Debug, PartialEq, Eq, Drop)]
-pub enum Turn {
-    /// There may be more to do at once.
+pub enum Polled {
+    /// Nothing: there may be more to do at once.
     Again,
-    /// All that arrived is answered and written.
+    /// Input: all that arrived is answered and written.
     NeedsInput,
-    /// The writer takes no more bytes for now.
+    /// The writer, which takes no more bytes for now.
     NeedsRoom,
-    /// A request was handed over, and its outcome hasn't arrived.
+    /// The outcome of a request that was handed over.
     NeedsOutcome,
     /// The connection has ended.
     Over(End),
 }
 
-/// How far a write of what is owed came.
+/// The result of writing the pending output.
 enum Sent {
     All,
     Blocked,
     Failed,
 }
 
-/// Writes what is owed, as far as the writer takes it.
+/// Writes the pending output, as far as the writer takes it.
 fn send_owed<W: Write>(session: &mut Session, writer: &mut W) -> Sent
     ensures sends { Sends session.old session.new (W.contents writer.old) (W.contents writer.new) }
     ensures all { result ≡ Sent.All ↔ session.new.owed ≡ [] }
@@ -72,13 +72,13 @@ fn send_owed<W: Write>(session: &mut Session, writer: &mut W) -> Sent
     Sent::All
 }
 
-/// Takes one turn of at most 16 rounds: each writes what is owed, answers what is held and reads
-/// one piece, in this order. It ends sooner if one of them would block.
+/// Takes one turn of at most 16 rounds. Each round writes the pending output, answers the frames
+/// held and reads once, in this order. The turn ends earlier if one of them would block.
 ///
 /// A reader or writer reports by `WouldBlock` that it would block. Every other error ends the
-/// connection without a retry, and so does a write that takes no byte. Nothing is read while bytes
-/// are owed, and nothing is answered while [`MAX_OWED`](crate::MAX_OWED) bytes or more are. `piece`
-/// is the buffer of a read and isn't empty.
+/// connection without a retry, and so does a write that takes no byte. Nothing is read while output
+/// is pending, and nothing is answered while [`MAX_OWED`](crate::MAX_OWED) bytes of it or more are.
+/// `piece` is the read buffer and isn't empty.
 pub fn proceed<R: Read, W: Write, S: Service>(
     session: &mut Session,
     reader: &mut R,
@@ -86,7 +86,7 @@ pub fn proceed<R: Read, W: Write, S: Service>(
     service: &mut S,
     key: usize,
     piece: &mut [u8],
-) -> Turn
+) -> Polled
     requires { 0 < length piece.old }
     ensures goes { Turns Stays S.gives service.old service.new session.old
         (R.remaining reader.old) (R.remaining reader.new)
@@ -95,7 +95,7 @@ pub fn proceed<R: Read, W: Write, S: Service>(
     ensures bounded { length session.old.owed ≤ most_owed → length session.new.owed ≤ most_owed }
     ensures free { (S.hands_over → ⊥) → session.old.asked ≡ None → session.new.asked ≡ None }
     ensures outcome { (S.hands_over → ⊥) → session.old.asked ≡ None
-        → result ≡ Turn.NeedsOutcome → ⊥ }
+        → result ≡ Polled.NeedsOutcome → ⊥ }
     ensures under { session.old.asked ≡ None
         → OnSome session.new.asked (S.hands_over_under key) }
 
@@ -119,42 +119,43 @@ pub fn proceed<R: Read, W: Write, S: Service>(
     for _ in 0..MAX_ROUNDS {
         match send_owed(session, writer) {
             Sent::All => {}
-            Sent::Blocked => return Turn::NeedsRoom,
-            Sent::Failed => return Turn::Over(End::WriteFailed),
+            Sent::Blocked => return Polled::NeedsRoom,
+            Sent::Failed => return Polled::Over(End::WriteFailed),
         }
         match session.over() {
             None => {}
-            Some(Failure::TooLarge) => return Turn::Over(End::TooLarge),
-            Some(Failure::NoMemory) => return Turn::Over(End::NoMemory),
+            Some(Failure::TooLarge) => return Polled::Over(End::TooLarge),
+            Some(Failure::NoMemory) => return Polled::Over(End::NoMemory),
         }
         match session.answer(service, key) {
-            Wants::Bytes => {}
-            Wants::Turn => continue,
-            Wants::Outcome if session.owed().is_empty() => return Turn::NeedsOutcome,
-            Wants::Outcome => continue,
+            WaitingFor::Bytes => {}
+            WaitingFor::Turn => continue,
+            WaitingFor::Outcome if session.owed().is_empty() => return Polled::NeedsOutcome,
+            WaitingFor::Outcome => continue,
         }
         if !session.owed().is_empty() {
             continue;
         }
         match reader.read(piece) {
-            Ok(0) if session.is_between() => return Turn::Over(End::Closed),
-            Ok(0) => return Turn::Over(End::Truncated),
+            Ok(0) if session.is_between() => return Polled::Over(End::Closed),
+            Ok(0) => return Polled::Over(End::Truncated),
             Ok(n) => session.take_in(&piece[..n]),
-            Err(error) if error.kind() == io::ErrorKind::WouldBlock => return Turn::NeedsInput,
-            Err(_) => return Turn::Over(End::ReadFailed),
+            Err(error) if error.kind() == io::ErrorKind::WouldBlock => return Polled::NeedsInput,
+            Err(_) => return Polled::Over(End::ReadFailed),
         }
     }
-    Turn::Again
+    Polled::Again
 }
 
-/// Answers all that is read, in order, until the input ends or something fails.
+/// Answers all that is read, in order, until the input ends or something fails. It reads at most
+/// 4,096 bytes at a time.
 ///
-/// It reads pieces of at most 4,096 bytes. By then it has written the frames of the replies of a
-/// run of the service over the requests that were read:
+/// By its end it has written the frames of the replies that the service gave to the requests that
+/// were read:
 ///
 /// - [`End::Closed`], [`End::Truncated`], [`End::ReadFailed`]: all of them;
 /// - [`End::TooLarge`]: all of them, followed by the refusal of that length;
-/// - [`End::NoMemory`]: whole frames, those of all requests that were answered but at most the last
+/// - [`End::NoMemory`]: whole frames, of all requests that were answered except perhaps the last
 ///   one, and no refusal after them;
 /// - [`End::WriteFailed`]: a beginning of these bytes, and not all of them.
 ///
@@ -175,11 +176,11 @@ pub fn serve<X: Wait, R: Read, W: Write, S: Service>(
     let mut piece = [0u8; 4096];
     for _ in rt.forever() {
         match proceed(&mut session, reader, writer, service, 0, &mut piece) {
-            Turn::Again => {}
-            Turn::NeedsInput => return End::ReadFailed,
-            Turn::NeedsRoom => return End::WriteFailed,
-            Turn::NeedsOutcome => unreachable!(),
-            Turn::Over(end) => return end,
+            Polled::Again => {}
+            Polled::NeedsInput => return End::ReadFailed,
+            Polled::NeedsRoom => return End::WriteFailed,
+            Polled::NeedsOutcome => unreachable!(),
+            Polled::Over(end) => return end,
         }
     }
     unreachable!()

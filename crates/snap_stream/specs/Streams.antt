@@ -1,4 +1,4 @@
--- What a program reads from and writes to its streams, as far as their bytes are known.
+-- The bytes that a program reads from and writes to its streams, as far as they are known.
 use Rattle.std.specs.Prelude.{◌≡◌, ◌<◌, ◌⊎◌, ℕ, Bool, true, false, List, ◌++◌, length, Option}
 use Rattle.std.specs.Prelude.{IfSome, codes, take, string_bytes, String}
 use Rattle.std.specs.Global.{Global}

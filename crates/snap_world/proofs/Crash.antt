@@ -19,7 +19,8 @@ use Rattle.snap_history.proofs.Pairs.{element, partner}
 use Rattle.snap_world.specs.Devices.{AreRefilled, IsRefilled}
 use Rattle.snap_world.specs.inside.Drives.{IsDriveAt, DrivesDown, HoldsEither, IsCrashed, AreCrashed, device_of}
 use Rattle.snap_world.specs.inside.Halt.{IsHalted, IsScannerHalted}
-use Rattle.snap_world.specs.Machine.{State, WriterState, ScannerState, Pending, Begun, Closed, crashed, crashed_pending, crashed_writer}
+use Rattle.snap_world.specs.Machine.{State, WriterState, ScannerState, Pending, Begun, Closed, crashed}
+use Rattle.snap_world.specs.Machine.{crashed_pending, crashed_writer}
 use Rattle.snap_world.specs.NodePhases.{all_idle}
 use Rattle.snap_world.specs.inside.NodeStands.{NodeStand, ActorsRest, WriterRests, ScannerRests, IsUp, IsDown, IsNodeAt}
 use Rattle.snap_world.specs.inside.NodeSteps.{store_left}

@@ -1,5 +1,6 @@
 -- An event of a writer or a scanner, as a step of the node.
-use Rattle.std.proofs.Common.{◌≡◌, inl, inr, ⊎_elim, ℕ, List, [], length, map, refl, ap, sym, ◌∙◌, subst, Result, Ok, Err, IfOk}
+use Rattle.std.proofs.Common.{◌≡◌, inl, inr, ⊎_elim, ℕ, List, [], length, map, refl, ap, sym, ◌∙◌, subst, Result}
+use Rattle.std.proofs.Common.{Ok, Err, IfOk}
 use Rattle.std.proofs.Math.Logic.{∥∥₁_map}
 use Rattle.std.specs.declared.alloc.AllocError.{AllocError}
 use Rattle.snap_disk.specs.Device.{Device}
@@ -16,7 +17,8 @@ use Rattle.snap_world.specs.declared.event.Actor.TheVariants as actor
 use Rattle.snap_world.specs.declared.event.Event.{Event}
 use Rattle.snap_world.specs.declared.event.Event.TheVariants.{Serve}
 use Rattle.snap_world.specs.declared.event.Reply.{Reply}
-use Rattle.snap_world.specs.declared.event.Reply.TheVariants.{Begun, Number, Shown, Stored, ScanBegun, Memory, Part, NotNow}
+use Rattle.snap_world.specs.declared.event.Reply.TheVariants.{Begun, Number, Shown, Stored, ScanBegun, Memory, Part}
+use Rattle.snap_world.specs.declared.event.Reply.TheVariants.{NotNow}
 use Rattle.snap_world.specs.declared.node.Node.{Node}
 use Rattle.snap_persist.specs.declared.persist.NextCall.{NextCall}
 use Rattle.snap_world.specs.declared.node.NodePhase.{NodePhase}

@@ -6,10 +6,12 @@ use Rattle.snap_scan.specs.Looks.{IsDecided}
 use Rattle.snap_scan.specs.Sets.{size}
 use Rattle.snap_world.specs.Answers.{ScanState, number_at, all_of, set_of}
 use Rattle.snap_world.specs.inside.Gathers.{Gathers, IsLookOf, IsUnderWay, MayLook, RegistersStand}
-use Rattle.snap_world.specs.Machine.{State, WriterState, ScannerState, Closed, Opened, IsLook, with_writer, with_scanner}
+use Rattle.snap_world.specs.Machine.{State, WriterState, ScannerState, Closed, Opened, IsLook, with_writer}
+use Rattle.snap_world.specs.Machine.{with_scanner}
 use Rattle.snap_world.specs.NodePhases.{WorldPhases, LooksOn, up}
 use Rattle.snap_world.specs.Phases.{WriterIs, ScannerIs, writer_to, scanner_to}
-use Rattle.snap_world.specs.inside.Stands.{ActorsStand, Stand, WriterStands, ScannerStands, HasBegun, IsAtPhase, IsScannerAt, is_fenced}
+use Rattle.snap_world.specs.inside.Stands.{ActorsStand, Stand, WriterStands, ScannerStands, HasBegun, IsAtPhase}
+use Rattle.snap_world.specs.inside.Stands.{IsScannerAt, is_fenced}
 use Rattle.snap_world.specs.inside.Steps.{IsActorsStep, phases_of_actors}
 use Rattle.snap_world.specs.declared.event.Actor.TheVariants as actor
 use Rattle.snap_world.specs.declared.event.Event.TheVariants.{Look}
@@ -24,8 +26,10 @@ use Rattle.snap_world.specs.declared.scanner.Scanner.{Scanner}
 use Rattle.snap_world.specs.declared.scanner.ScannerPhase.{ScannerPhase}
 use Rattle.snap_world.specs.declared.scanner.ScannerPhase.TheVariants as scanner
 use Rattle.snap_world.proofs.ScanEnds.{undecided, look_from}
-use Rattle.snap_world.proofs.Moves.{WriterFound, ScannerFound, the_writer, the_scanner, within, writer_moves, scanner_moves, has_answer}
-use Rattle.snap_world.proofs.PhaseMoves.{writer_read, scanner_read, scanner_there, with_actors_writer, with_actors_scanner}
+use Rattle.snap_world.proofs.Moves.{WriterFound, ScannerFound, the_writer, the_scanner, within, writer_moves}
+use Rattle.snap_world.proofs.Moves.{scanner_moves, has_answer}
+use Rattle.snap_world.proofs.PhaseMoves.{writer_read, scanner_read, scanner_there, with_actors_writer}
+use Rattle.snap_world.proofs.PhaseMoves.{with_actors_scanner}
 use Rattle.snap_world.proofs.PhaseMoves.{writer_moved, writer_kept, scanner_moved, scanner_kept, came}
 
 -- the registers and the collector represent a state and a scan, which has a look to make

@@ -1,5 +1,6 @@
 -- One look of a collector is a look of the abstract machine.
-use Rattle.std.proofs.Common.{◌≡◌, ℕ, ◌+◌, ◌<◌, ◌≤◌, inl, inr, List, [], ◌∷◌, ◌++◌, length, take, get_or, Option, Some, None, slice_get}
+use Rattle.std.proofs.Common.{◌≡◌, ℕ, ◌+◌, ◌<◌, ◌≤◌, inl, inr, List, [], ◌∷◌, ◌++◌, length, take, get_or, Option}
+use Rattle.std.proofs.Common.{Some, None, slice_get}
 use Rattle.std.proofs.Common.{slice_set, slice_index, refl, ap, sym, ◌∙◌, subst, arith}
 use Rattle.std.proofs.Math.Logic.{∥∥₁_elim}
 use Rattle.std.proofs.Props.{props}
@@ -17,7 +18,8 @@ use Rattle.snap_scan.specs.declared.next.Next.TheVariants.{Look, Clean, Borrow}
 use Rattle.snap_scan.specs.Collects.{IsRising, IsKept, Collects}
 use Rattle.snap_scan.proofs.Collects.{same_turn, Collects-push, no_fall, rose, borrow_moment, clean_moment}
 use Rattle.snap_world.specs.Answers.{ScanState, number_at, value_at, numbers_of, values_of}
-use Rattle.snap_world.specs.inside.Gathers.{MayLook, Gathers, Gathered, RegisterStands, ViewStands, RegistersStand, picked}
+use Rattle.snap_world.specs.inside.Gathers.{MayLook, Gathers, Gathered, RegisterStands, ViewStands, RegistersStand}
+use Rattle.snap_world.specs.inside.Gathers.{picked}
 use Rattle.snap_world.specs.Machine.{State, WriterState, ShownWith, Decides, looked, IsLook}
 use Rattle.snap_world.specs.declared.register.Register.{Register}
 use Rattle.snap_world.specs.declared.collector.Collector.{Collector}
@@ -213,7 +215,8 @@ module _ (n set : ℕ) (x : State) (g : ℕ) (s : ScanState) (col : Collector)
         let old : length col.memory.items ≡ n = gat.size in
         let long : length memory ≡ n = length-set col.memory.items j value ∙ old in
         let within : j < n = turn_within in
-        let c : Collected now (s.told ++ k ∷ []) memory = subst (Collects (List ℕ) (size set) (numbers_of set h) (values_of set h) s.start now
+        let c : Collected now (s.told ++ k ∷ []) memory = subst (Collects (List ℕ) (size set) (numbers_of set h)
+        (values_of set h) s.start now
         (s.told ++ k ∷ []))
         (sym (picked-set set col.memory.items place j value at (omega arith)))
         (Collects-push _ _ _ _ _ _ _ _ collects now place gat.end here end2

@@ -1,11 +1,13 @@
 -- The parts of a world that stay when one writer, one scanner or the history changes.
-use Rattle.std.proofs.Common.{◌≡◌, ◌≢◌, ℕ, ◌+◌, ◌^◌, ◌<◌, ◌≤◌, List, [], ◌∷◌, ◌++◌, length, take, get_or, Option, Some, slice_index}
+use Rattle.std.proofs.Common.{◌≡◌, ◌≢◌, ℕ, ◌+◌, ◌^◌, ◌<◌, ◌≤◌, List, [], ◌∷◌, ◌++◌, length, take, get_or, Option}
+use Rattle.std.proofs.Common.{Some, slice_index}
 use Rattle.std.proofs.Common.{slice_get, refl, ap, sym, ◌∙◌, subst, arith}
 use Rattle.std.specs.Vec.{with_item}
 use Rattle.std.proofs.lemmas.List.{length-set, length_push}
 use Rattle.std.proofs.lemmas.Option.{slice_get_read, same_Some}
 use Rattle.snap_history.specs.History.{Update, from_nothing, number_after, value_after, IsMemory}
-use Rattle.snap_history.proofs.Moments.{number-push, number-push_other, value-push, value-push_other, take-push, number-le}
+use Rattle.snap_history.proofs.Moments.{number-push, number-push_other, value-push, value-push_other, take-push}
+use Rattle.snap_history.proofs.Moments.{number-le}
 use Rattle.snap_history.proofs.Pairs.{partner, Pairs-set, Pairs-left, Pairs-right, Pairs-map}
 use Rattle.snap_scan.specs.Course.{IsNext}
 use Rattle.snap_scan.specs.Sets.{named, size}
@@ -14,12 +16,15 @@ use Rattle.snap_scan.specs.declared.next.Next.{Next}
 use Rattle.snap_scan.specs.declared.next.Next.TheVariants.{Look, Clean, Borrow}
 use Rattle.snap_scan.specs.Looks.{IsDecided}
 use Rattle.snap_scan.proofs.Collects.{Collects-none, Collects-same, IsMoment-same}
-use Rattle.snap_world.specs.Answers.{ScanState, scan_from, IsAnswer, number_at, value_at, all_of, set_of, numbers_of, values_of}
-use Rattle.snap_world.specs.inside.Gathers.{Gathers, Gathered, IsSeen, picked, IsUnderWay, RegisterStands, IsView, ViewStands}
+use Rattle.snap_world.specs.Answers.{ScanState, scan_from, IsAnswer, number_at, value_at, all_of, set_of}
+use Rattle.snap_world.specs.Answers.{numbers_of, values_of}
+use Rattle.snap_world.specs.inside.Gathers.{Gathers, Gathered, IsSeen, picked, IsUnderWay, RegisterStands, IsView}
+use Rattle.snap_world.specs.inside.Gathers.{ViewStands}
 use Rattle.snap_world.specs.inside.Gathers.{RegistersStand}
 use Rattle.snap_world.specs.Machine.{State, WriterState, ScannerState, with_writer, with_scanner, with_update}
 use Rattle.snap_world.specs.Phases.{WriterIs, ScannerIs}
-use Rattle.snap_world.specs.inside.Stands.{HasBegun, HasAnswer, WriterStands, ScannerStands, ActorsStand, IsAtPhase, IsScannerAt, is_fenced}
+use Rattle.snap_world.specs.inside.Stands.{HasBegun, HasAnswer, WriterStands, ScannerStands, ActorsStand, IsAtPhase}
+use Rattle.snap_world.specs.inside.Stands.{IsScannerAt, is_fenced}
 use Rattle.snap_world.specs.inside.Steps.{phases_of_actors}
 use Rattle.snap_world.specs.declared.register.Register.{Register}
 use Rattle.snap_world.specs.declared.collector.Collector.{Collector}
@@ -32,7 +37,8 @@ use Rattle.snap_world.specs.declared.scanner.ScannerPhase.{ScannerPhase}
 use Rattle.snap_world.specs.declared.scanner.ScannerPhase.TheVariants as scanner
 use Rattle.snap_world.proofs.Elements.{each-set}
 use Rattle.snap_world.proofs.Looks.{number_now}
-use Rattle.snap_world.proofs.PhaseMoves.{writer_there, writer_read, scanner_read, with_actors_writer, with_actors_scanner}
+use Rattle.snap_world.proofs.PhaseMoves.{writer_there, writer_read, scanner_read, with_actors_writer}
+use Rattle.snap_world.proofs.PhaseMoves.{with_actors_scanner}
 use Rattle.snap_world.proofs.ScanEnds.{first_look}
 
 -- a scan that has read no number

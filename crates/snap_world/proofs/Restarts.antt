@@ -1,5 +1,6 @@
 -- The calls of a restart, as steps of the node.
-use Rattle.std.proofs.Common.{◌≡◌, ℕ, ◌+◌, ◌<◌, inl, inr, true, false, List, length, get_or, Some, slice_get, slice_set, refl}
+use Rattle.std.proofs.Common.{◌≡◌, ℕ, ◌+◌, ◌<◌, inl, inr, true, false, List, length, get_or, Some, slice_get}
+use Rattle.std.proofs.Common.{slice_set, refl}
 use Rattle.std.proofs.Common.{ap, sym, ◌∙◌, subst, arith}
 use Rattle.std.specs.Prelude.{nat_lt, if◌then◌else◌}
 use Rattle.std.specs.Vec.{with_item, vec_len}

@@ -1,5 +1,6 @@
 -- One more step at the end of a run.
-use Rattle.std.proofs.Common.{◌≡◌, ℕ, ◌+◌, ◌<◌, List, [], ◌∷◌, ◌++◌, length, take, get_or, Result, Ok, Err, IfOk, refl, ap, sym, ◌∙◌}
+use Rattle.std.proofs.Common.{◌≡◌, ℕ, ◌+◌, ◌<◌, List, [], ◌∷◌, ◌++◌, length, take, get_or, Result, Ok, Err, IfOk}
+use Rattle.std.proofs.Common.{refl, ap, sym, ◌∙◌}
 use Rattle.std.proofs.Common.{subst}
 use Rattle.std.proofs.lemmas.List.{take_more}
 use Rattle.std.specs.declared.alloc.AllocError.{AllocError}
@@ -11,10 +12,13 @@ use Rattle.snap_world.specs.Runs.{Configuration, Run}
 use Rattle.snap_world.specs.Surface.{StandsFor, IsRun, segments_of, configuration}
 use Rattle.snap_world.specs.declared.event.Actor.TheVariants.{Writer, Scanner}
 use Rattle.snap_world.specs.declared.event.Event.{Event}
-use Rattle.snap_world.specs.declared.event.Event.TheVariants.{Begin, Look, Call, Fail, Show, Acknowledge, Scan, Pick, Answer, Crash}
+use Rattle.snap_world.specs.declared.event.Event.TheVariants.{Begin, Look, Call, Fail, Show, Acknowledge, Scan}
+use Rattle.snap_world.specs.declared.event.Event.TheVariants.{Pick, Answer, Crash}
 use Rattle.snap_world.specs.declared.event.Event.TheVariants.{Restart, RestartCall, RestartFail, Serve}
-use Rattle.snap_world.specs.declared.event.Reply.TheVariants.{Begun as Begun_reply, Number, Called, DeviceFailed, Shown as Shown_reply}
-use Rattle.snap_world.specs.declared.event.Reply.TheVariants.{Stored, ScanBegun, Memory, Part, Crashed, Restarting, NotNow}
+use Rattle.snap_world.specs.declared.event.Reply.TheVariants.{Begun as Begun_reply, Number, Called, DeviceFailed}
+use Rattle.snap_world.specs.declared.event.Reply.TheVariants.{Shown as Shown_reply}
+use Rattle.snap_world.specs.declared.event.Reply.TheVariants.{Stored, ScanBegun, Memory, Part, Crashed, Restarting}
+use Rattle.snap_world.specs.declared.event.Reply.TheVariants.{NotNow}
 use Rattle.snap_world.specs.declared.event.Reply.{Reply}
 use Rattle.snap_world.specs.declared.world.World.{World}
 

@@ -1,7 +1,8 @@
 -- The abstract machine: a history of updates, each writer's begun or shown update, the moments at
 -- which each scan began and looked last, and the moment of its answer.
 use Rattle.std.proofs.Common.{suc}
-use Rattle.std.specs.Prelude.{◌≡◌, ℕ, Bool, true, false, List, [], ◌∷◌, ◌++◌, length, map, Option, Some, None, slice_get, slice_set}
+use Rattle.std.specs.Prelude.{◌≡◌, ℕ, Bool, true, false, List, [], ◌∷◌, ◌++◌, length, map, Option, Some, None}
+use Rattle.std.specs.Prelude.{slice_get, slice_set}
 use Rattle.std.specs.Prelude.{take}
 use Rattle.snap_history.specs.History.{Update, from_nothing, number_after, IsMemory}
 use Rattle.snap_scan.specs.Looks.{IsDecided}
@@ -14,11 +15,14 @@ use Rattle.snap_world.specs.declared.scanner.Asked.{Asked}
 use Rattle.snap_world.specs.declared.scanner.Asked.TheVariants.{All, Only}
 use Rattle.snap_world.specs.declared.event.Actor.TheVariants.{Writer, Scanner}
 use Rattle.snap_world.specs.declared.event.Event.{Event}
-use Rattle.snap_world.specs.declared.event.Event.TheVariants.{Begin, Look, Call, Fail, Show, Acknowledge, Scan, Pick, Answer, Crash}
+use Rattle.snap_world.specs.declared.event.Event.TheVariants.{Begin, Look, Call, Fail, Show, Acknowledge, Scan}
+use Rattle.snap_world.specs.declared.event.Event.TheVariants.{Pick, Answer, Crash}
 use Rattle.snap_world.specs.declared.event.Event.TheVariants.{Restart, RestartCall, RestartFail, Serve}
 use Rattle.snap_world.specs.declared.event.Reply.{Reply}
-use Rattle.snap_world.specs.declared.event.Reply.TheVariants.{Begun as Begun_reply, Number, Called, DeviceFailed, Shown as Shown_reply}
-use Rattle.snap_world.specs.declared.event.Reply.TheVariants.{Stored, ScanBegun, Memory, Part, Crashed, Restarting, NotNow}
+use Rattle.snap_world.specs.declared.event.Reply.TheVariants.{Begun as Begun_reply, Number, Called, DeviceFailed}
+use Rattle.snap_world.specs.declared.event.Reply.TheVariants.{Shown as Shown_reply}
+use Rattle.snap_world.specs.declared.event.Reply.TheVariants.{Stored, ScanBegun, Memory, Part, Crashed, Restarting}
+use Rattle.snap_world.specs.declared.event.Reply.TheVariants.{NotNow}
 
 -- a writer's current update
 pub data Pending : Type 0 where

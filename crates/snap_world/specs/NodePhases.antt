@@ -1,6 +1,7 @@
 -- The phases of a world: of its node, of its writers and scanners, and of the stores on its
 -- devices.
-use Rattle.std.specs.Prelude.{◌≡◌, ◌⊎◌, ℕ, ◌+◌, ◌^◌, ◌<◌, nat_lt, true, if◌then◌else◌, List, [], ◌∷◌, ◌++◌, length, replicate, Some}
+use Rattle.std.specs.Prelude.{◌≡◌, ◌⊎◌, ℕ, ◌+◌, ◌^◌, ◌<◌, nat_lt, true, if◌then◌else◌, List, [], ◌∷◌, ◌++◌, length}
+use Rattle.std.specs.Prelude.{replicate, Some}
 use Rattle.std.specs.Prelude.{slice_get, slice_set}
 use Rattle.snap_scan.specs.Looks.{IsDecided}
 use Rattle.snap_scan.specs.Sets.{size}
@@ -16,10 +17,12 @@ use Rattle.snap_persist.specs.Stage.{store_calls}
 use Rattle.snap_world.specs.Calls.{store_call, opening_kind}
 use Rattle.snap_world.specs.declared.event.Actor.TheVariants as actor
 use Rattle.snap_world.specs.declared.event.Event.{Event}
-use Rattle.snap_world.specs.declared.event.Event.TheVariants.{Begin, Look, Show, Acknowledge, Scan, Pick, Answer, Call, Fail, Crash}
+use Rattle.snap_world.specs.declared.event.Event.TheVariants.{Begin, Look, Show, Acknowledge, Scan, Pick, Answer}
+use Rattle.snap_world.specs.declared.event.Event.TheVariants.{Call, Fail, Crash}
 use Rattle.snap_world.specs.declared.event.Event.TheVariants.{Restart, RestartCall, RestartFail, Serve}
 use Rattle.snap_world.specs.declared.event.Reply.{Reply}
-use Rattle.snap_world.specs.declared.event.Reply.TheVariants.{Begun, Number, Shown, Stored, ScanBegun, Called, DeviceFailed, Crashed}
+use Rattle.snap_world.specs.declared.event.Reply.TheVariants.{Begun, Number, Shown, Stored, ScanBegun, Called}
+use Rattle.snap_world.specs.declared.event.Reply.TheVariants.{DeviceFailed, Crashed}
 use Rattle.snap_world.specs.declared.event.Reply.TheVariants.{Restarting as Restarting_reply, Memory, Part, NotNow}
 use Rattle.snap_world.specs.declared.node.NodePhase.{NodePhase}
 use Rattle.snap_world.specs.declared.node.NodePhase.TheVariants.{Up, Down, Restarting, Ready}

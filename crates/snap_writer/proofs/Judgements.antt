@@ -10,7 +10,8 @@ use Rattle.snap_register.specs.Rule.{segments}
 use Rattle.snap_writer.specs.Writer.{WriterState, number_of, value_of}
 use Rattle.snap_writer.specs.Judge.{IsNext, IsJudged}
 use Rattle.snap_writer.specs.declared.judgement.Judgement.{Judgement}
-use Rattle.snap_writer.specs.declared.judgement.Judgement.TheVariants.{TooLong, Stored, Conflict, OutOfStep, Exhausted, Fenced, Worn, Go}
+use Rattle.snap_writer.specs.declared.judgement.Judgement.TheVariants.{TooLong, Stored, Conflict, OutOfStep}
+use Rattle.snap_writer.specs.declared.judgement.Judgement.TheVariants.{Exhausted, Fenced, Worn, Go}
 
 module _ {D : Type 0} (w : WriterState D) (k : ℕ) (v : List ℕ) where
   abbrev Ruled : Type 0

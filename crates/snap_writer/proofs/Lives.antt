@@ -1,5 +1,6 @@
 -- Updates and meetings as parts of a writer's life.
-use Rattle.std.proofs.Common.{◌≡◌, ◌⊎◌, ⊎_elim, ℕ, ◌+◌, inl, inr, List, [], ◌∷◌, Some, None, true, Result, Ok, Err, refl, ap, sym, subst}
+use Rattle.std.proofs.Common.{◌≡◌, ◌⊎◌, ⊎_elim, ℕ, ◌+◌, inl, inr, List, [], ◌∷◌, Some, None, true, Result, Ok, Err}
+use Rattle.std.proofs.Common.{refl, ap, sym, subst}
 use Rattle.std.specs.Prelude.{OnOk, OnErr}
 use Rattle.snap_disk.specs.Device.{MayLeave, IsSettled}
 use Rattle.snap_disk.specs.Time.{LeavesOnly}

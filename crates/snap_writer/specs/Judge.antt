@@ -8,7 +8,8 @@ use Rattle.snap_register.specs.Rule.{segments}
 use Rattle.snap_scan.specs.Looks.{most_looks}
 use Rattle.snap_writer.specs.Writer.{WriterState, number_of, value_of}
 use Rattle.snap_writer.specs.declared.judgement.Judgement.{Judgement}
-use Rattle.snap_writer.specs.declared.judgement.Judgement.TheVariants.{TooLong, Stored, Conflict, OutOfStep, Exhausted, Fenced, Worn, Go}
+use Rattle.snap_writer.specs.declared.judgement.Judgement.TheVariants.{TooLong, Stored, Conflict, OutOfStep}
+use Rattle.snap_writer.specs.declared.judgement.Judgement.TheVariants.{Exhausted, Fenced, Worn, Go}
 
 -- the update has the number after the last one shown
 abbrev pub IsNext : {D : Type 0} → WriterState D → ℕ → List ℕ → Type 0

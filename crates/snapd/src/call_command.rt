@@ -8,9 +8,9 @@ use crate::link::Link;
 use crate::remedy::remedy_of;
 use crate::time_limit::{Course, TimeLimit};
 use crate::tries::{Patience, Tries};
-use snap_call::ask;
+use snap_client_commands::ask;
 use snap_frame::SegmentValue;
-use snap_order::{Calling, Status, socket_path};
+use snap_order::{CallOptions, Status, socket_path};
 use std::io::{self, ErrorKind};
 use std::net::{Net, OpenStream, SocketAddr, TcpStream, ToSocketAddrs};
 use std::os::unix::net::UnixStream;
@@ -19,10 +19,10 @@ use std::sync::atomic::Ordering;
 use std::thread;
 use std::time::Duration;
 
-/// Does the order `call`, and returns the exit status. An address that the system doesn't take
-/// fails before any connection is made. Two more lines on standard error say why the system made no
-/// connection, and that the time of the call was over.
-pub fn call<N: Net + Clock>(net: &N, rt: &HostRuntime, order: &Calling<'_>) -> Status
+/// Runs the command `call`, and returns the exit status. An address that the system doesn't take fails before any
+/// connection is made. Two more lines on standard error say why the system made no connection, and that the time of the
+/// call was over.
+pub fn call<N: Net + Clock>(net: &N, rt: &HostRuntime, order: &CallOptions<'_>) -> Status
     requires { IsCallable order.now }
 {
     let address = order.address;
@@ -71,7 +71,7 @@ pub fn fetch<N: Net + Clock>(
         Some(_) => None,
         None => Some(tries),
     };
-    match snap_call::fetch(rt.alloc(), address, most, &mut connect, &mut rt.stderr()) {
+    match snap_client_commands::fetch(rt.alloc(), address, most, &mut connect, &mut rt.stderr()) {
         Ok(values) => Ok(values),
         Err(ended) => {
             say_why(rt, address, patience, ended.status, &course);

@@ -1,10 +1,10 @@
 //! Messages on standard error about files and folders that can't be used.
 
 use crate::file_system::remedy_of;
-use crate::folder::FolderTrouble;
+use crate::folder::FolderReadFault;
 use snap_devices::FileFault;
 use snap_disk::Refusal;
-use snap_file_commands::CommandFailure;
+use snap_file_commands::CommandFault;
 use snap_order::Status;
 use snap_stream::complain;
 use std::fmt::Display;
@@ -60,14 +60,14 @@ pub fn fail_twice(rt: &HostRuntime, first: &str, second: &str) -> Status {
 
 /// Prints why the files of a folder can't be used. If the reason is in the files themselves, the
 /// status is [`Status::Refused`].
-pub fn fail_in(rt: &HostRuntime, trouble: &FolderTrouble<'_>) -> Status {
+pub fn fail_in(rt: &HostRuntime, trouble: &FolderReadFault<'_>) -> Status {
     match trouble {
-        FolderTrouble::Path { file, fault } => fail_at(rt, file, fault),
-        FolderTrouble::Refused(why) => {
+        FolderReadFault::Path { file, fault } => fail_at(rt, file, fault),
+        FolderReadFault::Refused(why) => {
             say(rt, why);
             Status::Refused
         }
-        FolderTrouble::NoMemory => stop_without_memory(rt),
+        FolderReadFault::NoMemory => stop_without_memory(rt),
     }
 }
 
@@ -81,11 +81,11 @@ pub fn fail_at_folder(rt: &HostRuntime, folder: &str, reason: io::Error) -> Stat
 }
 
 /// Prints why the program stops.
-pub fn stop(rt: &HostRuntime, failure: &CommandFailure) -> Status {
+pub fn stop(rt: &HostRuntime, failure: &CommandFault) -> Status {
     failure.report(rt.alloc(), &mut rt.stderr()).status
 }
 
 /// Prints that memory ran out.
 pub fn stop_without_memory(rt: &HostRuntime) -> Status {
-    stop(rt, &CommandFailure::Refused(Refusal::NoMemory))
+    stop(rt, &CommandFault::Refused(Refusal::NoMemory))
 }

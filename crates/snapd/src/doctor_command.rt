@@ -3,16 +3,16 @@ ghost use Rattle.std.specs.Prelude.{◌≡◌, length};
 
 use crate::complaint::{stop, stop_without_memory};
 use crate::file_system::{file_system_of, is_taken, keeps_locks, remedy_of, try_as_server};
-use crate::folder::{FolderTrouble, SegmentContents, contents_of, order_of, segment_files};
+use crate::folder::{FolderReadFault, SegmentContents, contents_of, order_of, segment_files};
 use crate::store_times::{MeasureFault, STORED_LEN, STORES, measure};
 use snap_devices::FileFault;
-use snap_file_commands::{CommandFailure, SegmentPlace};
-use snap_order::{Examination, Status};
+use snap_file_commands::{CommandFault, SegmentPlace};
+use snap_order::{DoctorOptions, Status};
 use std::io::{self, ErrorKind};
 
 /// Checks the folder's files and its file system, and prints a line for each. The status is
 /// [`Status::Refused`] if something has to be repaired before the folder can be served.
-pub fn examine(rt: &HostRuntime, order: &Examination<'_>) -> Status {
+pub fn examine(rt: &HostRuntime, order: &DoctorOptions<'_>) -> Status {
     let files = match segment_files(rt, order.folder) {
         Ok(files) => files,
         Err(status) => return status,
@@ -21,12 +21,12 @@ pub fn examine(rt: &HostRuntime, order: &Examination<'_>) -> Status {
         Ok(true) => Status::Done,
         Ok(false) => Status::Refused,
         Err(reason) if reason.kind() == ErrorKind::OutOfMemory => stop_without_memory(rt),
-        Err(reason) => stop(rt, &CommandFailure::Output(reason)),
+        Err(reason) => stop(rt, &CommandFault::Output(reason)),
     }
 }
 
 /// Prints the whole report. Returns whether the folder can be served.
-fn report(rt: &HostRuntime, order: &Examination<'_>, files: &[String]) -> io::Result<bool> {
+fn report(rt: &HostRuntime, order: &DoctorOptions<'_>, files: &[String]) -> io::Result<bool> {
     let are_whole = report_files(rt, order.folder, files)?;
     let are_kept = report_file_system(rt, order.folder, files)?;
     let are_stored = !order.is_measured || report_stores(rt, order.folder)?;
@@ -77,7 +77,7 @@ fn report_file(
     match contents_of(rt, rt.alloc(), folder, file) {
         Ok(found) => report_segment(rt, file, found),
         Err(
-            FolderTrouble::Path {
+            FolderReadFault::Path {
                 fault: FileFault::InUse(_),
                 ..
             },
@@ -103,7 +103,8 @@ fn report_segment(rt: &HostRuntime, file: &str, found: SegmentContents) -> io::R
     let SegmentPlace { index, count } = found.place;
     let Some(number) = found.number else {
         rt.print(&format_args!(
-            "{file}: segment {index} of {count}, but its slots give no answer: see snapd check {file}, and bring a copy back, or save what a slot holds by snapd check {file} --slot S --value\n"
+            "{file}: segment {index} of {count}, but its slots give no answer: see snapd check {file}, and bring a \
+                copy back, or save what a slot holds by snapd check {file} --slot S --value\n"
         ))?;
         return Ok(FileState::Ill);
     };
@@ -150,17 +151,17 @@ fn report_order(
 }
 
 /// Reports what is wrong with a file or the folder.
-fn report_trouble(rt: &HostRuntime, trouble: &FolderTrouble<'_>) -> io::Result<()> {
+fn report_trouble(rt: &HostRuntime, trouble: &FolderReadFault<'_>) -> io::Result<()> {
     match trouble {
-        FolderTrouble::Path { file, fault } => {
+        FolderReadFault::Path { file, fault } => {
             rt.print(&format_args!("{file}: {fault}\n"))?;
             match fault {
                 FileFault::System(reason) => report_remedy(rt, file, reason),
                 _ => Ok(()),
             }
         }
-        FolderTrouble::Refused(why) => rt.print(&format_args!("{why}\n")),
-        FolderTrouble::NoMemory => Err(io::Error::from(ErrorKind::OutOfMemory)),
+        FolderReadFault::Refused(why) => rt.print(&format_args!("{why}\n")),
+        FolderReadFault::NoMemory => Err(io::Error::from(ErrorKind::OutOfMemory)),
     }
 }
 
@@ -216,7 +217,8 @@ fn report_stores(rt: &HostRuntime, folder: &str) -> io::Result<bool> {
     ))?;
     if times.are_too_short() {
         rt.print(&format_args!(
-            "{folder}: no disk was waited for in that time: it is memory, or a disk that answers before it keeps, and a power cut may take what was acknowledged\n"
+            "{folder}: no disk was waited for in that time: it is memory, or a disk that answers before it keeps, and \
+                a power cut may take what was acknowledged\n"
         ))?;
     }
     Ok(true)

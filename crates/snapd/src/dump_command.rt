@@ -6,15 +6,15 @@ ghost use Rattle.snap_order.specs.Order.{IsDumpable};
 use crate::call_command::fetch;
 use crate::complaint::{fail_at, fail_in, say, stop, stop_without_memory};
 use crate::files::{FirstFault, first_faults};
-use crate::folder::{FolderTrouble, files_in_order, segment_files};
+use crate::folder::{FolderReadFault, files_in_order, segment_files};
 use crate::tries::Patience;
 use jiff::Timestamp;
 use snap_devices::{FileDisk, FileFault, Lock};
 use snap_disk::Disk;
 use snap_dump::{DumpFault, document, read};
-use snap_file_commands::{CommandFailure, held_value};
+use snap_file_commands::{CommandFault, held_value};
 use snap_frame::SegmentValue;
-use snap_order::{Dumping, FileOrder, Holder, Status};
+use snap_order::{DumpOptions, DumpSource, FileOrder, Status};
 use snap_stream::write_whole;
 use std::alloc::Global;
 use std::fmt::InlineText;
@@ -24,7 +24,7 @@ const ROOM: usize = 32;
 
 /// Prints a dump, or nothing if it fails. Its time is taken before its values are requested, so it
 /// has every update that was acknowledged before that time.
-pub fn dump(rt: &HostRuntime, order: &Dumping<'_>) -> Status
+pub fn dump(rt: &HostRuntime, order: &DumpOptions<'_>) -> Status
     requires { IsDumpable order.now }
 {
     let time = match Timestamp::now(rt) {
@@ -35,8 +35,8 @@ pub fn dump(rt: &HostRuntime, order: &Dumping<'_>) -> Status
         }
     };
     let values = match order.holder {
-        Holder::Server { address } => server_values(rt, address, order),
-        Holder::Folder { folder } => folder_values(rt, rt.alloc(), folder),
+        DumpSource::Server { address } => server_values(rt, address, order),
+        DumpSource::Folder { folder } => folder_values(rt, rt.alloc(), folder),
     };
     match values {
         Ok(values) => print_dump(rt, time.as_str(), &values),
@@ -66,7 +66,7 @@ fn print_dump(rt: &HostRuntime, time: &str, values: &[SegmentValue]) -> Status {
     }
     match write_whole(&mut rt.stdout(), text.as_slice()) {
         Ok(()) => Status::Done,
-        Err(error) => stop(rt, &CommandFailure::Output(error)),
+        Err(error) => stop(rt, &CommandFault::Output(error)),
     }
 }
 
@@ -74,7 +74,7 @@ fn print_dump(rt: &HostRuntime, time: &str, values: &[SegmentValue]) -> Status {
 fn server_values(
     rt: &HostRuntime,
     address: &str,
-    order: &Dumping<'_>,
+    order: &DumpOptions<'_>,
 ) -> Result<Vec<SegmentValue>, Status>
     requires { IsDumpable order.now }
 {
@@ -95,7 +95,7 @@ fn folder_values(
     let files = segment_files(rt, folder)?;
     match files_in_order(rt, alloc, folder, &files) {
         Ok(files) => read_files(rt, alloc, &files),
-        Err(FolderTrouble::Path { file, fault }) => Err(fail_at_locked(rt, file, &fault)),
+        Err(FolderReadFault::Path { file, fault }) => Err(fail_at_locked(rt, file, &fault)),
         Err(trouble) => Err(fail_in(rt, &trouble)),
     }
 }
@@ -141,7 +141,7 @@ fn read_file<'f>(
         (disk, Ok(value)) => Ok((disk, value)),
         (_, Err(why)) => {
             let order = FileOrder::Get { file, index, count };
-            let refused = CommandFailure::Refused(why);
+            let refused = CommandFault::Refused(why);
             let ended = refused.report_of(alloc, &order, len, told, &mut rt.stderr());
             Err(ended.status)
         }

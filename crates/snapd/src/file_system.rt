@@ -91,9 +91,9 @@ fn has_locked(file: &File) -> io::Result<bool> {
     }
 }
 
-/// What denies this user the path, if the system gave this reason, with advice: a text that begins
-/// with the path in question. `command` makes the path, if it doesn't exist. `None` if there is no
-/// advice, or if memory runs out.
+/// The obstacle that denies this user the path, if the system gave this reason, with advice: a text that begins with
+/// the path at fault. `command` makes the path, if it doesn't exist. `None` if there is no advice, or if memory runs
+/// out.
 pub fn remedy_of(
     rt: &HostRuntime,
     path: &str,
@@ -149,7 +149,7 @@ fn folder_of(path: &str) -> Option<&str> {
     }
 }
 
-/// What is missing of a path that doesn't exist, with advice.
+/// The missing part of a path that doesn't exist, with advice.
 fn remedy_of_want(
     rt: &HostRuntime,
     alloc: Global,

@@ -5,11 +5,11 @@ ghost use Rattle.snap_devices.specs.FileDisk.{IsUncalled};
 use crate::complaint::{fail_at, fail_twice, fail_without};
 use snap_devices::{CallFault, FileDisk, FileFault, Lock};
 use snap_disk::{Disk, Refusal};
-use snap_file_commands::{Causes, CommandFailure, MigrationFailure, words_of_format};
-use snap_order::{FileOrder, Migration, Status};
+use snap_file_commands::{Causes, CommandFault, MigrationFault, words_of_format};
+use snap_order::{FileOrder, MigrateOptions, Status};
 use snap_segment::{OLD_FILE_LEN, Which};
 use snap_slot::FILE_LEN;
-use snap_stream::Cause;
+use snap_stream::SystemReason;
 use std::alloc::{AllocError, Global};
 use std::fs::File;
 use std::io;
@@ -39,7 +39,7 @@ impl FirstFault {
     }
 }
 
-impl Cause for FirstFault {
+impl SystemReason for FirstFault {
     // No contract says what another thread or the system put there.
     ghost may_give = { λ _ _. Unit {0} };
 
@@ -74,7 +74,7 @@ pub fn take_file<'a>(
     match open_file(rt, order, file, told) {
         Ok(disk) => Ok(disk),
         Err(FileFault::WrongFile { len }) => {
-            let refused = CommandFailure::Refused(Refusal::WrongFile);
+            let refused = CommandFault::Refused(Refusal::WrongFile);
             let ended = refused.report_of(rt.alloc(), order, len, told, &mut rt.stderr());
             Err(ended.status)
         }
@@ -114,7 +114,7 @@ pub fn writes(order: &FileOrder<'_>) -> bool {
 /// Opens the files of a migration by [`open_pair`]. Prints the reason if that fails.
 pub fn take_pair<'a>(
     rt: &'a HostRuntime,
-    order: &Migration<'_>,
+    order: &MigrateOptions<'_>,
     old: &'a str,
     new: &'a str,
     told_old: &'a FirstFault,
@@ -127,7 +127,7 @@ pub fn take_pair<'a>(
         Err(PairFault::Path { file, fault }) => Err(fail_at(rt, file, &fault)),
         Err(PairFault::WrongFile(which)) => {
             let why = Refusal::WrongFile;
-            let refused = MigrationFailure::OfFile { which, why };
+            let refused = MigrationFault::OfFile { which, why };
             let causes = Causes {
                 old: told_old,
                 new: told_new,

@@ -3,7 +3,7 @@
 //! Only the header of a file says which segment it is, so the files may have any names that end in
 //! `.seg`. `snap_file_commands` judges the headers; this module reads them.
 ghost use Rattle.std.specs.Prelude.{◌≡◌, ◌<◌, ◌≤◌, All, IfOk, length};
-ghost use Rattle.snap_file_commands.specs.SegmentOrder.{IsNameable};
+ghost use Rattle.snap_file_commands.specs.SegmentOrder.{IsFaultOf};
 ghost use Rattle.snap_order.specs.Limits.{MAX_COUNT};
 
 use crate::complaint::fail_at_folder;
@@ -16,7 +16,7 @@ use snap_file_commands::{
 };
 use snap_order::{OLD_FILE_LEN, Status};
 use snap_segment::{Findings, Header, check};
-use snap_stream::Cause;
+use snap_stream::SystemReason;
 use std::alloc::{AllocError, Global};
 use std::fs::{self, DirEntry};
 use std::io::{self, ErrorKind};
@@ -24,7 +24,7 @@ use std::path::Path;
 
 /// The reason why the files of a folder can't be used.
 #[derive(Drop)]
-pub enum FolderTrouble<'f> {
+pub enum FolderReadFault<'f> {
     /// The file at this path couldn't be opened.
     Path { file: &'f str, fault: FileFault },
     /// They are not the segments of one server.
@@ -33,9 +33,9 @@ pub enum FolderTrouble<'f> {
     NoMemory,
 }
 
-impl From<AllocError> for FolderTrouble<'_> {
+impl From<AllocError> for FolderReadFault<'_> {
     fn from(_error: AllocError) -> Self {
-        FolderTrouble::NoMemory
+        FolderReadFault::NoMemory
     }
 }
 
@@ -117,14 +117,14 @@ pub fn check_names<'f>(
     folder: &'f str,
     files: &'f [String],
     count: u8,
-) -> Result<(), FolderTrouble<'f>>
+) -> Result<(), FolderReadFault<'f>>
     requires { count ≤ MAX_COUNT }
 {
     for file in files {
         let file = file.as_str();
         let name = Path::new(file).file_name().unwrap_or("");
         if is_further(alloc, name, count)? {
-            return Err(FolderTrouble::Refused(FolderRefusal::Further {
+            return Err(FolderReadFault::Refused(FolderRefusal::Further {
                 folder,
                 file,
                 count,
@@ -140,7 +140,7 @@ pub fn files_in_order<'f>(
     alloc: Global,
     folder: &'f str,
     files: &'f [String],
-) -> Result<Vec<&'f str>, FolderTrouble<'f>>
+) -> Result<Vec<&'f str>, FolderReadFault<'f>>
     ensures some { IfOk result (λ paths. 0 < length paths.items) }
     ensures few { IfOk result (λ paths. length paths.items ≤ MAX_COUNT) }
 {
@@ -148,7 +148,7 @@ pub fn files_in_order<'f>(
     for file in files {
         let found = contents_of(rt, alloc, folder, file.as_str())?;
         if places.push(found.place).is_err() {
-            return Err(FolderTrouble::NoMemory);
+            return Err(FolderReadFault::NoMemory);
         }
     }
     order_of(alloc, folder, files, &places)
@@ -160,7 +160,7 @@ pub fn order_of<'f>(
     folder: &'f str,
     files: &'f [String],
     places: &[SegmentPlace],
-) -> Result<Vec<&'f str>, FolderTrouble<'f>>
+) -> Result<Vec<&'f str>, FolderReadFault<'f>>
     requires { length places.now ≡ length files.now }
     ensures some { IfOk result (λ paths. 0 < length paths.items) }
     ensures few { IfOk result (λ paths. length paths.items ≤ MAX_COUNT) }
@@ -202,7 +202,7 @@ pub fn contents_of<'f>(
     alloc: Global,
     folder: &'f str,
     file: &'f str,
-) -> Result<SegmentContents, FolderTrouble<'f>> {
+) -> Result<SegmentContents, FolderReadFault<'f>> {
     let findings = findings_of(rt, alloc, folder, file)?;
     contents_by(folder, file, &findings)
 }
@@ -214,11 +214,11 @@ pub fn findings_of<'f>(
     alloc: Global,
     folder: &'f str,
     file: &'f str,
-) -> Result<Findings, FolderTrouble<'f>> {
+) -> Result<Findings, FolderReadFault<'f>> {
     let told = FirstFault::new();
     let mut disk = match FileDisk::open(rt, file, Lock::Shared) {
         Ok(disk) => disk.telling(told.place()),
-        Err(fault) => return Err(FolderTrouble::Path { file, fault }),
+        Err(fault) => return Err(FolderReadFault::Path { file, fault }),
     };
     match check(&mut disk) {
         Ok(findings) => Ok(findings),
@@ -232,7 +232,7 @@ fn contents_by<'f>(
     folder: &'f str,
     file: &'f str,
     findings: &Findings,
-) -> Result<SegmentContents, FolderTrouble<'f>> {
+) -> Result<SegmentContents, FolderReadFault<'f>> {
     match findings.header {
         Header::Open { index, count } => Ok(SegmentContents {
             place: SegmentPlace { index, count },
@@ -253,30 +253,30 @@ fn no_segment<'f>(folder: &'f str, file: &'f str, len: u64) -> FileRefusal<'f> {
 }
 
 /// The refusal of one file.
-fn refused(why: FileRefusal<'_>) -> FolderTrouble<'_> {
-    FolderTrouble::Refused(FolderRefusal::File(why))
+fn refused(why: FileRefusal<'_>) -> FolderReadFault<'_> {
+    FolderReadFault::Refused(FolderRefusal::File(why))
 }
 
 /// The refusal of a file that couldn't be read.
-fn failure_of<'f>(alloc: Global, file: &'f str, told: &FirstFault) -> FolderTrouble<'f> {
+fn failure_of<'f>(alloc: Global, file: &'f str, told: &FirstFault) -> FolderReadFault<'f> {
     match told.text(alloc) {
         Some(reason) => refused(FileRefusal::Failed { file, reason }),
-        None => FolderTrouble::NoMemory,
+        None => FolderReadFault::NoMemory,
     }
 }
 
-/// What is wrong with the files, if their headers have these places.
+/// The fault of the files, if their headers have these places.
 fn trouble_of<'f>(
     alloc: Global,
     folder: &'f str,
     files: &'f [String],
     places: &[SegmentPlace],
     fault: FolderFault,
-) -> FolderTrouble<'f>
-    requires { IsNameable fault }
+) -> FolderReadFault<'f>
+    requires { IsFaultOf places.now fault }
 {
     let pair = |first, second| pair_of(folder, files, places, first, second);
-    FolderTrouble::Refused(match fault {
+    FolderReadFault::Refused(match fault {
         FolderFault::Empty => FolderRefusal::NoFiles { folder },
         FolderFault::NoPlace { file } => FolderRefusal::File(FileRefusal::NoSegment {
             folder,
@@ -285,7 +285,7 @@ fn trouble_of<'f>(
         FolderFault::OtherCount { file } => FolderRefusal::OtherCount(pair(0, file)),
         FolderFault::Twice { first, second } => FolderRefusal::Twice(pair(first, second)),
         FolderFault::Missing { index, count } => return missing(alloc, folder, index, count),
-        FolderFault::NoMemory => return FolderTrouble::NoMemory,
+        FolderFault::NoMemory => return FolderReadFault::NoMemory,
     })
 }
 
@@ -323,16 +323,16 @@ fn place_at(places: &[SegmentPlace], at: usize) -> SegmentPlace {
 }
 
 /// The refusal of a folder without the file of this segment.
-fn missing(alloc: Global, folder: &str, index: u8, count: u8) -> FolderTrouble<'_>
+fn missing(alloc: Global, folder: &str, index: u8, count: u8) -> FolderReadFault<'_>
     requires { index < MAX_COUNT }
 {
     match segment_path(alloc, folder, index) {
-        Ok(file) => FolderTrouble::Refused(FolderRefusal::Missing {
+        Ok(file) => FolderReadFault::Refused(FolderRefusal::Missing {
             folder,
             file,
             index,
             count,
         }),
-        Err(_) => FolderTrouble::NoMemory,
+        Err(_) => FolderReadFault::NoMemory,
     }
 }

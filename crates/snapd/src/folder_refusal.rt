@@ -51,7 +51,8 @@ impl Display for FolderRefusal<'_> {
                 count,
             } => write!(
                 f,
-                "{file}: it is none of {count} segments: give the count that {folder} was made with, or move it out of there"
+                "{file}: it is none of {count} segments: give the count that {folder} was made with, or move it out \
+                    of there"
             ),
             FolderRefusal::AnotherCount {
                 file,
@@ -80,7 +81,8 @@ fn write_another_count<W: Write>(
 ) -> fmt::Result {
     write!(
         f,
-        "{file}: it is of {count} segments, and --count is {wanted}: give --count {count}, or move it out of there; a folder of more is made of a dump, by snapd load"
+        "{file}: it is of {count} segments, and --count is {wanted}: give --count {count}, or move it out of there; a \
+            folder of more is made of a dump, by snapd load"
     )
 }
 
@@ -94,7 +96,8 @@ fn write_missing<W: Write>(
 ) -> fmt::Result {
     write!(
         f,
-        "{folder}: segment {index} of {count} is missing: bring its file back, or make a new and empty one with snapd format {file} --index {index} --count {count}"
+        "{folder}: segment {index} of {count} is missing: bring its file back, or make a new and empty one with snapd \
+            format {file} --index {index} --count {count}"
     )
 }
 
@@ -116,15 +119,18 @@ impl Display for FileRefusal<'_> {
         match self {
             FileRefusal::Unformatted { folder, file } => write!(
                 f,
-                "{file}: it was never formatted, or its header is gone: go on with the init or format that was cut off, or move it out of {folder}"
+                "{file}: it was never formatted, or its header is gone: go on with the init or format that was cut \
+                    off, or move it out of {folder}"
             ),
             FileRefusal::OldFormat { folder, file } => write!(
                 f,
-                "{file}: it has the length of the old format: carry it over with snapd migrate {file} NEW, and move it out of {folder}"
+                "{file}: it has the length of the old format: carry it over with snapd migrate {file} NEW, and move \
+                    it out of {folder}"
             ),
             FileRefusal::NoSegment { folder, file } => write!(
                 f,
-                "{file}: it is no segment file: bring a copy back if it was one, else move it out of {folder}, or give it a name that doesn't end in .seg"
+                "{file}: it is no segment file: bring a copy back if it was one, else move it out of {folder}, or \
+                    give it a name that doesn't end in .seg"
             ),
             FileRefusal::Failed { file, reason } => write!(
                 f,
@@ -151,7 +157,8 @@ impl Pair<'_> {
         let (first_count, count) = (self.first_place.count, self.place.count);
         write!(
             f,
-            "{file}: it is of {count} segments, and {first} of {first_count}: move the one that doesn't belong here out of {folder}"
+            "{file}: it is of {count} segments, and {first} of {first_count}: move the one that doesn't belong here \
+                out of {folder}"
         )
     }
 

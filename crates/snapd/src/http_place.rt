@@ -2,8 +2,8 @@
 
 use crate::complaint::{say, stop_without_memory};
 use mio::net::TcpListener;
-use snap_http::{Site, Stop};
-use snap_order::{MAX_SCANNERS, Serving, Status, socket_path};
+use snap_http::{HttpServer, StopHandle};
+use snap_order::{MAX_SCANNERS, ServeOptions, Status, socket_path};
 use std::io::{self, ErrorKind};
 use std::net::{Net, SocketAddr, ToSocketAddrs};
 use std::random::RandomSource;
@@ -15,8 +15,8 @@ use std::rt::Clock;
 pub struct HttpPlace {
     /// The address, with the port that the system gave.
     pub address: SocketAddr,
-    pub site: Site,
-    pub stop: Stop,
+    pub server: HttpServer,
+    pub stop: StopHandle,
 }
 
 /// Binds the order's address for HTTP, if it has one; from then on the system accepts connections
@@ -24,7 +24,7 @@ pub struct HttpPlace {
 pub fn open_http<X: Net + RandomSource + Clock>(
     threads: &X,
     rt: &HostRuntime,
-    order: &Serving<'_>,
+    order: &ServeOptions<'_>,
 ) -> Result<Option<HttpPlace>, Status> {
     let Some(address) = order.http else {
         return Ok(None);
@@ -75,7 +75,7 @@ fn refuse_socket(rt: &HostRuntime, address: &str) -> Status {
 
 /// Whether the server itself listens at this address too. With port 0 the system gives each another
 /// port.
-fn is_taken_twice(order: &Serving<'_>, address: &str) -> bool {
+fn is_taken_twice(order: &ServeOptions<'_>, address: &str) -> bool {
     !address.ends_with(":0") && order.addresses.iter().any(|own| *own == address)
 }
 
@@ -112,10 +112,10 @@ fn place_of<X: Net + RandomSource + Clock>(
     listener: TcpListener,
 ) -> io::Result<HttpPlace> {
     let address = listener.local_addr()?;
-    let (site, stop) = Site::new(threads, rt.alloc(), listener)?;
+    let (server, stop) = HttpServer::new(threads, rt.alloc(), listener)?;
     Ok(HttpPlace {
         address,
-        site,
+        server,
         stop,
     })
 }

@@ -5,9 +5,9 @@ use crate::surroundings::{Process, Seen};
 use log::{info, warn};
 use snap_args::is_everywhere;
 use snap_board::{Board, History};
-use snap_http::{Site, Stop};
+use snap_http::{HttpServer, StopHandle};
 use snap_log::Lines;
-use snap_serve::Onlook;
+use snap_serve::Observer;
 use snap_session::Service;
 use std::alloc::Global;
 use std::net::SocketAddr;
@@ -22,8 +22,8 @@ pub struct HttpView<'a, X: Wait + Clock> {
     process: Process<'a>,
     address: SocketAddr,
     /// Taken by the HTTP thread.
-    site: Mutex<Option<Site>>,
-    stop: Stop,
+    server: Mutex<Option<HttpServer>>,
+    stop: StopHandle,
 }
 
 impl<'a, X: Wait + Clock> HttpView<'a, X> {
@@ -36,7 +36,7 @@ impl<'a, X: Wait + Clock> HttpView<'a, X> {
     ) -> HttpView<'a, X> {
         let HttpPlace {
             address,
-            site,
+            server,
             stop,
         } = place;
         HttpView {
@@ -44,19 +44,24 @@ impl<'a, X: Wait + Clock> HttpView<'a, X> {
             log,
             process,
             address,
-            site: Mutex::new(Some(site)),
+            server: Mutex::new(Some(server)),
             stop,
         }
     }
 
     /// The HTTP server, for the first caller only.
-    fn take_site<Y: Wait>(&self, rt: &Y) -> Option<Site> {
-        self.site.lock(rt).take()
+    fn take_server<Y: Wait>(&self, rt: &Y) -> Option<HttpServer> {
+        self.server.lock(rt).take()
     }
 
     /// Answers with this service until the server ends, and takes a sample of the metrics about
     /// once a second.
-    fn answer<Y: Wait + Clock, S: Service + Drop>(&self, rt: &Y, mut site: Site, service: S) {
+    fn answer<Y: Wait + Clock, S: Service + Drop>(
+        &self,
+        rt: &Y,
+        mut server: HttpServer,
+        service: S,
+    ) {
         let history = History::new(self.alloc);
         let seen = Seen {
             process: self.process,
@@ -64,20 +69,20 @@ impl<'a, X: Wait + Clock> HttpView<'a, X> {
             history: &history,
         };
         let mut board = Board::new(self.alloc, service, seen);
-        if let Err(error) = site.serve(rt, &mut board, &seen) {
+        if let Err(error) = server.serve(rt, &mut board, &seen) {
             warn!(self.log; target: "http", "no browser and no monitor is answered any more: {error}");
         }
     }
 }
 
-impl<X: Wait + Clock> Onlook for HttpView<'_, X> {
+impl<X: Wait + Clock> Observer for HttpView<'_, X> {
     fn look<Y: Wait + Clock, S: Service + Drop>(&self, rt: &Y, service: S) {
-        let Some(site) = self.take_site(rt) else {
+        let Some(server) = self.take_server(rt) else {
             return;
         };
         let address = self.address;
         info!(self.log; target: "http", "browsers and monitors are answered at http://{address}/");
-        self.answer(rt, site, service);
+        self.answer(rt, server, service);
     }
 
     fn stop(&self) {

@@ -6,14 +6,14 @@ ghost use Rattle.snap_order.specs.Order.{IsOneTo};
 use crate::complaint::{fail_at_folder, fail_in, say, stop_without_memory};
 use crate::files::{FirstFault, take_file};
 use crate::folder::{
-    FolderTrouble, check_names, findings_of, index_of_name, make_folder, path_at, segment_files,
+    FolderReadFault, check_names, findings_of, index_of_name, make_folder, path_at, segment_files,
     segment_path,
 };
 use crate::folder_refusal::{FileRefusal, FolderRefusal};
 use snap_devices::FileFault;
 use snap_disk::Disk;
 use snap_file_commands::{finish, found, sign_of_loss};
-use snap_order::{FileOrder, Founding, Status};
+use snap_order::{FileOrder, InitOptions, Status};
 use snap_segment::{Findings, Header, Slot};
 use std::alloc::{AllocError, Global};
 use std::fmt::{self, Display, Formatter, Write};
@@ -23,7 +23,7 @@ use std::path::Path;
 /// It stops at the first file that can be neither made nor left, with its status. It makes none if
 /// a file has the name of a segment `count` or above, has another count or is in use; nor if a file
 /// was lost, except with `--missing-empty`.
-pub fn init(rt: &HostRuntime, order: &Founding<'_>) -> Status
+pub fn init(rt: &HostRuntime, order: &InitOptions<'_>) -> Status
     requires { IsOneTo MAX_COUNT order.now.count }
 {
     let folder = order.folder;
@@ -72,7 +72,7 @@ fn survey_of<'f>(
     folder: &'f str,
     count: u8,
     files: &'f [String],
-) -> Result<Survey<'f>, FolderTrouble<'f>>
+) -> Result<Survey<'f>, FolderReadFault<'f>>
     requires { count ≤ MAX_COUNT }
 {
     check_names(alloc, folder, files, count)?;
@@ -82,7 +82,7 @@ fn survey_of<'f>(
         let file = file.as_str();
         let found = look_at(rt, alloc, folder, count, file)?;
         if numbers.push(found.number).is_err() {
-            return Err(FolderTrouble::NoMemory);
+            return Err(FolderReadFault::NoMemory);
         }
         if let Some(index) = found.index {
             let at = usize::from(index);
@@ -144,7 +144,7 @@ fn look_at<'f>(
     folder: &'f str,
     count: u8,
     file: &'f str,
-) -> Result<Looked, FolderTrouble<'f>>
+) -> Result<Looked, FolderReadFault<'f>>
     requires { count ≤ MAX_COUNT }
 {
     let name = Path::new(file).file_name().unwrap_or("");
@@ -174,10 +174,10 @@ fn segment_by<'f>(
     named: Option<u8>,
     header: Header,
     number: u64,
-) -> Result<Option<u8>, FolderTrouble<'f>> {
+) -> Result<Option<u8>, FolderReadFault<'f>> {
     match header {
         Header::Open { count, .. } if count != wanted => {
-            Err(FolderTrouble::Refused(FolderRefusal::AnotherCount {
+            Err(FolderReadFault::Refused(FolderRefusal::AnotherCount {
                 file: String::from_str(alloc, file)?,
                 count,
                 wanted,
@@ -193,18 +193,18 @@ fn segment_by<'f>(
 /// reported later, in its turn.
 fn segment_in<'f>(
     named: Option<u8>,
-    trouble: FolderTrouble<'f>,
-) -> Result<Option<u8>, FolderTrouble<'f>> {
+    trouble: FolderReadFault<'f>,
+) -> Result<Option<u8>, FolderReadFault<'f>> {
     match trouble {
-        FolderTrouble::Refused(FolderRefusal::File(FileRefusal::Unformatted { .. })) => Ok(None),
-        FolderTrouble::Path {
+        FolderReadFault::Refused(FolderRefusal::File(FileRefusal::Unformatted { .. })) => Ok(None),
+        FolderReadFault::Path {
             file,
             fault: FileFault::InUse(id),
-        } => Err(FolderTrouble::Path {
+        } => Err(FolderReadFault::Path {
             file,
             fault: FileFault::InUse(id),
         }),
-        FolderTrouble::NoMemory => Err(FolderTrouble::NoMemory),
+        FolderReadFault::NoMemory => Err(FolderReadFault::NoMemory),
         _ => Ok(named),
     }
 }
@@ -247,13 +247,14 @@ impl Display for Loss<'_> {
         let (folder, count) = (self.folder, self.count);
         write!(
             f,
-            ": missing or never formatted, though {sign} holds number {number}: restore what is missing from a backup, or make it new and empty with snapd init {folder} --count {count} --missing-empty"
+            ": missing or never formatted, though {sign} holds number {number}: restore what is missing from a \
+                backup, or make it new and empty with snapd init {folder} --count {count} --missing-empty"
         )
     }
 }
 
 /// Makes the files of the segments in order, or leaves those that are kept.
-fn found_all(rt: &HostRuntime, order: &Founding<'_>, kept: &[Option<&str>]) -> Status
+fn found_all(rt: &HostRuntime, order: &InitOptions<'_>, kept: &[Option<&str>]) -> Status
     requires { order.now.count ≤ MAX_COUNT }
 {
     for index in 0..order.count {
@@ -266,7 +267,7 @@ fn found_all(rt: &HostRuntime, order: &Founding<'_>, kept: &[Option<&str>]) -> S
 }
 
 /// Makes the file of a segment, or leaves the one that is kept.
-fn found_one(rt: &HostRuntime, order: &Founding<'_>, kept: Option<&str>, index: u8) -> Status
+fn found_one(rt: &HostRuntime, order: &InitOptions<'_>, kept: Option<&str>, index: u8) -> Status
     requires below { index < order.now.count }
     requires few { order.now.count ≤ MAX_COUNT }
 {

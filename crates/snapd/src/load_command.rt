@@ -15,15 +15,15 @@ use crate::loading_folder::{LoadRefusal, LoadingFolder};
 use snap_devices::FileFault;
 use snap_disk::Disk;
 use snap_dump::{Dump, DumpFault, MAX_DUMP_LEN, read};
-use snap_file_commands::{CommandFailure, LoadedFile, finish};
+use snap_file_commands::{CommandFault, LoadedFile, finish};
 use snap_frame::SegmentValue;
-use snap_order::{FileOrder, Loading, Status};
+use snap_order::{FileOrder, LoadOptions, Status};
 use snap_stream::{read_up_to, write_whole};
 use std::fs::File;
 use std::io::Read;
 
 /// Reads the dump, and then makes the folder. An invalid dump is refused before anything is made.
-pub fn load(rt: &HostRuntime, order: &Loading<'_>) -> Status
+pub fn load(rt: &HostRuntime, order: &LoadOptions<'_>) -> Status
     requires { IsLoadable order.now }
 {
     let dump = match read_dump(rt, order.dump) {
@@ -110,7 +110,7 @@ fn make_folder(
     loading.put_in_place(rt)?;
     match write_whole(&mut rt.stdout(), line.as_bytes()) {
         Ok(()) => Ok(()),
-        Err(error) => Err(stop(rt, &CommandFailure::Output(error))),
+        Err(error) => Err(stop(rt, &CommandFault::Output(error))),
     }
 }
 

@@ -42,7 +42,8 @@ pub enum LoadRefusal<'f> {
     InUse {
         loading: &'f str,
     },
-    #[error("{folder}: user {owner}, group {group} and mode {mode:04o} can't be given to the folder that takes its place: load as that user or as root, or give the path of a folder that isn't there yet")]
+    #[error("{folder}: user {owner}, group {group} and mode {mode:04o} can't be given to the folder that takes its \
+        place: load as that user or as root, or give the path of a folder that isn't there yet")]
     NotGiven {
         folder: &'f str,
         owner: u32,
@@ -104,7 +105,8 @@ impl LoadingFolder {
         }
         if let Err(reason) = sync_folder_of(rt, folder) {
             let line = format_args!(
-                "{folder}: {reason}: it is there whole, but a power cut may take its name: look after its disk, and load the dump elsewhere"
+                "{folder}: {reason}: it is there whole, but a power cut may take its name: look after its disk, and \
+                    load the dump elsewhere"
             );
             say(rt, &line);
             return Err(Status::Failed);

@@ -1,7 +1,7 @@
 //! The program `snapd`: runs the commands on the system's files, sockets, threads and streams.
 //!
 //! `snap_args` parses the arguments. The commands themselves are in `snap_file_commands` (files),
-//! `snap_serve` (a server), `snap_call` (a client) and `snap_script` (scripts), over any device,
+//! `snap_serve` (a server), `snap_client_commands` (a client) and `snap_script` (scripts), over any device,
 //! reader, writer, listener and connection. This crate connects them to the system. A server's log
 //! goes to standard error (`snap_log`).
 #![tactic(auto)]
@@ -53,10 +53,10 @@ use right_order::say_right_order;
 use serve_command::{serve, take_files};
 use snap_args::{WordFault, lack_of, order};
 use snap_disk::Disk;
-use snap_file_commands::{Causes, CommandFailure, act, act_pair, finish};
+use snap_file_commands::{Causes, CommandFault, act, act_pair, finish};
 use snap_order::{
-    Calling, Dumping, Examination, FileOrder, Founding, Holder, Loading, Migration, Order, Serving,
-    Status, Watching,
+    CallOptions, DoctorOptions, DumpOptions, DumpSource, FileOrder, InitOptions, LoadOptions,
+    MigrateOptions, Order, ServeOptions, Status, WatchOptions,
 };
 use snap_script::play;
 use snap_slot::FILE_LEN;
@@ -91,7 +91,7 @@ fn words_of(rt: &HostRuntime) -> Result<Vec<String>, WordFault> {
     }
 }
 
-/// Does the order. `threads` is the runtime again, for what may block, start threads and open
+/// Runs the command of the order. `threads` is the runtime again, for commands that may block, start threads and open
 /// sockets.
 fn do_order<
     X: Threads + Wait + Clock + Net + Files<File = File> + RandomSource + Sync + Send + Copy,
@@ -118,7 +118,7 @@ fn explain(rt: &HostRuntime, fault: &WordFault) -> Status {
     match fault {
         WordFault::Help(text) => match rt.print(text) {
             Ok(()) => Status::Done,
-            Err(error) => stop(rt, &CommandFailure::Output(error)),
+            Err(error) => stop(rt, &CommandFault::Output(error)),
         },
         WordFault::Memory => stop_without_memory(rt),
         _ => {
@@ -132,7 +132,7 @@ fn explain(rt: &HostRuntime, fault: &WordFault) -> Status {
     }
 }
 
-/// Does a command on one file.
+/// Runs a command on one file.
 fn run<'a>(rt: &'a HostRuntime, order: &FileOrder<'a>) -> Status
     requires { IsFileWithinLimits order.now }
 {
@@ -150,8 +150,8 @@ fn run<'a>(rt: &'a HostRuntime, order: &FileOrder<'a>) -> Status
     finish(rt.alloc(), order, len, end, &told, &mut rt.stderr()).status
 }
 
-/// Does the order `migrate`.
-fn run_migration<'a>(rt: &'a HostRuntime, order: &Migration<'a>) -> Status
+/// Runs the command `migrate`.
+fn run_migration<'a>(rt: &'a HostRuntime, order: &MigrateOptions<'a>) -> Status
     requires { IsPlace order.now.index order.now.count }
 {
     if !are_streams_open(rt) || !may_write(rt) {
@@ -178,8 +178,8 @@ fn run_migration<'a>(rt: &'a HostRuntime, order: &Migration<'a>) -> Status
     }
 }
 
-/// Does the order `init`.
-fn run_init(rt: &HostRuntime, order: &Founding<'_>) -> Status
+/// Runs the command `init`.
+fn run_init(rt: &HostRuntime, order: &InitOptions<'_>) -> Status
     requires { IsOneTo MAX_COUNT order.now.count }
 {
     if !are_streams_open(rt) || !may_write(rt) {
@@ -188,8 +188,8 @@ fn run_init(rt: &HostRuntime, order: &Founding<'_>) -> Status
     init(rt, order)
 }
 
-/// Does the order `doctor`.
-fn run_doctor(rt: &HostRuntime, order: &Examination<'_>) -> Status {
+/// Runs the command `doctor`.
+fn run_doctor(rt: &HostRuntime, order: &DoctorOptions<'_>) -> Status {
     if !are_streams_open(rt) || (order.is_measured && !may_write(rt)) {
         return Status::Failed;
     }
@@ -200,7 +200,7 @@ fn run_doctor(rt: &HostRuntime, order: &Examination<'_>) -> Status {
 /// open sockets.
 fn run_server<
     X: Threads + Wait + Clock + Net + Files<File = File> + RandomSource + Sync + Send + Copy,
->(threads: &X, rt: &HostRuntime, order: &Serving<'_>) -> Status
+>(threads: &X, rt: &HostRuntime, order: &ServeOptions<'_>) -> Status
     requires { IsServable order.now }
 {
     if !may_serve(rt, order) {
@@ -216,7 +216,7 @@ fn run_server<
 /// Serves the files of a folder. `serving` has none yet.
 fn run_folder_server<
     X: Threads + Wait + Clock + Net + Files<File = File> + RandomSource + Sync + Send + Copy,
->(threads: &X, rt: &HostRuntime, folder: &str, serving: Serving<'_>) -> Status
+>(threads: &X, rt: &HostRuntime, folder: &str, serving: ServeOptions<'_>) -> Status
     requires { KeepsLimits serving }
 {
     if !may_serve(rt, &serving) {
@@ -231,7 +231,13 @@ fn run_folder_server<
 /// Serves these files of the folder, in order of segment.
 fn serve_in_order<
     X: Threads + Wait + Clock + Net + Files<File = File> + RandomSource + Sync + Send + Copy,
->(threads: &X, rt: &HostRuntime, folder: &str, files: &[String], serving: Serving<'_>) -> Status
+>(
+    threads: &X,
+    rt: &HostRuntime,
+    folder: &str,
+    files: &[String],
+    serving: ServeOptions<'_>,
+) -> Status
     requires { KeepsLimits serving }
 {
     match files_in_order(rt, rt.alloc(), folder, files) {
@@ -241,7 +247,7 @@ fn serve_in_order<
 }
 
 /// The order with these files, and otherwise unchanged.
-fn with_files<'a>(serving: Serving<'a>, files: Vec<&'a str>) -> Serving<'a>
+fn with_files<'a>(serving: ServeOptions<'a>, files: Vec<&'a str>) -> ServeOptions<'a>
     requires limits { KeepsLimits serving }
     requires some { 0 < length files.items }
     requires few { length files.items ≤ MAX_COUNT }
@@ -255,7 +261,7 @@ fn with_files<'a>(serving: Serving<'a>, files: Vec<&'a str>) -> Serving<'a>
 
 /// Checks what a server needs of the system before it opens a file. Prints a message if something
 /// is missing.
-fn may_serve(rt: &HostRuntime, order: &Serving<'_>) -> bool {
+fn may_serve(rt: &HostRuntime, order: &ServeOptions<'_>) -> bool {
     let is_http_address = match order.http {
         Some(address) => is_address(rt, address),
         None => true,
@@ -269,7 +275,7 @@ fn may_serve(rt: &HostRuntime, order: &Serving<'_>) -> bool {
 /// Opens the files, and serves them. `folder` is their folder, if the arguments name one.
 fn serve_files<
     X: Threads + Wait + Clock + Net + Files<File = File> + RandomSource + Sync + Send + Copy,
->(threads: &X, rt: &HostRuntime, order: &Serving<'_>, folder: Option<&str>) -> Status
+>(threads: &X, rt: &HostRuntime, order: &ServeOptions<'_>, folder: Option<&str>) -> Status
     requires { IsServable order.now }
 {
     let place = match open_http(threads, rt, order) {
@@ -285,8 +291,8 @@ fn serve_files<
     }
 }
 
-/// Does the order `call`.
-fn run_call(rt: &HostRuntime, order: &Calling<'_>) -> Status
+/// Runs the command `call`.
+fn run_call(rt: &HostRuntime, order: &CallOptions<'_>) -> Status
     requires { IsCallable order.now }
 {
     if !are_streams_open(rt) || !is_address(rt, order.address) {
@@ -295,8 +301,12 @@ fn run_call(rt: &HostRuntime, order: &Calling<'_>) -> Status
     call(rt, rt, order)
 }
 
-/// Does the order `watch`. `waiting` is the runtime again, for what may block and open sockets.
-fn run_watch<X: Wait + Clock + Net>(waiting: &X, rt: &HostRuntime, order: &Watching<'_>) -> Status
+/// Runs the command `watch`. `waiting` is the runtime again, for calls that may block and open sockets.
+fn run_watch<X: Wait + Clock + Net>(
+    waiting: &X,
+    rt: &HostRuntime,
+    order: &WatchOptions<'_>,
+) -> Status
     requires { IsWatchable order.now }
 {
     if !are_streams_open(rt) || !is_address(rt, order.address) {
@@ -305,21 +315,21 @@ fn run_watch<X: Wait + Clock + Net>(waiting: &X, rt: &HostRuntime, order: &Watch
     watch(waiting, rt, order)
 }
 
-/// Does the order `dump`.
-fn run_dump(rt: &HostRuntime, order: &Dumping<'_>) -> Status
+/// Runs the command `dump`.
+fn run_dump(rt: &HostRuntime, order: &DumpOptions<'_>) -> Status
     requires { IsDumpable order.now }
 {
     if !are_streams_open(rt) {
         return Status::Failed;
     }
     match order.holder {
-        Holder::Server { address } if !is_address(rt, address) => Status::Failed,
+        DumpSource::Server { address } if !is_address(rt, address) => Status::Failed,
         _ => dump(rt, order),
     }
 }
 
-/// Does the order `load`.
-fn run_load(rt: &HostRuntime, order: &Loading<'_>) -> Status
+/// Runs the command `load`.
+fn run_load(rt: &HostRuntime, order: &LoadOptions<'_>) -> Status
     requires { IsLoadable order.now }
 {
     if !are_streams_open(rt) || !may_write(rt) {

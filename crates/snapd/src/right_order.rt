@@ -4,13 +4,13 @@ ghost use Rattle.std.specs.Prelude.{◌<◌, All, length};
 use crate::complaint::say;
 use crate::folder::contents_of;
 use snap_file_commands::{SegmentPlace, order_files};
-use snap_order::Serving;
+use snap_order::ServeOptions;
 use std::alloc::{AllocError, Global};
 
 /// After a refusal, prints the order of the server's files by their headers, if they were given in
 /// another one. Prints nothing if a header can't be read, or if they aren't the segments of one
 /// server: the refusal said so.
-pub fn say_right_order(rt: &HostRuntime, serving: &Serving<'_>) {
+pub fn say_right_order(rt: &HostRuntime, serving: &ServeOptions<'_>) {
     if let Some(names) = names_in_order(rt, rt.alloc(), &serving.files) {
         let line = format_args!("each file names its segment, and this is their order:{names}");
         say(rt, &line);

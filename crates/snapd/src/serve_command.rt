@@ -16,12 +16,12 @@ use log::{LevelFilter, warn};
 use snap_args::is_everywhere;
 use snap_devices::{FileDisk, FileFault, Lock};
 use snap_disk::Disk;
-use snap_figures::{Figures, Timed, time_all};
-use snap_http::MAX_GUESTS;
+use snap_http::MAX_CONNECTIONS;
 use snap_log::{Destination, Lines, write_lines};
-use snap_order::{Exit, Serving, Status};
-use snap_serve::{Edge, Network, Onlook, host, log_note};
-use snap_server::{NoGate, Note, ServerFault};
+use snap_metrics::{Metrics, TimedDisk, time_all};
+use snap_order::{Exit, ServeOptions, Status};
+use snap_serve::{Environment, Network, Observer, host, log_note};
+use snap_server::{NoGate, ServerEvent, ServerFault};
 use std::alloc::{AllocError, Global};
 use std::fs::File;
 use std::net::Net;
@@ -31,7 +31,7 @@ use std::thread::{self, Threads};
 use std::time::{Duration, Instant};
 
 /// A server's file, whose stores are timed.
-type TimedFile<'a, X> = Timed<'a, FileDisk<'a, HostRuntime>, X>;
+type TimedFile<'a, X> = TimedDisk<'a, FileDisk<'a, HostRuntime>, X>;
 
 /// The reason why the files of a server couldn't be opened.
 #[derive(Drop)]
@@ -150,7 +150,7 @@ struct Look<'a> {
 pub fn serve<'x, X>(
     rt: &X,
     system: &'x HostRuntime,
-    order: &'x Serving<'x>,
+    order: &'x ServeOptions<'x>,
     folder: Option<&'x str>,
     devices: Vec<FileDisk<'_, HostRuntime>>,
     told: &Vec<FirstFault>,
@@ -177,7 +177,7 @@ where
 fn serve_counted<'x, X>(
     rt: &X,
     system: &'x HostRuntime,
-    order: &'x Serving<'x>,
+    order: &'x ServeOptions<'x>,
     folder: Option<&'x str>,
     devices: Vec<FileDisk<'_, HostRuntime>>,
     told: &Vec<FirstFault>,
@@ -189,12 +189,12 @@ where
     requires devices { length devices.items ≡ length order.now.files.items }
     requires uncalled { All IsUncalled devices.items }
 {
-    let Ok((figures, addresses)) = figures_of(system.alloc(), order) else {
+    let Ok((metrics, addresses)) = figures_of(system.alloc(), order) else {
         return Err(ServerFault::NoMemory);
     };
     let process = Process {
         rt: system,
-        figures: &figures,
+        metrics: &metrics,
         began: Instant::now(system).ok(),
         started: millis_since_1970(system),
         most_clients: most_clients(order),
@@ -206,12 +206,12 @@ where
 }
 
 /// The metrics of the order's server, and its addresses as strings.
-fn figures_of(alloc: Global, order: &Serving<'_>) -> Result<(Figures, Vec<String>), AllocError>
+fn figures_of(alloc: Global, order: &ServeOptions<'_>) -> Result<(Metrics, Vec<String>), AllocError>
     ensures workers { IfOk result (λ found. found.0.workers ≡ order.now.scanners) }
     ensures segments { IfOk result (λ found. found.0.segments ≡ length order.now.files.items) }
 {
-    let figures = Figures::new(alloc, usize::from(order.scanners), order.files.len())?;
-    Ok((figures, texts_of(alloc, &order.addresses)?))
+    let metrics = Metrics::new(alloc, usize::from(order.scanners), order.files.len())?;
+    Ok((metrics, texts_of(alloc, &order.addresses)?))
 }
 
 /// These texts as strings.
@@ -226,7 +226,7 @@ fn texts_of(alloc: Global, words: &[&str]) -> Result<Vec<String>, AllocError> {
 /// Serves these devices while a thread writes the lines of the log.
 fn serve_logged<'x, X>(
     rt: &X,
-    order: &'x Serving<'x>,
+    order: &'x ServeOptions<'x>,
     devices: Vec<FileDisk<'_, HostRuntime>>,
     told: &Vec<FirstFault>,
     look: Look<'x>,
@@ -236,8 +236,8 @@ where
     requires order { IsServable order.now }
     requires devices { length devices.items ≡ length order.now.files.items }
     requires uncalled { All IsUncalled devices.items }
-    requires workers { order.now.scanners ≤ look.process.figures.now.workers }
-    requires segments { length devices.items ≤ look.process.figures.now.segments }
+    requires workers { order.now.scanners ≤ look.process.metrics.now.workers }
+    requires segments { length devices.items ≤ look.process.metrics.now.segments }
 {
     let system = look.process.rt;
     let destination = Destination::of_standard_error(system, system.alloc());
@@ -252,8 +252,8 @@ where
             requires { IsSync X.row × IsServable order.now
                 × (length devices.items ≡ length order.now.files.items)
                 × All IsUncalled devices.items
-                × (order.now.scanners ≤ look.process.figures.now.workers)
-                × (length devices.items ≤ look.process.figures.now.segments) }
+                × (order.now.scanners ≤ look.process.metrics.now.workers)
+                × (length devices.items ≤ look.process.metrics.now.segments) }
         {
             let mut errors = system.stderr();
             let writing = move ||
@@ -278,12 +278,12 @@ where
 const OTHERS: u64 = 16;
 
 /// How many more it needs for HTTP: the connections, the listener, its poll, and what stops it.
-const OF_HTTP: u64 = MAX_GUESTS as u64 + 4;
+const OF_HTTP: u64 = MAX_CONNECTIONS as u64 + 4;
 
 /// The limit of open connections: as many as the process may open, less the descriptors that it
 /// needs itself, and at most what the order says. So there is a descriptor for every connection
 /// that is accepted.
-fn most_clients(order: &Serving<'_>) -> usize {
+fn most_clients(order: &ServeOptions<'_>) -> usize {
     let asked = order.clients.map_or(usize::MAX, |clients| clients as usize);
     let Some(limit) = most_descriptors() else {
         return asked;
@@ -298,7 +298,7 @@ fn most_clients(order: &Serving<'_>) -> usize {
 }
 
 /// Warns of addresses that accept connections from all networks.
-fn warn_of_everywhere<X: Wait + Clock>(log: &Lines<'_, X>, order: &Serving<'_>) {
+fn warn_of_everywhere<X: Wait + Clock>(log: &Lines<'_, X>, order: &ServeOptions<'_>) {
     'addresses: for address in &order.addresses {
         if is_everywhere(*address) {
             warn!(log; target: "accept",
@@ -317,7 +317,7 @@ fn warn_of_everywhere<X: Wait + Clock>(log: &Lines<'_, X>, order: &Serving<'_>) 
 /// runs out.
 fn host_logged<'x, X>(
     rt: &X,
-    order: &'x Serving<'x>,
+    order: &'x ServeOptions<'x>,
     devices: Vec<FileDisk<'_, HostRuntime>>,
     told: &'x Vec<FirstFault>,
     log: &'x Lines<'x, X>,
@@ -328,11 +328,11 @@ where
     requires order { IsServable order.now }
     requires devices { length devices.items ≡ length order.now.files.items }
     requires uncalled { All IsUncalled devices.items }
-    requires workers { order.now.scanners ≤ look.process.figures.now.workers }
-    requires segments { length devices.items ≤ look.process.figures.now.segments }
+    requires workers { order.now.scanners ≤ look.process.metrics.now.workers }
+    requires segments { length devices.items ≤ look.process.metrics.now.segments }
 {
     let system = look.process.rt;
-    match time_all(system.alloc(), devices, *rt, look.process.figures) {
+    match time_all(system.alloc(), devices, *rt, look.process.metrics) {
         Ok(devices) => Ok(host_timed(rt, order, devices, told, log, look)),
         Err(AllocError) => Err(ServerFault::NoMemory),
     }
@@ -342,7 +342,7 @@ where
 #[tactic(auto, using(crate::proofs::Uncalled::headroom))]
 fn host_timed<'x, X>(
     rt: &X,
-    order: &'x Serving<'x>,
+    order: &'x ServeOptions<'x>,
     devices: Vec<TimedFile<'_, X>>,
     told: &'x Vec<FirstFault>,
     log: &'x Lines<'x, X>,
@@ -353,7 +353,7 @@ where
     requires order { IsServable order.now }
     requires devices { length devices.items ≡ length order.now.files.items }
     requires uncalled { All IsUncalled devices.items }
-    requires figures { order.now.scanners ≤ look.process.figures.now.workers }
+    requires metrics { order.now.scanners ≤ look.process.metrics.now.workers }
 {
     warn_of_everywhere(log, order);
     let process = look.process;
@@ -364,40 +364,40 @@ where
 /// Serves these devices, and logs and counts the server's events.
 fn host_noted<'x, X, D, O>(
     rt: &X,
-    order: &'x Serving<'x>,
+    order: &'x ServeOptions<'x>,
     devices: Vec<D>,
     told: &'x Vec<FirstFault>,
     log: &'x Lines<'x, X>,
     process: Process<'x>,
-    onlooker: Option<&O>,
+    observer: Option<&O>,
 ) -> Exit
 where
     X: Threads + Wait + Clock + Net + Files<File = File> + Sync + Send + Copy,
     D: Disk + Send + Drop,
-    O: Onlook + Sync,
+    O: Observer + Sync,
     requires order { IsServable order.now }
     requires devices { length devices.items ≡ length order.now.files.items }
     requires headroom { All (λ d. D.failure_count d < 2 ^ 64 - 1) devices.items }
-    requires figures { order.now.scanners ≤ process.figures.now.workers }
+    requires metrics { order.now.scanners ≤ process.metrics.now.workers }
 {
-    let (system, figures) = (process.rt, process.figures);
-    let note = |told: &Note| {
-        if let Note::Ended(_) = told {
-            figures.end();
+    let (system, metrics) = (process.rt, process.metrics);
+    let note = |told: &ServerEvent| {
+        if let ServerEvent::Ended(_) = told {
+            metrics.end();
         }
         log_note(log, told)
     };
-    let edge = Edge {
+    let environment = Environment {
         bind: &Network::new(rt, u32::from(order.socket_mode)),
         gate: &NoGate,
         note: &note,
         watch: UpdateWatch::new(
             StoreLog::new(log, &order.files, told),
             RunLog::new(log, process),
-            figures,
+            metrics,
         ),
-        figures,
-        onlooker,
+        metrics,
+        observer,
         causes: told,
         clients: most_clients(order),
         idle: patience_of(order),
@@ -408,7 +408,7 @@ where
         system.alloc(),
         order,
         devices,
-        edge,
+        environment,
         &mut writer,
         &mut errors,
     )
@@ -424,7 +424,7 @@ fn view_of<'x, X: Wait + Clock>(log: &'x Lines<'x, X>, look: Look<'x>) -> Option
 }
 
 /// The idle timeout.
-fn patience_of(order: &Serving<'_>) -> Option<Duration> {
+fn patience_of(order: &ServeOptions<'_>) -> Option<Duration> {
     match order.idle {
         Some(seconds) => Some(Duration::from_secs(u64::from(seconds))),
         None => None,

@@ -43,7 +43,8 @@ impl<'a, X: Wait + Clock> StoreLog<'a, X> {
     /// Logs that the store of an update failed, for this reason.
     fn log_unstored<T: Display>(&self, file: &str, segment: usize, number: u64, why: &T) {
         error!(self.log; target: "store",
-            "{file}: segment {segment}: update {number} failed: a restart shows whether it is stored, and the segment is fenced until then: {why}"
+            "{file}: segment {segment}: update {number} failed: a restart shows whether it is stored, and the segment \
+                is fenced until then: {why}"
         );
     }
 }

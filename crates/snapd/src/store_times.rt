@@ -6,7 +6,7 @@ use snap_devices::{FileDisk, FileFault};
 use snap_disk::Disk;
 use snap_segment::{Segment, format};
 use snap_slot::FILE_LEN;
-use snap_stream::Cause;
+use snap_stream::SystemReason;
 use std::alloc::{AllocError, Global};
 use std::fs::{self, File};
 use std::io::{self, ErrorKind};

@@ -1,10 +1,11 @@
-//! What the system knows about the process of a running server.
+//! The facts of a server's process that the page and the metrics show, as the system reports them: memory, descriptors,
+//! processor time and clocks.
 
 use snap_args::VERSION;
-use snap_board::{History, Surroundings, Usage};
-use snap_figures::{Figures, Reading};
+use snap_board::{FactSource, History, Usage};
 use snap_http::Beat;
 use snap_log::Lines;
+use snap_metrics::{Metrics, MetricsSnapshot};
 use std::alloc::{AllocError, Global};
 use std::rt::Clock;
 use std::sync::Wait;
@@ -34,7 +35,7 @@ const PAGE: u64 = 4_096;
 #[derive(Clone, Copy, Drop)]
 pub struct Process<'a> {
     pub rt: &'a HostRuntime,
-    pub figures: &'a Figures,
+    pub metrics: &'a Metrics,
     /// When it started, by the steady clock, and in milliseconds since 1970; each `None` if the
     /// clock can't be read.
     pub began: Option<Instant>,
@@ -128,7 +129,7 @@ pub struct Seen<'a, 'h, X: Wait + Clock> {
 /// Takes a sample of the metrics, or none if memory runs out.
 impl<X: Wait + Clock> Beat for Seen<'_, '_, X> {
     fn beat(&self) {
-        let Ok(reading) = self.process.figures.read(self.process.rt.alloc()) else {
+        let Ok(reading) = self.process.metrics.read(self.process.rt.alloc()) else {
             return;
         };
         if let Some(uptime) = self.uptime() {
@@ -137,13 +138,13 @@ impl<X: Wait + Clock> Beat for Seen<'_, '_, X> {
     }
 }
 
-impl<X: Wait + Clock> Surroundings for Seen<'_, '_, X> {
+impl<X: Wait + Clock> FactSource for Seen<'_, '_, X> {
     ghost use Rattle.snap_args.specs.declared.grammar.TheConstants.{VERSION};
 
     ghost version_of = { λ _. VERSION.now };
 
-    fn reading(&self, alloc: Global) -> Result<Reading, AllocError> {
-        self.process.figures.read(alloc)
+    fn reading(&self, alloc: Global) -> Result<MetricsSnapshot, AllocError> {
+        self.process.metrics.read(alloc)
     }
 
     fn uptime(&self) -> Option<Duration> {

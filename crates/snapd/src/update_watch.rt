@@ -3,8 +3,8 @@
 use crate::run_log::RunLog;
 use crate::store_log::StoreLog;
 use snap_disk::Refusal;
-use snap_figures::Figures;
-use snap_serve::Watch;
+use snap_metrics::Metrics;
+use snap_serve::UpdateObserver;
 use snap_server::RunFault;
 use std::rt::Clock;
 use std::sync::Wait;
@@ -15,21 +15,21 @@ use std::sync::Wait;
 pub struct UpdateWatch<'a, X: Wait + Clock> {
     log: StoreLog<'a, X>,
     run: RunLog<'a, X>,
-    figures: &'a Figures,
+    metrics: &'a Metrics,
 }
 
 impl<'a, X: Wait + Clock> UpdateWatch<'a, X> {
-    /// Counts in `figures`, and logs to the others.
+    /// Counts in `metrics`, and logs to the others.
     pub fn new(
         log: StoreLog<'a, X>,
         run: RunLog<'a, X>,
-        figures: &'a Figures,
+        metrics: &'a Metrics,
     ) -> UpdateWatch<'a, X> {
-        UpdateWatch { log, run, figures }
+        UpdateWatch { log, run, metrics }
     }
 }
 
-impl<X: Wait + Clock> Watch for UpdateWatch<'_, X> {
+impl<X: Wait + Clock> UpdateObserver for UpdateWatch<'_, X> {
     fn begun(&self, listening: &str) {
         self.run.begun(listening);
     }
@@ -39,8 +39,8 @@ impl<X: Wait + Clock> Watch for UpdateWatch<'_, X> {
     }
 
     fn told(&self, segment: usize, number: u64, told: Result<u64, Refusal>) {
-        if segment < self.figures.segment_count() {
-            self.figures.segment(segment).settle(told);
+        if segment < self.metrics.segment_count() {
+            self.metrics.segment(segment).settle(told);
         }
         if told == Err(Refusal::DeviceFailed) {
             self.log.unstored(segment, number);

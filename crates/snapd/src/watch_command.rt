@@ -9,11 +9,13 @@ use crate::time_limit::{Course, TimeLimit};
 use libc::net::{POLLERR, POLLHUP, poll};
 use libc::types::pollfd;
 use snap_client::{Client, ClientFault};
-use snap_file_commands::CommandFailure;
+use snap_client_commands::watch::{
+    Form, Panel, Row, Track, WatchFault, changes, drawing, followed, look, set_of,
+};
+use snap_file_commands::CommandFault;
 use snap_frame::SegmentSet;
-use snap_order::{Status, Watching};
+use snap_order::{Status, WatchOptions};
 use snap_stream::write_whole;
-use snap_watch::{Form, Panel, Row, Track, Trouble, changes, drawing, followed, look, set_of};
 use std::alloc::{AllocError, Global};
 use std::env::{self, VarError};
 use std::io::{ErrorKind, IsTerminal};
@@ -36,7 +38,7 @@ const LATE: &str = "there was no answer within 10 s";
 /// Shows the segments of the server at the order's address, and each change, until the process is
 /// interrupted or standard output has no reader any more. A first poll that fails, or a refusal,
 /// ends it too.
-pub fn watch<N: Wait + Clock + Net>(net: &N, rt: &HostRuntime, order: &Watching<'_>) -> Status
+pub fn watch<N: Wait + Clock + Net>(net: &N, rt: &HostRuntime, order: &WatchOptions<'_>) -> Status
     requires { IsWatchable order.now }
 {
     let address = order.address;
@@ -105,7 +107,7 @@ fn rows_within<N: Clock + Net>(
     link: &mut Option<Link<N::Stream>>,
     shown: &[Row],
     is_late: &AtomicBool,
-) -> Result<Vec<Row>, Trouble>
+) -> Result<Vec<Row>, WatchFault>
     requires some { IfSome watched (λ set. 0 < set.bits) }
 {
     let end = match Instant::now(net) {
@@ -130,18 +132,18 @@ fn rows_now<N: Clock + Net>(
     link: &mut Option<Link<N::Stream>>,
     shown: &[Row],
     limit: &TimeLimit<'_, '_, N>,
-) -> Result<Vec<Row>, Trouble>
+) -> Result<Vec<Row>, WatchFault>
     requires some { IfSome watched (λ set. 0 < set.bits) }
 {
     if let Some(open) = link.take() {
         match rows_by(alloc, open, watched, link, shown, limit) {
-            Err(Trouble::Lost(fault)) if fault.may_pass() => {}
+            Err(WatchFault::Lost(fault)) if fault.may_pass() => {}
             told => return told,
         }
     }
     match link_within(net, address, limit) {
         Ok(open) => rows_by(alloc, open, watched, link, &[], limit),
-        Err(_) => Err(Trouble::Lost(ClientFault::ConnectFailed)),
+        Err(_) => Err(WatchFault::Lost(ClientFault::ConnectFailed)),
     }
 }
 
@@ -153,11 +155,11 @@ fn rows_by<N: Clock + Net>(
     kept: &mut Option<Link<N::Stream>>,
     shown: &[Row],
     limit: &TimeLimit<'_, '_, N>,
-) -> Result<Vec<Row>, Trouble>
+) -> Result<Vec<Row>, WatchFault>
     requires some { IfSome watched (λ set. 0 < set.bits) }
 {
     let (Ok(reader), Ok(writer)) = (open.try_clone(), open.try_clone()) else {
-        return Err(Trouble::Lost(ClientFault::ConnectFailed));
+        return Err(WatchFault::Lost(ClientFault::ConnectFailed));
     };
     let course = Course::new();
     let mut client = Client::new(alloc, limit.on(reader, &course), limit.on(writer, &course));
@@ -166,7 +168,7 @@ fn rows_by<N: Clock + Net>(
     Ok(rows)
 }
 
-/// What was shown last, and where.
+/// The rows that were shown last, and where they are shown.
 #[derive(Drop)]
 struct Screen<'a> {
     address: &'a str,
@@ -239,20 +241,20 @@ impl<'a> Screen<'a> {
 
     /// Handles a failed poll: a server that has answered before is reported as lost. An error is
     /// the exit status.
-    fn bear(&mut self, rt: &HostRuntime, trouble: Trouble, is_late: bool) -> Result<(), Status> {
+    fn bear(&mut self, rt: &HostRuntime, trouble: WatchFault, is_late: bool) -> Result<(), Status> {
         let address = self.address;
         match trouble {
-            Trouble::Refused { why, detail } => {
+            WatchFault::Refused { why, detail } => {
                 let (code, name) = (why.code(), why.name());
                 say(rt, &format_args!("refused {code} {name} {detail}"));
                 Err(Status::Refused)
             }
-            Trouble::Lost(ClientFault::NoMemory) => Err(stop_without_memory(rt)),
-            Trouble::Lost(fault) if self.contact == Contact::None => {
+            WatchFault::Lost(ClientFault::NoMemory) => Err(stop_without_memory(rt)),
+            WatchFault::Lost(fault) if self.contact == Contact::None => {
                 say_first_loss(rt, address, fault, is_late);
                 Err(Status::Failed)
             }
-            Trouble::Lost(fault) => self.lose(rt, loss_of(fault, is_late)),
+            WatchFault::Lost(fault) => self.lose(rt, loss_of(fault, is_late)),
         }
     }
 
@@ -303,7 +305,7 @@ fn print(rt: &HostRuntime, text: &[u8]) -> Result<(), Status> {
     match write_whole(&mut rt.stdout(), text) {
         Ok(()) => Ok(()),
         Err(error) if error.kind() == ErrorKind::BrokenPipe => Err(Status::Failed),
-        Err(error) => Err(stop(rt, &CommandFailure::Output(error))),
+        Err(error) => Err(stop(rt, &CommandFault::Output(error))),
     }
 }
 

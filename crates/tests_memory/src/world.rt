@@ -1,131 +1,269 @@
-//! Worked runs of scans and updates.
-mod generated;
-mod restarts;
-mod steps;
+//! Long lists of events, drawn from fixed seeds, whose memories are compared with the plain program.
+use crate::draw::Draw;
+use snap_disk::Fill;
+use snap_history::{Update, memory_after};
+use snap_scan::MAX_SEGMENTS;
+use snap_world::{Actor, Event, PartEntry, Reply, SegmentSet, World};
+use std::alloc::{AllocError, Global};
+use std::process::Abort;
+use std::test::Fail;
 
-use std::alloc::AllocError;
-use steps::{Early, FIRST_STORE, LATER_STORE, Step, play};
-
-const CLEAN_AFTER_SIX: [Step<'static>; 6] = [
-    Step::Scan,
-    Step::Looks(&[0, 0]),
-    Step::Store(0, "a", &[0, 0, 0, 0], &FIRST_STORE),
-    Step::Show(0, 1),
-    Step::Looks(&[1, 0, 1, 0]),
-    Step::Answer(&["a", ""]),
-];
-
-#[test]
-fn clean_after_six(rt: HostRuntime) -> Result<(), AllocError> {
-    play(&rt, 2, &CLEAN_AFTER_SIX)
+/// This many events, drawn from the seed. Scanners are slow, so that they see writers move.
+fn events_of(
+    alloc: Global,
+    seed: u64,
+    segments: usize,
+    scanners: usize,
+    count: usize,
+) -> Result<Vec<Event>, AllocError> {
+    let mut draw = Draw { state: seed };
+    let mut events = Vec::new(alloc);
+    for _ in 0..count {
+        let segment = draw.below(segments);
+        let scanner = draw.below(scanners);
+        let byte = draw.below(256) as u8;
+        let len = draw.below(4);
+        events.push(match draw.below(41) {
+            0 | 1 => Event::Begin(segment, [byte; 4][..len].to_vec(alloc)?),
+            2..=8 => Event::Look(Actor::Writer(segment)),
+            9..=15 => Event::Call(segment),
+            16 | 17 => Event::Show(segment),
+            18 | 19 => Event::Acknowledge(segment),
+            20 => Event::Scan(scanner),
+            21..=24 => Event::Look(Actor::Scanner(scanner)),
+            25 => Event::Answer(scanner),
+            26..=35 => Event::RestartCall,
+            36 => Event::Restart,
+            37 => Event::Serve,
+            38 => Event::Pick(scanner, any_set(&mut draw)),
+            _ => rare_event(alloc, &mut draw, segment, segments)?,
+        })?;
+    }
+    Ok(events)
 }
 
-const BORROWED_VIEW: [Step<'static>; 9] = [
-    Step::Scan,
-    Step::Looks(&[0]),
-    Step::Store(0, "a", &[0, 0, 0, 0], &FIRST_STORE),
-    Step::Show(0, 1),
-    Step::Looks(&[0, 1]),
-    Step::Store(0, "b", &[1, 0, 1, 0], &LATER_STORE),
-    Step::Show(0, 2),
-    Step::Looks(&[0, 2]),
-    Step::Answer(&["a", ""]),
-];
-
-#[test]
-fn borrowed_view(rt: HostRuntime) -> Result<(), AllocError> {
-    play(&rt, 2, &BORROWED_VIEW)
+/// A fill that keeps, closes or opens the gates that it touches, or any other one.
+fn any_fill(draw: &mut Draw) -> Fill {
+    match draw.below(4) {
+        0 => Fill::Keep,
+        1 => Fill::All(0),
+        2 => Fill::All(0xA5),
+        _ => Fill::All(draw.below(256) as u8),
+    }
 }
 
-const SHOWN_BEHIND_THE_VIEW: [Step<'static>; 11] = [
-    Step::Scan,
-    Step::Looks(&[0]),
-    Step::Store(0, "a", &[0, 0, 0, 0], &FIRST_STORE),
-    Step::Show(0, 1),
-    Step::Looks(&[0, 1]),
-    Step::Store(0, "b", &[1, 0, 1, 0], &LATER_STORE),
-    Step::Store(1, "c", &[1, 0, 1, 0], &FIRST_STORE),
-    Step::Show(1, 1),
-    Step::Show(0, 2),
-    Step::Looks(&[1, 2]),
-    Step::Answer(&["a", ""]),
-];
-
-/// Another writer shows between the end of the embedded scan and its publication: the
-/// borrowed view hasn't got that update.
-#[test]
-fn borrowed_view_is_of_the_embedded_scan(rt: HostRuntime) -> Result<(), AllocError> {
-    play(&rt, 2, &SHOWN_BEHIND_THE_VIEW)
+/// Any set of the first three segments, the empty one too.
+fn any_set(draw: &mut Draw) -> SegmentSet {
+    SegmentSet {
+        bits: draw.below(8) as u16,
+    }
 }
 
-const LATE_SHOW: [Step<'static>; 8] = [
-    Step::Store(0, "a", &[0, 0, 0, 0], &FIRST_STORE),
-    Step::Store(1, "b", &[0, 0, 0, 0], &FIRST_STORE),
-    Step::Show(1, 1),
-    Step::Scan,
-    Step::Looks(&[0]),
-    Step::Show(0, 1),
-    Step::Looks(&[1, 1, 1, 1, 1]),
-    Step::Answer(&["a", "b"]),
-];
-
-#[test]
-fn late_show_clean_after_six(rt: HostRuntime) -> Result<(), AllocError> {
-    play(&rt, 2, &LATE_SHOW)
+/// A fault or a crash.
+fn rare_event(
+    alloc: Global,
+    draw: &mut Draw,
+    segment: usize,
+    segments: usize,
+) -> Result<Event, AllocError> {
+    match draw.below(50) {
+        0..=9 => Ok(Event::Fail(segment, any_fill(draw))),
+        10..=12 => Ok(Event::RestartFail(any_fill(draw))),
+        13 | 14 => {
+            let mut fills = Vec::new(alloc);
+            for _ in 0..segments {
+                fills.push(any_fill(draw))?;
+            }
+            Ok(Event::Crash(fills))
+        }
+        _ => Ok(Event::RestartCall),
+    }
 }
 
-const QUIET_SCAN: [Step<'static>; 3] = [Step::Scan, Step::Looks(&[0, 0]), Step::Answer(&[""])];
-
-#[test]
-fn quiet_scan(rt: HostRuntime) -> Result<(), AllocError> {
-    play(&rt, 1, &QUIET_SCAN)
+/// A scanner's scan: its set, unless it is of all segments, and how many updates were shown at its beginning and at its
+/// last look.
+#[derive(Clone, Copy, Drop)]
+struct OpenScan {
+    set: Option<SegmentSet>,
+    start: usize,
+    last: usize,
 }
 
-const PARTIAL: [Step<'static>; 7] = [
-    Step::Pick(0b101),
-    Step::NotNow(Early::Scan),
-    Step::Looks(&[0, 0]),
-    Step::Store(1, "a", &[0, 0, 0, 0, 0, 0], &FIRST_STORE),
-    Step::Show(1, 1),
-    Step::Looks(&[0, 0]),
-    Step::Part(&[(0, ""), (2, "")]),
-];
-
-/// A scan of two of three segments is clean, while the third one moves.
-#[test]
-fn partial_script(rt: HostRuntime) -> Result<(), AllocError> {
-    play(&rt, 3, &PARTIAL)
+/// A plain model of the world, from the replies so far.
+#[derive(Drop)]
+struct Followed {
+    segments: usize,
+    /// The updates that were shown, or taken by a restart.
+    history: Vec<Update>,
+    /// The value of each writer's update that has begun and was not shown.
+    begun: Vec<Option<Vec<u8>>>,
+    scans: Vec<OpenScan>,
 }
 
-const PARTIAL_NOT_NOW: [Step<'static>; 6] = [
-    Step::NotNow(Early::Pick(0b1000)),
-    Step::NotNow(Early::Pick(0b1101)),
-    Step::NotNow(Early::Pick(0)),
-    Step::Pick(0b111),
-    Step::NotNow(Early::Pick(0b101)),
-    Step::Looks(&[0, 0, 0, 0, 0, 0]),
-];
+impl Followed {
+    fn new(alloc: Global, segments: usize, scanners: usize) -> Result<Followed, AllocError> {
+        let mut begun = Vec::new(alloc);
+        for _ in 0..segments {
+            begun.push(None)?;
+        }
+        Ok(Followed {
+            segments,
+            history: Vec::new(alloc),
+            begun,
+            scans: vec![in alloc; OpenScan {
+                set: None,
+                start: 0,
+                last: 0
+            }; scanners]?,
+        })
+    }
 
-/// The set has to name a segment, and none that isn't there.
-#[test]
-fn partial_not_now(rt: HostRuntime) -> Result<(), AllocError> {
-    play(&rt, 3, &PARTIAL_NOT_NOW)
+    /// A scan begins.
+    fn open(&mut self, scanner: usize, set: Option<SegmentSet>) {
+        let now = self.history.len();
+        self.scans[scanner] = OpenScan {
+            set,
+            start: now,
+            last: now,
+        };
+    }
+
+    /// Takes in one event. `false` if its reply is a memory that there wasn't during the scan.
+    fn agrees(&mut self, alloc: Global, event: &Event, reply: &Reply) -> Result<bool, AllocError> {
+        match (event, reply) {
+            (Event::Begin(segment, value), Reply::Begun) => {
+                self.begun[*segment] = Some(value.to_vec(alloc)?);
+            }
+            (Event::Show(segment), Reply::Shown) => {
+                if let Some(value) = self.begun[*segment].take() {
+                    self.history.push(Update::new(*segment, value))?;
+                }
+            }
+            (Event::Scan(scanner), Reply::ScanBegun) => self.open(*scanner, None),
+            (Event::Pick(scanner, set), Reply::ScanBegun) => self.open(*scanner, Some(*set)),
+            (Event::Look(Actor::Scanner(scanner)), Reply::Number(_)) => {
+                self.scans[*scanner].last = self.history.len();
+            }
+            (Event::Answer(scanner), Reply::Memory(_) | Reply::Part(_)) => {
+                return self.was(alloc, *scanner, reply);
+            }
+            (Event::Serve, Reply::Memory(memory)) => return self.served(alloc, memory),
+            _ => {}
+        }
+        Ok(true)
+    }
+
+    /// Takes in the memory that a restart serves. `false` if it isn't the memory after the updates so far and some of
+    /// the begun ones.
+    fn served(&mut self, alloc: Global, memory: &Vec<Vec<u8>>) -> Result<bool, AllocError> {
+        let before = memory_after(alloc, self.segments, &self.history)?;
+        for (segment, value) in memory.iter().enumerate() {
+            let begun = self.begun[segment].take();
+            if before.get(segment) != Some(value) {
+                match begun {
+                    Some(new) if new == *value => {
+                        self.history.push(Update::new(segment, new))?;
+                    }
+                    _ => return Ok(false),
+                }
+            }
+        }
+        Ok(memory_after(alloc, self.segments, &self.history)? == *memory)
+    }
+
+    /// Whether the reply shows the memory at a moment of the scanner's scan, by the plain program.
+    fn was(&self, alloc: Global, scanner: usize, reply: &Reply) -> Result<bool, AllocError> {
+        let scan = self.scans[scanner];
+        for moment in scan.start..=scan.last {
+            let memory = memory_after(alloc, self.segments, &self.history[..moment])?;
+            if shows(alloc, &memory, scan.set, reply)? {
+                return Ok(true);
+            }
+        }
+        Ok(false)
+    }
 }
 
-const BORROWED_PART: [Step<'static>; 9] = [
-    Step::Pick(0b101),
-    Step::Looks(&[0]),
-    Step::Store(0, "a", &[0, 0, 0, 0, 0, 0], &FIRST_STORE),
-    Step::Show(0, 1),
-    Step::Looks(&[0, 1]),
-    Step::Store(0, "b", &[1, 0, 0, 1, 0, 0], &LATER_STORE),
-    Step::Show(0, 2),
-    Step::Looks(&[0, 2]),
-    Step::Part(&[(0, "a"), (2, "")]),
-];
+/// Whether the reply shows this memory: all of it or, to a scan of some segments, those.
+fn shows(
+    alloc: Global,
+    memory: &Vec<Vec<u8>>,
+    set: Option<SegmentSet>,
+    reply: &Reply,
+) -> Result<bool, AllocError> {
+    match (set, reply) {
+        (None, Reply::Memory(values)) => Ok(values == memory),
+        (Some(set), Reply::Part(entries)) => Ok(*entries == part_of(alloc, memory, set)?),
+        _ => Ok(false),
+    }
+}
 
-/// A scan of some segments borrows their entries of a view.
+/// The entries of this memory at the segments of the set, in ascending order.
+fn part_of(
+    alloc: Global,
+    memory: &Vec<Vec<u8>>,
+    set: SegmentSet,
+) -> Result<Vec<PartEntry>, AllocError> {
+    let mut part = Vec::new(alloc);
+    for (segment, value) in memory.iter().enumerate() {
+        if segment < MAX_SEGMENTS && set.has(segment) {
+            part.push(PartEntry {
+                segment,
+                value: value.to_vec(alloc)?,
+            })?;
+        }
+    }
+    Ok(part)
+}
+
 #[test]
-fn borrowed_part(rt: HostRuntime) -> Result<(), AllocError> {
-    play(&rt, 3, &BORROWED_PART)
+fn generated_runs(rt: HostRuntime) -> Result<(), Fail> {
+    let alloc = rt.alloc();
+    for (seed, segments, scanners) in [
+        (1, 1, 1),
+        (2, 2, 1),
+        (3, 2, 3),
+        (4, 4, 2),
+        (5, 16, 1),
+        (6, 3, 1),
+        (7, 3, 2),
+    ] {
+        let events = events_of(alloc, seed, segments, scanners, 30_000)?;
+        let replies = World::new(alloc, segments, scanners)?.run(&events)?;
+        assert!(rt; replies.len() == events.len(), "seed {seed}");
+        let mut followed = Followed::new(alloc, segments, scanners)?;
+        let (mut memories, mut restarts) = (0, 0);
+        for (event, reply) in events.iter().zip(replies.iter()) {
+            let is_right = followed.agrees(alloc, event, reply)?;
+            assert!(rt; is_right, "seed {seed}: {reply:?}");
+            match (event, reply) {
+                (Event::Serve, Reply::Memory(_)) => restarts += 1,
+                (_, Reply::Memory(_)) => memories += 1,
+                _ => {}
+            }
+        }
+        assert!(rt; memories >= 10, "seed {seed}: {memories} memories");
+        assert!(rt; restarts >= 20, "seed {seed}: {restarts} restarts");
+        if segments == 3 {
+            each_set_answers(&rt, &replies, seed);
+        }
+    }
+    Ok(())
+}
+
+/// Each set of three segments had an answer with its segments.
+fn each_set_answers(rt: &impl Abort, replies: &[Reply], seed: u64) {
+    let mut answered = [false; 8];
+    for reply in replies {
+        if let Reply::Part(entries) = reply {
+            let mut bits = 0;
+            for entry in entries {
+                bits |= 1_usize << entry.segment % 3;
+            }
+            answered[bits % 8] = true;
+        }
+    }
+    for bits in 1..8 {
+        assert!(rt; answered[bits], "seed {seed}: no answer of {bits:#b}");
+    }
 }

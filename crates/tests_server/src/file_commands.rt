@@ -1,10 +1,10 @@
-//! Whether the errors of a command were written: `snapd` ends by the status alone.
+//! Errors of a command whose writer fails: `snapd` ends by the status alone.
 use snap_devices::MemDisk;
 use snap_disk::Disk;
 use snap_file_commands::{act, finish};
 use snap_order::{FileOrder, Status};
 use snap_slot::FILE_LEN;
-use snap_stream::{TestStream, Unknown};
+use snap_stream::{NoReason, TestStream};
 use std::process::Abort;
 use std::test::Fail;
 
@@ -40,7 +40,7 @@ fn ends_so(rt: &(impl Abort + AllocGlobal), passes: usize) -> Result<(), Fail> {
         step: 2,
     };
     let (disk, end) = act(rt.alloc(), &order, disk, &mut reader, &mut output);
-    let ended = finish(rt.alloc(), &order, disk.len(), end, &Unknown, &mut errors);
+    let ended = finish(rt.alloc(), &order, disk.len(), end, &NoReason, &mut errors);
     assert!(rt; ended.status == Status::Refused && output.is_empty());
     assert!(rt; ended.is_told == (passes == UNFORMATTED.len()));
     assert_eq!(rt; errors.bytes.as_slice(), &UNFORMATTED.as_bytes()[..passes]);

@@ -1,4 +1,4 @@
-//! Files and names that no folder of a system has, or that are judged before they come so far.
+//! Files and names that no real folder has, or that `snapd` refuses before they reach this code.
 use snap_file_commands::{FolderFault, SegmentPlace, is_further, is_segment_name, order_files};
 use std::test::Fail;
 

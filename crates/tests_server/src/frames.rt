@@ -31,6 +31,14 @@ pub(crate) const SNAPSHOT_HI: &[u8] = &[
     0, 0, 0, 0,
 ];
 
+/// A scan of the first two segments, and its reply after the update.
+pub(crate) const BOTH: &[u8] = &[0, 0, 0, 3, 4, 0, 3];
+
+pub(crate) const BOTH_HI: &[u8] = &[
+    0, 0, 0, 30, 0x84, 2, 0, 0, 0, 0, 0, 0, 0, 0, 1, 0, 0, 0, 2, 0x68, 0x69, 1, 0, 0, 0, 0, 0, 0,
+    0, 0, 0, 0, 0, 0,
+];
+
 pub(crate) const STATUS: &[u8] = &[0, 0, 0, 1, 3];
 
 /// Another value of the same number.

@@ -1,4 +1,4 @@
-//! What of servers their clients don't see: when their texts are flushed, and the gate that each request passes.
+//! Servers as no client sees them: when their texts are flushed, and the gate that each request passes.
 
 mod gates;
 mod rooms;
@@ -17,7 +17,7 @@ use std::test::Fail;
 use std::thread::yield_now;
 use std::{io, thread};
 
-/// What is found in new files, after their names.
+/// The report on new files, after their names.
 const FOUND: &str = "number 0 length 0 spare closed";
 
 /// Whether the server printed its report, its address and its end, each flushed, and nothing else.

@@ -1,17 +1,13 @@
 //! Servers over loopback, with both ends in one process.
 
 mod announcements;
-mod barrier;
 mod course;
-mod faults;
-mod floods;
-mod partings;
+mod gates;
 mod shop;
-mod talks;
 
 use course::Course;
 use shop::{Shop, Store};
-use snap_server::{Gate, Limits, Listen, NoAnnouncement, Note, RunFault, ServerFault, Tcp, run};
+use snap_server::{Gate, Limits, NoAnnouncement, RunFault, ServerEvent, ServerFault, Tcp, run};
 use std::alloc::{AllocError, Global};
 use std::io;
 use std::io::{Read, Write};
@@ -54,16 +50,12 @@ fn limits(connections: Option<u64>) -> Limits {
     }
 }
 
-/// Runs a server with `workers` workers and one store behind a gate.
-fn serve_behind<
-    R: Threads + Wait + Clock + Net + AllocGlobal + Sync,
-    L: Listen + Drop,
-    G: Gate + Sync,
->(
+/// Serves `connections` connections with `workers` workers and one store, with a gate around each request.
+fn serve_behind<R: Threads + Wait + Clock + Net + AllocGlobal + Sync, G: Gate + Sync>(
     rt: &R,
-    listener: L,
+    tcp: &Tcp,
     workers: usize,
-    limits: Limits,
+    connections: u64,
     course: &Course,
     gate: &G,
 ) -> Result<u64, ServerFault> {
@@ -71,12 +63,12 @@ fn serve_behind<
     let Ok((shops, stores)) = shops(rt, alloc, workers, course) else {
         return Err(ServerFault::NoMemory);
     };
-    let note = |note: &Note| course.note(note);
+    let (limits, note) = (limits(Some(connections)), |_: &ServerEvent| {});
     let said = &NoAnnouncement;
     match run(
         rt,
         alloc,
-        listener,
+        tcp,
         shops,
         stores,
         limits,
@@ -89,17 +81,6 @@ fn serve_behind<
         Err(RunFault::Server(fault)) => Err(fault),
         Err(RunFault::Announcement(_)) => unreachable!(),
     }
-}
-
-/// The same, with the course as its gate.
-fn serve<R: Threads + Wait + Clock + Net + AllocGlobal + Sync, L: Listen + Drop>(
-    rt: &R,
-    listener: L,
-    workers: usize,
-    connections: Option<u64>,
-    course: &Course,
-) -> Result<u64, ServerFault> {
-    serve_behind(rt, listener, workers, limits(connections), course, course)
 }
 
 /// A listener at a port that the system picks, and its address.
@@ -119,13 +100,6 @@ fn send(rt: &HostRuntime, address: SocketAddr, bytes: &[u8]) -> io::Result<TcpSt
     stream.write_all(bytes)?;
     stream.shutdown(Shutdown::Write)?;
     Ok(stream)
-}
-
-/// All that the other end sends, until it sends no more.
-fn received(rt: &HostRuntime, mut stream: TcpStream) -> io::Result<Vec<u8>> {
-    let mut bytes = Vec::new(rt.alloc());
-    stream.read_to_end(&mut bytes)?;
-    Ok(bytes)
 }
 
 /// Whether these bytes come next.

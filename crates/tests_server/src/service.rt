@@ -1,14 +1,11 @@
 //! Sessions with a node over new files.
 use crate::frames::{
-    CONFLICT, FAILED, FENCED, HI, NO_SEGMENT, OUT_OF_STEP, Pair, REPEAT, SCAN, SNAPSHOT_HI, STATUS,
-    STATUS_HI, STORED_0, STORED_1, halves, joined,
+    BOTH, BOTH_HI, CONFLICT, FAILED, FENCED, HI, NO_SEGMENT, OUT_OF_STEP, Pair, REPEAT, SCAN,
+    SNAPSHOT_HI, STATUS, STATUS_HI, STORED_0, STORED_1, halves,
 };
 use crate::stores::{failing, new_files, open};
-use bytes::Bytes;
-use snap_client::{Client, ClientFault};
 use snap_devices::MemDisk;
-use snap_frame::{Reply, Request};
-use snap_memory::{Scanner, SegmentSet};
+use snap_memory::Scanner;
 use snap_restart::Store;
 use snap_service::{Memory, Node, Shared};
 use snap_session::{End, serve};
@@ -61,7 +58,7 @@ fn serve_bytes<M: Memory, R: Wait>(
     })
 }
 
-/// The same with a node of this store.
+/// A session over these bytes with a node of this store.
 fn serve_store<R: Wait>(
     rt: &R,
     alloc: Global,
@@ -75,7 +72,7 @@ fn serve_store<R: Wait>(
     }
 }
 
-/// The same with a node over these files.
+/// A session over these bytes with a node over these files.
 fn serve_files(
     rt: &(impl Abort + AllocGlobal + Wait),
     devices: Vec<MemDisk>,
@@ -108,6 +105,10 @@ fn long_update(alloc: Global, len: u16) -> Result<Vec<u8>, AllocError> {
 }
 
 const MALFORMED: &[u8] = &[0, 0, 0, 10, 0xE0, 1, 0, 0, 0, 0, 0, 0, 0, 0];
+
+// A node that refuses each new update as `Worn`, or each scan as `NoMemory`, and does nothing meets every clause of
+// `Answers`: there may be no looks and no memory left. Only the next test shows that no node gives up so, and only
+// tests/test_service_allocations.py shows that it asks for memory only if it has to.
 
 #[test]
 fn vectors_in_order(rt: HostRuntime) -> Result<(), Fail> {
@@ -148,11 +149,12 @@ fn scans_take_two_looks_a_segment(rt: HostRuntime) -> Result<(), Fail> {
     Ok(())
 }
 
-// A scan of some segments, one that isn't there, and none.
+// Scans of some segments, of both, of one that isn't there, and of none.
 #[test]
 fn partial_frames(rt: HostRuntime) -> Result<(), Fail> {
-    let talk: [Pair<'_>; 4] = [
+    let talk: [Pair<'_>; 5] = [
         (HI, STORED_1),
+        (BOTH, BOTH_HI),
         (
             PART,
             &[0, 0, 0, 15, 0x84, 1, 1, 0, 0, 0, 0, 0, 0, 0, 0, 0, 0, 0, 0],
@@ -167,7 +169,7 @@ fn partial_frames(rt: HostRuntime) -> Result<(), Fail> {
     Ok(())
 }
 
-/// What is asked and answered while the only segment's first store fails, and after it.
+/// Requests and their replies while the only segment's first store fails, and after it.
 const FAULT: [Pair<'static>; 6] = [
     (HI, FAILED),
     (
@@ -190,97 +192,5 @@ fn fault_fences_the_segment(rt: HostRuntime) -> Result<(), Fail> {
         devices.push(failing(rt.alloc(), disk)?)?;
     }
     assert!(rt; is_talk(&rt, devices, &FAULT, End::Closed)?);
-    Ok(())
-}
-
-/// What a client writes for the request, and its answer to these bytes.
-fn call(
-    alloc: Global,
-    request: &Request,
-    replies: &[u8],
-) -> Result<(Vec<u8>, Result<Reply, ClientFault>), AllocError> {
-    let reader = stream(Vec::from_slice(alloc, replies)?);
-    let mut client = Client::new(alloc, reader, stream(Vec::new(alloc)));
-    let answer = client.call(request);
-    let (_, writer) = client.into_parts();
-    Ok((writer.bytes, answer))
-}
-
-/// The answer of a client to the request, with a node over new files of two segments that was asked these frames
-/// before.
-fn call_node(
-    rt: &(impl Abort + AllocGlobal + Wait),
-    before: &[u8],
-    request: &Request,
-) -> Result<Reply, Fail> {
-    let (asked, fault) = call(rt.alloc(), request, &[])?;
-    assert!(rt; fault == Err(ClientFault::Ended));
-    let skipped = serve_files(rt, new_files(rt.alloc(), 2)?, before)?
-        .written
-        .len();
-    let input = joined(rt.alloc(), &[before, &asked])?;
-    let written = serve_files(rt, new_files(rt.alloc(), 2)?, &input)?.written;
-    let (_, answer) = call(rt.alloc(), request, &written[skipped..])?;
-    match answer {
-        Ok(reply) => Ok(reply),
-        Err(_) => panic!(rt; "no answer"),
-    }
-}
-
-// A node that refuses each new update as `Worn`, or each scan as `NoMemory`, and does nothing meets every clause of
-// `Answers`: there may be no looks and no memory left. Only the first two of these tests show that no node gives up so,
-// and only tests/test_service_allocations.py shows that it asks for memory only if it has to.
-
-#[test]
-fn node_gives_up_no_new_update(rt: HostRuntime) -> Result<(), Fail> {
-    let request = Request::Update {
-        segment: 0,
-        number: 1,
-        value: Bytes::copy_from_slice(rt.alloc(), b"hi")?,
-    };
-    assert!(rt; call_node(&rt, &[], &request)? == Reply::Stored(1));
-    Ok(())
-}
-
-/// The numbers and the values of both segments after the update.
-const AFTER: [(u64, &[u8]); 2] = [(1, b"hi"), (0, b"")];
-
-#[test]
-fn node_gives_up_no_scan(rt: HostRuntime) -> Result<(), Fail> {
-    let Reply::Snapshot(values) = call_node(&rt, HI, &Request::Scan)? else {
-        panic!(rt; "no snapshot")
-    };
-    assert!(rt; values.len() == 2);
-    for (given, want) in values.iter().zip(AFTER) {
-        assert!(rt; given.number == want.0 && given.value.as_slice() == want.1);
-    }
-    Ok(())
-}
-
-#[test]
-fn client_asks_a_node_for_its_status(rt: HostRuntime) -> Result<(), Fail> {
-    let Reply::Status(statuses) = call_node(&rt, HI, &Request::Status)? else {
-        panic!(rt; "no status")
-    };
-    assert!(rt; statuses.len() == 2);
-    for (given, want) in statuses.iter().zip(AFTER) {
-        assert!(rt; given.number == want.0 && !given.is_fenced);
-    }
-    Ok(())
-}
-
-#[test]
-fn client_asks_a_node_for_some_segments(rt: HostRuntime) -> Result<(), Fail> {
-    for (bits, count) in [(3, 2), (1, 1)] {
-        let request = Request::Part(SegmentSet { bits });
-        let Reply::Part(values) = call_node(&rt, HI, &request)? else {
-            panic!(rt; "no part")
-        };
-        assert!(rt; values.len() == count);
-        for (segment, (given, want)) in values.iter().zip(AFTER).enumerate() {
-            assert!(rt; usize::from(given.segment) == segment && given.number == want.0);
-            assert!(rt; given.value.as_slice() == want.1);
-        }
-    }
     Ok(())
 }

@@ -5,7 +5,7 @@ use bytes::Bytes;
 use http::{Request, StatusCode};
 use http_server::{Response, Service};
 use mio::net::TcpListener;
-use snap_http::{MAX_GUESTS, Site, Stop};
+use snap_http::{HttpServer, MAX_CONNECTIONS, StopHandle};
 use std::alloc::AllocError;
 use std::io::{self, Read, Write};
 use std::net::{Ipv4Addr, Net, Shutdown, SocketAddr, TcpStream};
@@ -24,7 +24,7 @@ const SAID: &[u8] = b"HTTP/1.1 202 Accepted\r\ncontent-length: 3\r\n\r\nhi\n";
 const SAID_LAST: &[u8] =
     b"HTTP/1.1 202 Accepted\r\ncontent-length: 3\r\nconnection: close\r\n\r\nhi\n";
 
-/// Answers each request by the same.
+/// Answers each request by the same response.
 #[derive(Drop)]
 struct Greeter;
 
@@ -44,14 +44,14 @@ impl Service for Greeter {
 /// A server at a port that the system picks, what stops it, and its address.
 fn open<R: Net + RandomSource + Clock + AllocGlobal>(
     rt: &R,
-) -> io::Result<(Site, Stop, SocketAddr)> {
+) -> io::Result<(HttpServer, StopHandle, SocketAddr)> {
     let listener = TcpListener::bind(rt, SocketAddr::from((Ipv4Addr::LOCALHOST, 0)))?;
     let address = listener.local_addr()?;
-    let (site, stop) = Site::new(rt, rt.alloc(), listener)?;
-    Ok((site, stop, address))
+    let (server, stop) = HttpServer::new(rt, rt.alloc(), listener)?;
+    Ok((server, stop, address))
 }
 
-/// What a client does.
+/// The steps of a client.
 #[derive(Clone, Copy)]
 enum Deed<'a> {
     /// It sends these bytes, in pieces of this length.
@@ -62,7 +62,8 @@ enum Deed<'a> {
     Last,
 }
 
-/// What a client gets until the other side ends, and whether the first silent connection was closed.
+/// The bytes that a client gets until the server ends the connection, and whether the first silent connection was
+/// closed.
 fn ask<R: Net<Stream = TcpStream> + AllocGlobal>(
     rt: &R,
     address: SocketAddr,
@@ -71,7 +72,7 @@ fn ask<R: Net<Stream = TcpStream> + AllocGlobal>(
     let (bytes, piece, silent) = match deed {
         Deed::Send(bytes, piece) => (bytes, piece, 0),
         Deed::End(bytes) => (bytes, 1_000, 0),
-        Deed::Last => (LAST, 1_000, MAX_GUESTS),
+        Deed::Last => (LAST, 1_000, MAX_CONNECTIONS),
     };
     let mut others = Vec::new(rt.alloc());
     for _ in 0..silent {
@@ -96,17 +97,17 @@ fn ask<R: Net<Stream = TcpStream> + AllocGlobal>(
     Ok((answer, is_closed))
 }
 
-/// What a client gets from a server, which is stopped then.
+/// The bytes that a client gets from a server, which is then stopped.
 fn asked<R: Threads + Wait + Clock + RandomSource + Net<Stream = TcpStream> + AllocGlobal + Sync>(
     rt: &R,
     deed: Deed<'_>,
 ) -> Result<(Vec<u8>, bool), Fail> {
-    let (site, stop, address) = open(rt)?;
+    let (server, stop, address) = open(rt)?;
     let (served, answer) = thread::join(
         rt,
         move || {
-            let mut site = site;
-            site.serve(rt, &mut Greeter, &())
+            let mut server = server;
+            server.serve(rt, &mut Greeter, &())
         },
         move || {
             let answer = ask(rt, address, deed);
@@ -164,11 +165,11 @@ fn one_more_takes_the_place_of_the_slowest(rt: HostRuntime) -> Result<(), Fail> 
 /// A stop that comes before the server serves is kept, and another one does nothing.
 #[test]
 fn a_stop_is_kept(rt: HostRuntime) -> Result<(), Fail> {
-    let (mut site, stop, _) = open(&rt)?;
+    let (mut server, stop, _) = open(&rt)?;
     stop.stop();
     stop.stop();
-    site.serve(&rt, &mut Greeter, &())?;
+    server.serve(&rt, &mut Greeter, &())?;
     drop(stop);
-    site.serve(&rt, &mut Greeter, &())?;
+    server.serve(&rt, &mut Greeter, &())?;
     Ok(())
 }

@@ -1,5 +1,5 @@
-//! How many waits of a thread that spun in vain go by without.
-use snap_spin::{Spin, WAITS_IN_A_REST};
+//! How many waits without spinning follow after a thread has spun in vain.
+use snap_session::{Spin, WAITS_IN_A_REST};
 
 #[test]
 fn spins_again_after_a_rest(rt: HostRuntime) {

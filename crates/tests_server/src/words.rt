@@ -1,4 +1,4 @@
-//! An update that is longer than what any system takes for one word of a command.
+//! An update that is longer than any system takes for one word of a command.
 use snap_args::order;
 use std::alloc::{AllocError, Global};
 use std::test::Fail;

@@ -1,9 +1,9 @@
-//! What many tests check: bytes, and what things print.
+//! Checks that many tests make: of bytes, and of printed texts.
 use std::alloc::AllocError;
 use std::fmt::Display;
 use std::process::Abort;
 
-/// What a test may do: end the process, and allocate.
+/// The runtime of a test: it may end the process, and allocate.
 pub(crate) trait Host: Abort + AllocGlobal {}
 
 impl<R: Abort + AllocGlobal> Host for R {}

@@ -1,4 +1,4 @@
-//! Devices that have a segment file, and what calls on them answer.
+//! Devices that have a segment file, and checks of calls on them.
 use crate::checks::{Host, are, prints};
 use snap_devices::{FaultPlan, MemDisk};
 use snap_disk::{Disk, Fill, Refusal};

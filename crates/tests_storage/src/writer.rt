@@ -58,7 +58,7 @@ fn shows(
     Ok(())
 }
 
-/// The device of the writer, which was called so often, and failed so often.
+/// The device of the writer, after this many calls and this many failures.
 fn called(rt: &impl Host, writer: Writer<MemDisk>, calls: u64, failures: u64) -> MemDisk {
     let disk = writer.into_segment().into_device();
     assert!(rt; disk.calls() == calls && disk.failures() == failures);

@@ -54,7 +54,7 @@ fn ask(client: &mut Client<TestStream, TestStream>, which: usize) -> Result<Repl
 #[derive(Clone, Copy)]
 struct Case<'a> {
     which: usize,
-    /// What the client reads, in pieces of at most `step` bytes. The reader fails after `passes` bytes.
+    /// The bytes that the client reads, in pieces of at most `step`. The reader fails after `passes` bytes.
     replies: &'a [u8],
     passes: usize,
     step: usize,
@@ -73,8 +73,8 @@ fn whole<'a>(which: usize, replies: &'a [u8]) -> Case<'a> {
     }
 }
 
-/// What two calls returned, how many bytes were read, and how many of the request's were written: `None` if others
-/// were.
+/// The results of two calls, how many bytes were read, and how many of the request's were written: `None` if other
+/// bytes were written.
 type Given = (Answer, Answer, usize, Option<usize>);
 
 /// Makes the request of the case twice on one connection.

@@ -40,7 +40,7 @@ fn frames_in_any_pieces(rt: HostRuntime) -> Result<(), Fail> {
     Ok(())
 }
 
-/// The same of replies.
+/// A frame of a reply is read with its last byte, and not before.
 #[test]
 fn replies_in_any_pieces(rt: HostRuntime) -> Result<(), Fail> {
     let mut feed = ReplyFeed::new(rt.alloc());
@@ -82,7 +82,7 @@ fn requests_cut_anywhere(rt: HostRuntime) -> Result<(), Fail> {
     Ok(())
 }
 
-/// The same of replies.
+/// The stream of all replies, cut in two at each of its bytes.
 #[test]
 fn replies_cut_anywhere(rt: HostRuntime) -> Result<(), Fail> {
     let replies = replies(rt.alloc())?;

@@ -4,7 +4,7 @@ mod peers;
 
 use crate::streams::{joined, sink, source};
 use peers::{Counter, Later, Peer};
-use snap_session::{End, Turn, serve};
+use snap_session::{End, Polled, serve};
 use snap_stream::TestStream;
 use std::alloc::Global;
 use std::sync::Wait;
@@ -19,7 +19,7 @@ const REQUESTS: [&[u8]; 5] = [
     &[0, 0, 0, 1, 3],
 ];
 
-/// What `Counter` answers to them in this order.
+/// The replies of `Counter` to them in this order.
 const REPLIES: [&[u8]; 5] = [
     &[0, 0, 0, 9, 0x81, 0, 0, 0, 0, 0, 0, 0, 7],
     &[0, 0, 0, 10, 0xE0, 2, 0, 0, 0, 0, 0, 0, 0, 2],
@@ -44,7 +44,7 @@ fn frames_within(len: usize) -> (usize, bool) {
     (REQUESTS.len(), true)
 }
 
-/// What a session writes, in pieces of three bytes and `room` bytes at most, and how it ends.
+/// The bytes that a session writes, in pieces of three and `room` bytes at most, and how it ends.
 fn run(rt: &impl Wait, alloc: Global, mut reader: TestStream, room: usize) -> (End, Vec<u8>) {
     let mut writer = sink(alloc, room);
     let mut service = Counter { answered: 0 };
@@ -131,9 +131,9 @@ const LATER: [&[u8]; 5] = [
 fn handed_over_and_finished_later(rt: HostRuntime) -> Result<(), Fail> {
     let input = joined(rt.alloc(), &REQUESTS)?;
     let mut peer = Peer::new(rt.alloc(), &input, 4096, false)?;
-    assert!(rt; peer.turn(&mut Later, 5) == Turn::NeedsOutcome && peer.is_waiting());
+    assert!(rt; peer.turn(&mut Later, 5) == Polled::NeedsOutcome && peer.is_waiting());
     peer.finish(9);
-    assert!(rt; peer.turn(&mut Later, 5) == Turn::Over(End::Closed));
+    assert!(rt; peer.turn(&mut Later, 5) == Polled::Over(End::Closed));
     assert!(rt; peer.written() == joined(rt.alloc(), &LATER)?.as_slice());
     Ok(())
 }
@@ -145,9 +145,9 @@ fn two_sessions_by_turns(rt: HostRuntime) -> Result<(), Fail> {
     let mut first = Peer::new(rt.alloc(), REQUESTS[0], 1, false)?;
     let mut second = Peer::new(rt.alloc(), REQUESTS[1], 1, false)?;
     let mut service = Counter { answered: 0 };
-    for end in [Turn::Again, Turn::Over(End::Closed)] {
+    for end in [Polled::Again, Polled::Over(End::Closed)] {
         assert!(rt; first.turn(&mut service, 0) == end);
-        assert!(rt; second.turn(&mut service, 1) == Turn::Over(End::Closed));
+        assert!(rt; second.turn(&mut service, 1) == Polled::Over(End::Closed));
     }
     let refused = [0, 0, 0, 10, 0xE0, 2, 0, 0, 0, 0, 0, 0, 0, 1];
     assert!(rt; first.written() == REPLIES[0] && second.written() == refused.as_slice());
@@ -198,16 +198,16 @@ fn reader_and_writer_that_wait(rt: HostRuntime) -> Result<(), Fail> {
     let input = joined(rt.alloc(), &REQUESTS)?;
     let mut peer = Peer::new(rt.alloc(), &input, 7, true)?;
     let mut service = Counter { answered: 0 };
-    let (mut has_needed_input, mut has_needed_room, mut last) = (false, false, Turn::Again);
+    let (mut has_needed_input, mut has_needed_room, mut last) = (false, false, Polled::Again);
     for _ in 0..1000 {
         last = peer.turn(&mut service, 0);
         match last {
-            Turn::NeedsInput => has_needed_input = true,
-            Turn::NeedsRoom => has_needed_room = true,
+            Polled::NeedsInput => has_needed_input = true,
+            Polled::NeedsRoom => has_needed_room = true,
             _ => break,
         }
     }
-    assert!(rt; last == Turn::Over(End::Closed) && has_needed_input && has_needed_room);
+    assert!(rt; last == Polled::Over(End::Closed) && has_needed_input && has_needed_room);
     assert!(rt; peer.written() == joined(rt.alloc(), &REPLIES)?.as_slice());
     Ok(())
 }

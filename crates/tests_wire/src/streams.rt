@@ -3,7 +3,7 @@ use snap_stream::TestStream;
 use std::alloc::{AllocError, Global};
 use std::process::Abort;
 
-/// What a test may do: end the process, and allocate.
+/// The runtime of a test: it may end the process, and allocate.
 pub(crate) trait Host: Abort + AllocGlobal {}
 
 impl<R: Abort + AllocGlobal> Host for R {}

@@ -1,5 +1,5 @@
-//! Opens three files at once, makes updates, closes them, opens them again and scans, and prints
-//! what came of it, for tests/test_restart_allocations.py, which refuses each allocation in turn.
+//! Opens three files at once, makes updates, closes them, opens them again and scans, and prints the results, for
+//! tests/test_restart_allocations.py, which refuses each allocation in turn.
 //!
 //!     try_parts restart-allocations made|opened|updated|closed|reopened|scanned
 //!
@@ -45,7 +45,7 @@ fn step_of(word: &str) -> Option<Step> {
     }
 }
 
-/// Opens the files with one scanner. Where that is refused it says so, the machine crashes, and they are opened again.
+/// Opens the files with one scanner. If that is refused, prints that, crashes the machine, and opens them again.
 fn open(rt: &HostRuntime, devices: Vec<MemDisk>) -> io::Result<Store<MemDisk>>
     ensures back { IfOk result (λ s. AreBack s.writers.items s.scanners.items) }
 {

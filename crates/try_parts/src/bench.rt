@@ -1,4 +1,4 @@
-//! What `make bench` times.
+//! Parts that `make bench` times.
 mod calls;
 pub(crate) mod memory;
 pub(crate) mod restart;

@@ -23,7 +23,7 @@ pub fn formatted<D: Disk + Drop>(disk: D, index: u8, count: u8) -> io::Result<D>
     }
 }
 
-/// The same in memory.
+/// The new file of segment `index` of `count`, in memory.
 pub fn new_memory(alloc: Global, index: u8, count: u8) -> io::Result<MemDisk> {
     formatted(MemDisk::zeroed(alloc, FILE_LEN as usize)?, index, count)
 }
@@ -56,7 +56,7 @@ pub fn try_open_all<D: Disk + Drop>(
     Ok(open_all(alloc, devices, scanners))
 }
 
-/// The same, where nothing is to refuse it.
+/// Opens all files for `scanners` scanners, where nothing may refuse it.
 pub fn opened_all<D: Disk + Drop>(
     alloc: Global,
     devices: Vec<D>,

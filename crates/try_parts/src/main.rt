@@ -60,8 +60,8 @@ fn explain(rt: &HostRuntime) -> io::Result<()> {
     Err(io::Error::other("there is no such word"))
 }
 
-/// Does what the first word asks for, with the other words. `host` is the same runtime, which may also start threads,
-/// wait and connect.
+/// Runs the part that the first word names, with the other words. `host` is the runtime again, for parts that may start
+/// threads, wait and connect.
 fn run<X: Threads + Wait + Clock + Net + Sync>(
     host: &X,
     rt: &HostRuntime,

@@ -1,19 +1,18 @@
-//! Pulls the plug on threads, and judges what a crash leaves: the crash law where nothing holds still.
+//! Cuts the power of all devices while threads update and scan, and checks what a crash leaves.
 //!
 //!     try_parts plug ROUNDS SEED
 //!
-//! A machine has four files in memory, four clients that update them and two scanners, each in a
-//! thread of its own. All devices hang on one plug. The call of a drawn number pulls it, with or
-//! without having done its work: from then on each call of each device fails and changes nothing,
-//! wherever the threads are. Then the files are crashed by drawn fills and opened again, and what
-//! comes back is judged: of each segment the last number that its client received or a scan showed, or
-//! one more where a call of a further store was done, with the value of that number.
+//! A machine has four files in memory, four clients that update them and two scanners, each in a thread of its own. One
+//! plug powers all devices. The call of a drawn number pulls it, before or after its own work: from then on each call
+//! of each device fails and changes nothing, wherever the threads are. Then the files are crashed by drawn fills and
+//! opened again, and checked: each segment has the last number that its client received or a scan showed, or the next
+//! number if a call of its store was done, with the value of that number.
 //!
-//! In each round a second start follows the crash, which is cut within its opening or ends right
-//! after it, so that one crash follows the other. The files live on from round to round.
+//! In each round a second start follows the crash. It is interrupted within its opening or ends right after it, so that
+//! one crash follows another. The files stay from round to round.
 //!
-//! The line that says so is the same in every run. On standard error three more follow, which count where
-//! the pulls found the threads; no seed fixes that.
+//! The printed line is the same in every run. On standard error three more lines count where the threads were when the
+//! plug was pulled, which no seed determines.
 mod device;
 mod pull;
 mod recovery;
@@ -26,7 +25,7 @@ use rounds::pull_often;
 use std::io;
 use std::thread::Threads;
 
-/// Pulls the plug so often, from this seed.
+/// Runs this many rounds, from this seed.
 pub(crate) fn pull_plug<X: Threads + Sync>(
     host: &X,
     rt: &HostRuntime,

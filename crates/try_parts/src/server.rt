@@ -11,7 +11,7 @@ mod tally;
 
 use crossbeam_channel::{Receiver, Sender};
 use desk::open;
-use snap_server::{Ended, Ending, Limits, NoAnnouncement, Note, RunFault, Tcp, run};
+use snap_server::{CloseReason, Closed, Limits, NoAnnouncement, RunFault, ServerEvent, Tcp, run};
 use std::alloc::Global;
 use std::io;
 use std::net::{Ipv4Addr, Net, SocketAddr};
@@ -21,7 +21,7 @@ use std::thread::Threads;
 use std::time::Duration;
 use tally::Tally;
 
-/// What the words of the command ask for; a word that isn't there, or no number, is none.
+/// The options in the words of the command. A word that is missing, or is no number, counts as not given.
 #[derive(Clone, Copy)]
 struct Plan {
     workers: usize,
@@ -76,14 +76,14 @@ fn run_desks<X>(
     tcp: &Tcp,
     plan: Plan,
     tally: &Tally,
-    to: &Sender<Ended>,
+    to: &Sender<Closed>,
 ) -> io::Result<Result<u64, RunFault>>
 where
     X: Threads + Wait + Clock + Net + Sync,
 {
     let (desks, stores) = open(host, alloc, plan.workers, plan.delay)?;
-    let note = |note: &Note| {
-        if let Note::Ended(ended) = note {
+    let note = |note: &ServerEvent| {
+        if let ServerEvent::Ended(ended) = note {
             let _ = to.send(host, *ended);
         }
     };
@@ -109,13 +109,13 @@ where
 }
 
 /// Prints how each connection ended.
-fn print_ends<X: Wait>(host: &X, rt: &HostRuntime, notes: &Receiver<Ended>) -> io::Result<()> {
+fn print_ends<X: Wait>(host: &X, rt: &HostRuntime, notes: &Receiver<Closed>) -> io::Result<()> {
     for _ in host.forever() {
         let Ok(ended) = notes.try_recv(host) else {
             break;
         };
         match ended.how {
-            Ending::Session(end) => println!(rt; "{} {end:?}", ended.peer)?,
+            CloseReason::Session(end) => println!(rt; "{} {end:?}", ended.peer)?,
             how => println!(rt; "{} {how:?}", ended.peer)?,
         }
     }

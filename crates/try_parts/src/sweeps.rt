@@ -24,7 +24,7 @@ use std::io;
 use stop::{GARBAGE, Garbage, Stop};
 use subject::Subject;
 
-/// The seeds of random bytes. Of some of them the header's gate is open.
+/// The seeds of random bytes. By some of them the header's gate is open.
 const SEEDS: [u64; 8] = [1, 2, 3, 4, 19, 291, 399, u64::MAX];
 
 pub(crate) fn sweep_segment(rt: &HostRuntime) -> io::Result<()> {

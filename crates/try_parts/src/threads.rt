@@ -1,7 +1,7 @@
-//! Lets four writers over devices that fail and two scanners work in threads, crashes the machine,
-//! and opens all files again, 200 times. It judges what came back: every update that was answered
-//! is there, at most the begun one more, and no scan had shown more than the crash left. Before each
-//! crash all writers and scanners go back into their store, and it is closed.
+//! Runs four writers over failing devices and two scanners in threads, crashes the machine, and opens all files again,
+//! 200 times. It checks the recovered files: every update that was answered is there, at most the begun one more, and
+//! no scan had shown more than the crash left. Before each crash all writers and scanners are put back into their
+//! store, and it is closed.
 //!
 //! Which calls fail, and what a fault and a crash leave, is drawn from a fixed seed, so the numbers
 //! are the same in every run, whatever the threads do. tests/oracle/restart_threads.py works them

@@ -3,7 +3,7 @@
 /// How many segments there are.
 pub const SEGMENTS: usize = 4;
 
-/// Of each segment one number.
+/// A number for each segment.
 pub type Numbers = [u64; SEGMENTS];
 
 /// Whether this is the value of this number of the segment. That of 0 is empty.

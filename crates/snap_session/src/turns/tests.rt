@@ -4,7 +4,7 @@
 ghost use Rattle.std.specs.Prelude.{◌≡◌, IfOk};
 ghost use Rattle.snap_frame.specs.Messages.{IsInLimits};
 
-use super::{End, Turn, proceed};
+use super::{End, Polled, proceed};
 use crate::service::Service;
 use crate::session::Session;
 use snap_disk::Refusal;
@@ -13,7 +13,7 @@ use std::alloc::Global;
 use std::cell::Cell;
 use std::io::{self, ErrorKind, Read, Write};
 
-/// The answer of a stream's call once all its bytes have passed.
+/// The result of a call of a stream once all its bytes have passed.
 #[derive(Clone, Copy, Debug, Drop)]
 enum Then {
     Ends,
@@ -102,7 +102,7 @@ impl Write for Sink {
     }
 }
 
-/// A service that hands every update over and counts it, and answers all else at once.
+/// A service that hands every update over and counts it, and answers every other request at once.
 #[derive(Drop)]
 struct Clerk<'a> {
     handed: &'a Cell<u32>,
@@ -155,7 +155,7 @@ impl<'a> Peer<'a> {
         }
     }
 
-    fn turn(&mut self, clerk: &mut Clerk<'_>) -> Turn {
+    fn turn(&mut self, clerk: &mut Clerk<'_>) -> Polled {
         let mut piece = [0; 64];
         proceed(
             &mut self.session,
@@ -179,34 +179,34 @@ const WHOLE: &[u8] = &[0, 0, 0, 1, 2];
 
 const CUT: &[u8] = &[0, 0, 0, 1, 2, 0, 0];
 
-/// The end of a turn over a whole frame, and over one with a cut frame after it, by the answer of
-/// the next read.
-const READS: [(Then, Turn, Turn); 4] = [
+/// The result of a turn over a whole frame, and over one with a truncated frame after it, by the
+/// result of the next read.
+const READS: [(Then, Polled, Polled); 4] = [
     (
         Then::Ends,
-        Turn::Over(End::Closed),
-        Turn::Over(End::Truncated),
+        Polled::Over(End::Closed),
+        Polled::Over(End::Truncated),
     ),
     (
         Then::Fails(ErrorKind::WouldBlock),
-        Turn::NeedsInput,
-        Turn::NeedsInput,
+        Polled::NeedsInput,
+        Polled::NeedsInput,
     ),
     (
         Then::Fails(ErrorKind::Interrupted),
-        Turn::Over(End::ReadFailed),
-        Turn::Over(End::ReadFailed),
+        Polled::Over(End::ReadFailed),
+        Polled::Over(End::ReadFailed),
     ),
     (
         Then::Fails(ErrorKind::Other),
-        Turn::Over(End::ReadFailed),
-        Turn::Over(End::ReadFailed),
+        Polled::Over(End::ReadFailed),
+        Polled::Over(End::ReadFailed),
     ),
 ];
 
-/// The first turn over these bytes and a reader that then answers so, and how many bytes of replies
-/// were written.
-fn turn_over(alloc: Global, bytes: &[u8], then: Then) -> (Turn, usize) {
+/// Takes the first turn over these bytes and a reader that then returns `then`. Returns its result,
+/// and how many bytes of replies were written.
+fn turn_over(alloc: Global, bytes: &[u8], then: Then) -> (Polled, usize) {
     let handed = Cell::new(0);
     let mut clerk = Clerk { handed: &handed };
     let source = Source::new(bytes, 64, then);
@@ -215,7 +215,7 @@ fn turn_over(alloc: Global, bytes: &[u8], then: Then) -> (Turn, usize) {
     (turn, peer.sink.written)
 }
 
-/// Only `WouldBlock` is waiting, and every whole frame is answered before.
+/// Only `WouldBlock` means to wait, and every whole frame is answered before.
 #[test]
 fn a_read_that_gives_nothing(rt: HostRuntime) {
     for (then, whole, cut) in READS {
@@ -230,20 +230,24 @@ fn a_read_that_gives_nothing(rt: HostRuntime) {
     }
 }
 
-/// The end of a turn that owes more than the writer takes, by the answer of the next write.
-const WRITES: [(Then, Turn); 4] = [
-    (Then::Ends, Turn::Over(End::WriteFailed)),
-    (Then::Fails(ErrorKind::WouldBlock), Turn::NeedsRoom),
+/// The result of a turn with more pending output than the writer takes, by the result of the next
+/// write.
+const WRITES: [(Then, Polled); 4] = [
+    (Then::Ends, Polled::Over(End::WriteFailed)),
+    (Then::Fails(ErrorKind::WouldBlock), Polled::NeedsRoom),
     (
         Then::Fails(ErrorKind::Interrupted),
-        Turn::Over(End::WriteFailed),
+        Polled::Over(End::WriteFailed),
     ),
-    (Then::Fails(ErrorKind::Other), Turn::Over(End::WriteFailed)),
+    (
+        Then::Fails(ErrorKind::Other),
+        Polled::Over(End::WriteFailed),
+    ),
 ];
 
-/// Two turns over a writer with this room that then answers so, how many bytes were written, and
-/// how many reads there were. There is always more to read.
-fn turns_short_of_room(alloc: Global, room: usize, then: Then) -> (Turn, Turn, usize, u32) {
+/// Takes two turns over a writer with this room that then returns `then`. Returns their results,
+/// how many bytes were written, and how many reads there were. There is always more to read.
+fn turns_short_of_room(alloc: Global, room: usize, then: Then) -> (Polled, Polled, usize, u32) {
     let handed = Cell::new(0);
     let mut clerk = Clerk { handed: &handed };
     let source = Source::new(CUT, 5, Then::Fails(ErrorKind::WouldBlock));
@@ -253,7 +257,7 @@ fn turns_short_of_room(alloc: Global, room: usize, then: Then) -> (Turn, Turn, u
     (first, second, peer.sink.written, peer.source.reads)
 }
 
-/// Only `WouldBlock` is waiting, and nothing is read while bytes are owed that couldn't be written.
+/// Only `WouldBlock` means to wait, and nothing is read while output is pending.
 #[test]
 fn a_write_that_takes_nothing(rt: HostRuntime) {
     for (then, turn) in WRITES {
@@ -270,9 +274,9 @@ const UPDATES: &[u8] = &[
     0, 0, 0, 2, 0x69,
 ];
 
-/// Two turns, of which the second finds all as the first left it, and how many requests had been
-/// handed over before the first one, after it, and after the second.
-fn two_turns(peer: &mut Peer<'_>, clerk: &mut Clerk<'_>) -> (Turn, Turn, u32, u32, u32) {
+/// Takes two turns, of which the second begins where the first ended. Returns their results, and
+/// how many requests had been handed over before the first one, after it, and after the second.
+fn two_turns(peer: &mut Peer<'_>, clerk: &mut Clerk<'_>) -> (Polled, Polled, u32, u32, u32) {
     let before = clerk.handed.get();
     let first = peer.turn(clerk);
     let between = clerk.handed.get();
@@ -281,7 +285,7 @@ fn two_turns(peer: &mut Peer<'_>, clerk: &mut Clerk<'_>) -> (Turn, Turn, u32, u3
 }
 
 /// Each update is handed over once, however often its session gets a turn before its outcome, and
-/// no other request is.
+/// no other request is handed over.
 #[test]
 fn handed_over_once(rt: HostRuntime) {
     let handed = Cell::new(0);
@@ -290,8 +294,8 @@ fn handed_over_once(rt: HostRuntime) {
     let mut peer = Peer::new(rt.alloc(), source, Sink::new(usize::MAX, Then::Ends));
     for update in [0, 1] {
         let wants = (
-            Turn::NeedsOutcome,
-            Turn::NeedsOutcome,
+            Polled::NeedsOutcome,
+            Polled::NeedsOutcome,
             update,
             update + 1,
             update + 1,
@@ -302,6 +306,6 @@ fn handed_over_once(rt: HostRuntime) {
         );
         peer.finish(&mut clerk);
     }
-    let wants = (Turn::NeedsInput, Turn::NeedsInput, 2, 2, 2);
+    let wants = (Polled::NeedsInput, Polled::NeedsInput, 2, 2, 2);
     assert!(rt; two_turns(&mut peer, &mut clerk) == wants && peer.sink.written == 42);
 }

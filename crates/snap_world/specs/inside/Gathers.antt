@@ -1,5 +1,6 @@
 -- A scan in progress and a register, as parts of a history.
-use Rattle.std.specs.Prelude.{◌≡◌, ℕ, ◌+◌, ◌^◌, ◌<◌, ◌≤◌, List, [], length, map, take, get_or, slice_get, Option, Some, None}
+use Rattle.std.specs.Prelude.{◌≡◌, ℕ, ◌+◌, ◌^◌, ◌<◌, ◌≤◌, List, [], length, map, take, get_or, slice_get, Option}
+use Rattle.std.specs.Prelude.{Some, None}
 use Rattle.snap_history.specs.History.{Update, from_nothing, number_after, value_after, IsMemory}
 use Rattle.snap_history.specs.Pairs.{Pairs}
 use Rattle.snap_scan.specs.Course.{IsNext}

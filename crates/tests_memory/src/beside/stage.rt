@@ -35,7 +35,7 @@ pub(crate) struct Stage {
 }
 
 impl Stage {
-    /// Does an event in the world, which has to give this reply.
+    /// Runs an event in the world, which has to give this reply.
     pub(crate) fn expect(&mut self, event: Event, reply: Reply) {
         match self.world.step(&event) {
             Ok(given) if given == reply => {}
@@ -43,7 +43,7 @@ impl Stage {
         }
     }
 
-    /// Does the events of this kind for as long as the world does them. How many there were.
+    /// Runs events of this kind for as long as the world accepts them, and counts them.
     fn count(&mut self, event: Event) -> u64 {
         for count in 0..1000 {
             match self.world.step(&event) {
@@ -93,7 +93,7 @@ impl Stage {
         }
     }
 
-    /// The same, with up to two others between its scan and its publication.
+    /// An update of a drawn segment, with up to two others between its scan and its publication.
     fn update(&mut self) {
         let segment = self.draw.below(self.writers.len());
         if let Some(mut writer) = self.writers[segment].take() {

@@ -11,7 +11,7 @@ use std::alloc::{AllocError, Global};
 use std::process::Abort;
 use std::test::Fail;
 
-/// Of each segment one number; those of segments that aren't named are 0.
+/// A number for each segment; those of segments that aren't named are 0.
 pub(crate) type Numbers = [u64; MAX_SEGMENTS];
 
 /// The numbers of the named segments. `None` if the list hasn't an entry for each, in ascending order, with the value

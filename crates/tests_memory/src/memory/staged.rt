@@ -163,7 +163,7 @@ fn staged<'a>(
     })
 }
 
-/// The same of two segments.
+/// A scan of two segments, before whose looks these updates are shown.
 fn stage<'a>(
     rt: &impl Abort,
     alloc: Global,

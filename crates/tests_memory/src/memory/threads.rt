@@ -1,4 +1,4 @@
-//! Writers and scanners in threads of their own, and a plain judge of all that they showed.
+//! Writers and scanners in threads of their own, and a plain check of all that they showed.
 mod looks;
 mod seen;
 
@@ -16,8 +16,8 @@ use std::sync::atomic::{AtomicU64, Ordering};
 use std::test::Fail;
 use std::thread::{Threads, for_each_mut, yield_now};
 
-/// How much there is of everything: updates of each writer, and scans of each scanner. Where there
-/// are all kinds of scanners, every second one scans drawn sets.
+/// The size of a run: updates of each writer, and scans of each scanner. If there are all kinds of scanners, every
+/// second one scans drawn sets.
 #[derive(Clone, Copy)]
 struct Size {
     segments: usize,
@@ -27,8 +27,8 @@ struct Size {
     all_kinds: bool,
 }
 
-/// How many workers there are, and how many have arrived. Of each segment, the number of the last
-/// update that began, and of the last one that ended.
+/// How many workers there are, and how many have arrived. For each segment, the number of the last update that began,
+/// and of the last one that ended.
 #[derive(Drop)]
 struct Course {
     workers: u64,
@@ -84,7 +84,7 @@ fn wait_for_all(course: &Course) {
     }
 }
 
-/// Does one worker's updates, or its scans with their record, once all have arrived. It often yields, so that even few
+/// Makes one worker's updates, or its scans with their record, once all have arrived. It often yields, so that even few
 /// processors mix the threads.
 fn work(worker: &mut Worker, course: &Course, size: Size) {
     wait_for_all(course);
@@ -153,7 +153,7 @@ fn shows_last(looking: &mut Looking, course: &Course, updates: u64) -> bool {
     last.right && segments.all(|i| !last.set.has(i) || last.numbers[i] == updates)
 }
 
-/// All work at once. Then their whole record is judged, and one more scan of each scanner.
+/// All work at once. Then their whole record is checked, and one more scan of each scanner.
 fn judged_run<R: Abort + Threads + Sync>(
     rt: &R,
     alloc: Global,

@@ -1,5 +1,5 @@
-//! Three writers and two scanners in threads of their own. What the scanners found is judged afterwards, by a checker
-//! that knows nothing of the registers.
+//! Three writers and two scanners in threads of their own. The values that the scanners found are checked afterwards,
+//! without any knowledge of the registers.
 use crate::register::word_in;
 use crate::seats::open;
 use snap_history::MAX_VALUE_LEN;

@@ -2,8 +2,8 @@
 use snap_scan::{MAX_SEGMENTS, Next, Scan, SegmentSet, most_looks};
 use std::process::Abort;
 
-/// What a scan of these segments answers after these numbers, each at the segment whose turn it is. Before the last of
-/// them it has no answer.
+/// The answer of a scan of these segments after these numbers, each at the segment whose turn it is. It has no answer
+/// before the last of them.
 fn answer_to(rt: &impl Abort, set: SegmentSet, numbers: &[u64]) -> Next {
     let mut scan = Scan::of(set);
     for number in numbers {
@@ -38,8 +38,7 @@ fn segment_at(set: SegmentSet, place: usize) -> usize {
     MAX_SEGMENTS
 }
 
-/// What comes next after these numbers in a scan of this set of `segments` segments, by the rule on the
-/// whole list.
+/// The next step after these numbers in a scan of this set of `segments` segments, by the rule on the whole list.
 fn expected_after(set: SegmentSet, segments: usize, numbers: &[u64]) -> Next {
     let last = numbers.len() - 1;
     let place = last % segments;

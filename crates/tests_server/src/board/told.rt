@@ -1,8 +1,8 @@
-//! What a board shows in the tests.
-use snap_board::{History, Surroundings, Usage};
+//! The replies and facts that a board shows in the tests.
+use snap_board::{FactSource, History, Usage};
 use snap_disk::Refusal;
-use snap_figures::{BOUNDS, Distribution, Reading, SegmentReading, Tally};
 use snap_frame::{Reply, ReplyFeed, Request};
+use snap_metrics::{BOUNDS, HistogramSnapshot, MetricsSnapshot, RequestCounts, SegmentSnapshot};
 use snap_session::Service;
 use std::alloc::{AllocError, Global};
 use std::time::Duration;
@@ -17,12 +17,12 @@ pub(crate) const STATUS: &[u8] = b"\x00\x00\x00\x14\x83\x02\
     \x00\x00\x00\x00\x00\x00\x00\x05\x00\
     \x00\x00\x00\x00\x00\x00\x00\x07\x00";
 
-/// The same, where the second is fenced.
+/// A status of two segments, of which the second is fenced.
 pub(crate) const FENCED: &[u8] = b"\x00\x00\x00\x14\x83\x02\
     \x00\x00\x00\x00\x00\x00\x00\x05\x00\
     \x00\x00\x00\x00\x00\x00\x00\x07\x01";
 
-/// The same, where both are.
+/// A status of two fenced segments.
 pub(crate) const ALL_FENCED: &[u8] = b"\x00\x00\x00\x14\x83\x02\
     \x00\x00\x00\x00\x00\x00\x00\x05\x01\
     \x00\x00\x00\x00\x00\x00\x00\x07\x01";
@@ -71,7 +71,7 @@ impl Service for Teller {
     }
 }
 
-/// The surroundings of the server in the tests.
+/// The facts of the server in the tests.
 #[derive(Drop)]
 pub(crate) struct Around {
     addresses: Vec<String>,
@@ -98,24 +98,24 @@ impl Around {
 }
 
 /// Nothing took any time.
-const NEVER: Distribution = Distribution {
+const NEVER: HistogramSnapshot = HistogramSnapshot {
     counts: [0; BOUNDS + 1],
     total: 0,
 };
 
 /// So long in all, in nanoseconds: once within the first bound, twice within the second, and three times longer than
 /// all.
-fn six(total: u64) -> Distribution {
+fn six(total: u64) -> HistogramSnapshot {
     let mut counts = [0; BOUNDS + 1];
     counts[0] = 1;
     counts[1] = 2;
     counts[BOUNDS] = 3;
-    Distribution { counts, total }
+    HistogramSnapshot { counts, total }
 }
 
 /// Refusal k came 99 + k times, but for the fifth, which never came.
-fn tally() -> Tally {
-    Tally {
+fn tally() -> RequestCounts {
+    RequestCounts {
         updates: 1,
         scans: 2,
         parts: 3,
@@ -129,26 +129,26 @@ fn tally() -> Tally {
     }
 }
 
-impl Surroundings for Around {
+impl FactSource for Around {
     ghost version_of = { λ _. codes "1.2\"3\\" };
 
-    fn reading(&self, alloc: Global) -> Result<Reading, AllocError> {
+    fn reading(&self, alloc: Global) -> Result<MetricsSnapshot, AllocError> {
         let mut segments = Vec::new(alloc);
-        segments.push(SegmentReading {
+        segments.push(SegmentSnapshot {
             stores: six(3_000_000_004),
             first_waits: six(9),
             second_waits: six(10),
             repeats: 8,
             updated: Some(1_000),
         })?;
-        segments.push(SegmentReading {
+        segments.push(SegmentSnapshot {
             stores: NEVER,
             first_waits: NEVER,
             second_waits: NEVER,
             repeats: 0,
             updated: None,
         })?;
-        Ok(Reading {
+        Ok(MetricsSnapshot {
             requests: tally(),
             segments,
             accepted: 40,

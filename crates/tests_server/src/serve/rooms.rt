@@ -1,10 +1,12 @@
 //! Servers over two segments in memory.
 use snap_disk::Disk;
-use snap_figures::Figures;
-use snap_order::{Level, Serving, Status};
-use snap_serve::{Bind, Edge, NoOnlooker, NoWatch, Unbound, host};
-use snap_server::{Arrival, BindFault, Endpoint, Gate, Listen, Locate, Note, Tcp, Unaccepted};
-use snap_stream::Unknown;
+use snap_metrics::Metrics;
+use snap_order::{Level, ServeOptions, Status};
+use snap_serve::{Bind, Environment, ListenFault, NoObserver, NoUpdateObserver, host};
+use snap_server::{
+    AcceptFault, Accepted, BindFault, Endpoint, Gate, Listen, LocalAddress, ServerEvent, Tcp,
+};
+use snap_stream::NoReason;
 use std::alloc::{AllocError, Global};
 use std::io::{self, Write};
 use std::net::{Net, SocketAddr};
@@ -35,7 +37,7 @@ impl<'a> Ready<'a> {
 impl Listen for Shared<'_> {
     ghost refuses = { λ _. Unit {0} };
 
-    fn accept(&mut self) -> Result<Arrival, Unaccepted> {
+    fn accept(&mut self) -> Result<Accepted, AcceptFault> {
         Listen::accept(&mut self.tcp)
     }
 
@@ -44,7 +46,7 @@ impl Listen for Shared<'_> {
     }
 }
 
-impl Locate for Shared<'_> {
+impl LocalAddress for Shared<'_> {
     ghost is_at = { λ shared endpoints. endpoints ≡ shared.endpoints.items };
 
     fn endpoints(&self) -> &[Endpoint] {
@@ -55,13 +57,13 @@ impl Locate for Shared<'_> {
 impl<'a> Bind for Ready<'a> {
     type Listener = Shared<'a>;
 
-    fn bind(&self, alloc: Global, _addresses: &Vec<&str>) -> Result<Shared<'a>, Unbound> {
+    fn bind(&self, alloc: Global, _addresses: &Vec<&str>) -> Result<Shared<'a>, ListenFault> {
         match vec![in alloc; Endpoint::Tcp(self.address)] {
             Ok(endpoints) => Ok(Shared {
                 tcp: self.tcp,
                 endpoints,
             }),
-            Err(_) => Err(Unbound {
+            Err(_) => Err(ListenFault {
                 place: 0,
                 why: BindFault::NoMemory,
             }),
@@ -118,7 +120,7 @@ where
         },
         errors: Vec::new(alloc),
     };
-    let order = Serving {
+    let order = ServeOptions {
         addresses: vec![in alloc; "loopback"]?,
         socket_mode: 0o600,
         files: vec![in alloc; "first", "second"]?,
@@ -129,18 +131,18 @@ where
         http: None,
         log: Level::Info,
     };
-    let figures = Figures::new(alloc, usize::from(order.scanners), order.files.len())?;
-    let nobody: Option<NoOnlooker> = None;
-    let onlooker = nobody.as_ref();
-    let note = |_note: &Note| {};
-    let edge = Edge {
+    let metrics = Metrics::new(alloc, usize::from(order.scanners), order.files.len())?;
+    let nobody: Option<NoObserver> = None;
+    let observer = nobody.as_ref();
+    let note = |_note: &ServerEvent| {};
+    let environment = Environment {
         bind,
         gate,
         note: &note,
-        watch: NoWatch,
-        figures: &figures,
-        onlooker,
-        causes: &[Unknown, Unknown],
+        watch: NoUpdateObserver,
+        metrics: &metrics,
+        observer,
+        causes: &[NoReason, NoReason],
         clients: 1_000,
         idle: None,
     };
@@ -149,7 +151,7 @@ where
         alloc,
         &order,
         devices,
-        edge,
+        environment,
         &mut seen.out,
         &mut seen.errors,
     );

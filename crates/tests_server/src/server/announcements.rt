@@ -2,7 +2,7 @@
 
 use super::course::Course;
 use super::{limits, shops};
-use snap_server::{Announce, Arrival, Listen, NoGate, Note, RunFault, Unaccepted, run};
+use snap_server::{AcceptFault, Accepted, Announce, Listen, NoGate, RunFault, ServerEvent, run};
 use std::io;
 use std::net::Net;
 use std::rt::Clock;
@@ -20,9 +20,9 @@ struct Asked {
 impl Listen for &Asked {
     ghost refuses = { λ _. Unit {0} };
 
-    fn accept(&mut self) -> Result<Arrival, Unaccepted> {
+    fn accept(&mut self) -> Result<Accepted, AcceptFault> {
         self.calls.fetch_add(1, Ordering::SeqCst);
-        Err(Unaccepted::Failed)
+        Err(AcceptFault::Failed)
     }
 
     fn close(&self) {
@@ -37,7 +37,7 @@ struct Said {
     asked: u64,
 }
 
-/// Says how often the listener was asked, or can't.
+/// Records how often the listener was asked, or fails.
 #[derive(Drop)]
 struct Telling<'a> {
     listener: &'a Asked,
@@ -61,8 +61,8 @@ impl Announce<Said> for Telling<'_> {
     }
 }
 
-/// How a server ended that was to be announced so, what was said, how often its listener was asked for a
-/// connection, and how often it was closed.
+/// How a server with such an announcement ended, what was announced, how often its listener was asked for a connection,
+/// and how often it was closed.
 fn announced<R: Threads + Wait + Clock + Net + AllocGlobal + Sync>(
     rt: &R,
     can_tell: bool,
@@ -78,7 +78,7 @@ fn announced<R: Threads + Wait + Clock + Net + AllocGlobal + Sync>(
     let course = Course::new();
     let alloc = rt.alloc();
     let (shops, stores) = shops(rt, alloc, 2, &course).ok()?;
-    let note = |note: &Note| course.note(note);
+    let note = |_: &ServerEvent| {};
     let mut said = Said { times: 0, asked: 0 };
     let limits = limits(None);
     let ended = run(

@@ -4,7 +4,7 @@ use super::course::{Course, Stand};
 use crossbeam_channel::{Receiver, Sender};
 use snap_disk::Refusal;
 use snap_frame::{Reply, Request};
-use snap_session::{Background, Done, Service};
+use snap_session::{Background, Completion, Service};
 use std::sync::Wait;
 
 /// An update that was handed over.
@@ -25,11 +25,11 @@ pub(crate) struct Store<'a, R: Wait> {
 impl<R: Wait> Background for Store<'_, R> {
     type Outcome = u64;
 
-    fn next_done(&mut self) -> Option<Done<u64>> {
+    fn next_done(&mut self) -> Option<Completion<u64>> {
         let Ok(job) = self.jobs.recv(self.rt) else {
             return None;
         };
-        Some(Done {
+        Some(Completion {
             worker: job.worker,
             key: job.key,
             outcome: job.number,

@@ -290,7 +290,8 @@ fn is_unwritten(rt: &impl Host, disk: &mut FileDisk<'_, HostRuntime>) {
 }
 
 const OVERWRITTEN: &str =
-    "write: another program wrote it or cut it, and it is left so: never copy onto a file in use: snapd load makes a new folder of a dump";
+    "write: another program wrote it or cut it, and it is left so: never copy onto a file in use: snapd load makes a \
+        new folder of a dump";
 
 /// The place of a gate.
 const GATE: u64 = 20_480;

@@ -103,8 +103,7 @@ fn headers(rt: HostRuntime) {
     }
 }
 
-/// What slot 1 is with number 1 and `hi` once these bytes are changed, those of the body from
-/// 4,096 on.
+/// The reading of slot 1 with number 1 and `hi` once these bytes are changed, those of the body from 4,096 on.
 fn is_slot(rt: &impl Host, changes: &[(usize, u8)], want: Slot) {
     let mut gate = [0; 4096];
     gate[0] = 0xA5;
@@ -160,7 +159,7 @@ fn largest_number_and_longest_value(rt: HostRuntime) {
     are(&rt, &body[16..], &value);
 }
 
-/// What an opening of a file with these slots finds. All values are `hi`.
+/// The result of opening a file with these slots. All values are `hi`.
 fn recovers(rt: &impl Host, slots: [(u8, u32); 3], want: Result<Found, Refusal>) {
     let file = file_of(slots);
     let answer = recover(&file, 0, 1);

@@ -8,7 +8,7 @@ use snap_frame::Request;
 use std::alloc::{AllocError, Global};
 use std::test::Fail;
 
-/// What the update is answered in `tries` over these connections, of which `None` can't be made, and how many of them
+/// The result of the update in `tries` over these connections, of which `None` can't be made, and how many of them
 /// weren't asked for.
 fn update(
     alloc: Global,
@@ -55,7 +55,7 @@ fn third_try_succeeds(rt: HostRuntime) -> Result<(), Fail> {
     Ok(())
 }
 
-/// What isn't tried again: a refusal, and a reply of another kind.
+/// A refusal and a reply of another kind aren't tried again.
 #[test]
 fn ends_for_good(rt: HostRuntime) -> Result<(), Fail> {
     for (reply, answer) in [

@@ -1,10 +1,10 @@
-//! What the calls of these tests return, in words.
+//! The results of calls in these tests, as words.
 
 use snap_client::ClientFault;
 use snap_disk::Refusal;
 use snap_frame::{NamedValue, Reply, SegmentStatus, SegmentValue};
 
-/// What a call returned: the words of its reply, or its fault.
+/// The result of a call: the words of its reply, or its fault.
 pub(super) type Answer = Result<&'static str, ClientFault>;
 
 /// The words of the replies of [`TALK`](super::TALK).

@@ -4,7 +4,7 @@ use snap_disk::Refusal;
 use snap_frame::{NamedValue, Reply, Request, SegmentSet, SegmentStatus, SegmentValue};
 use std::alloc::{AllocError, Global};
 
-/// What a feed answers to a frame.
+/// The answer of a feed to a frame.
 pub(crate) type Answer = Result<Option<Request>, Refusal>;
 
 pub(crate) const SCAN: &[u8] = &[0, 0, 0, 1, 2];

@@ -25,7 +25,7 @@ impl Random {
     }
 }
 
-/// What the last byte ended.
+/// The frame that the last byte ended, if it ended one.
 #[derive(Debug, Drop)]
 enum Said {
     Nothing,
@@ -75,7 +75,7 @@ impl PlainParser {
     }
 }
 
-/// What a feed has to answer to a payload.
+/// The answer that a feed has to give to a payload.
 fn answer_to(alloc: Global, payload: &[u8]) -> Result<Answer, AllocError> {
     match payload {
         [2] => Ok(Ok(Some(Request::Scan))),

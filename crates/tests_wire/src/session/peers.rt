@@ -3,7 +3,7 @@
 use crate::streams::{sink, source};
 use snap_disk::Refusal;
 use snap_frame::{Reply, Request};
-use snap_session::{Service, Session, Turn, proceed};
+use snap_session::{Polled, Service, Session, proceed};
 use snap_stream::TestStream;
 use std::alloc::{AllocError, Global};
 use std::io;
@@ -142,7 +142,7 @@ impl Peer {
     }
 
     /// A turn of its session.
-    pub(crate) fn turn<S: Service>(&mut self, service: &mut S, key: usize) -> Turn {
+    pub(crate) fn turn<S: Service>(&mut self, service: &mut S, key: usize) -> Polled {
         let mut piece = [0; 4096];
         proceed(
             &mut self.session,
@@ -166,7 +166,7 @@ impl Peer {
         }
     }
 
-    /// What the peer was sent.
+    /// The bytes that the peer was sent.
     pub(crate) fn written(&self) -> &[u8] {
         self.writer.inner.bytes.as_slice()
     }

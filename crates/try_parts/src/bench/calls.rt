@@ -75,7 +75,7 @@ fn call_each(alloc: Global, update: &Request, frames: &Frames) -> Result<Reply, 
     call_once(alloc, &Request::Scan, &frames.snapshot)
 }
 
-/// An update, a status and a scan, `rounds` times. What came of the last time.
+/// An update, a status and a scan, `rounds` times. Returns the results of the last time.
 pub(crate) fn call_rounds(
     alloc: Global,
     segments: u8,

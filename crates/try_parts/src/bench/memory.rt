@@ -25,7 +25,7 @@ use std::io;
 use std::sync::atomic::{AtomicU64, Ordering};
 use std::thread::{Threads, for_each_mut, join};
 
-/// What a round does.
+/// The operation of a round.
 #[derive(Clone, Copy)]
 enum Work {
     Look,
@@ -33,7 +33,7 @@ enum Work {
     Update,
 }
 
-/// What is repeated, and the value of each update.
+/// The repeated operation, and the value of each update.
 #[derive(Clone, Copy)]
 struct Task<'a> {
     work: Work,
@@ -41,7 +41,7 @@ struct Task<'a> {
     value: &'a [u8],
 }
 
-/// What does the rounds, and the snapshot of a scan.
+/// The seat that does the rounds, and the snapshot of a scan.
 #[derive(Drop)]
 struct Measured {
     writer: WriteSeat,

@@ -27,7 +27,7 @@ const FILES: u8 = 16;
 
 const SCANNERS: usize = 16;
 
-/// What is stored, over and over.
+/// The value that is stored, over and over.
 const VALUE: [u8; 1000] = [7; 1000];
 
 pub(crate) fn measure_restarts(rt: &HostRuntime, words: &[&str]) -> io::Result<()> {

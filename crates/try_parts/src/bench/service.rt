@@ -35,7 +35,7 @@ use std::marker::Brand;
 use std::sync::Wait;
 use std::{io, mem};
 
-/// What a round does.
+/// The request of a round.
 #[derive(Clone, Copy)]
 enum Work {
     Update,
@@ -45,7 +45,7 @@ enum Work {
     Status,
 }
 
-/// What is repeated, over how many segments of how many bytes each.
+/// The repeated request, over how many segments of how many bytes each.
 #[derive(Clone, Copy)]
 struct Task {
     work: Work,
@@ -105,7 +105,7 @@ fn serve_rounds<M: Memory, R: Wait>(
     Ok(last)
 }
 
-/// The same with a node of this store.
+/// All rounds, with a node of this store. The last reply.
 fn serve_store<R: Wait>(
     rt: &R,
     alloc: Global,
@@ -121,7 +121,7 @@ fn serve_store<R: Wait>(
     }
 }
 
-/// The same over new files.
+/// All rounds, with a node over new files. The last reply.
 fn serve_files<R: Wait>(rt: &R, alloc: Global, task: Task) -> io::Result<Option<Reply>> {
     if task.segments > 16 {
         return Err(io::Error::other("there are at most 16 segments"));
@@ -134,7 +134,7 @@ fn serve_files<R: Wait>(rt: &R, alloc: Global, task: Task) -> io::Result<Option<
     Ok(serve_store(rt, alloc, store, task)?)
 }
 
-/// Copies `len` bytes `rounds` times. What it read of them.
+/// Copies `len` bytes `rounds` times. Returns a number made of the bytes, so that they are read.
 fn copy(alloc: Global, len: usize, rounds: u64) -> Result<u8, AllocError> {
     let source = vec![in alloc; 7u8; len]?;
     let mut target = vec![in alloc; 0u8; len]?;
@@ -211,7 +211,7 @@ pub(crate) fn measure_requests<X: Wait>(
     print_reply(rt, serve_files(host, rt.alloc(), task)?)
 }
 
-/// Prints what came of the calls.
+/// Prints the results of the calls.
 fn print_calls(rt: &HostRuntime, segments: u8, rounds: u64, length: u16) -> io::Result<()> {
     match call_rounds(rt.alloc(), segments, rounds, length)? {
         Some(Ok(reply)) => print_reply(rt, Some(reply)),

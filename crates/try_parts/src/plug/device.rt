@@ -1,4 +1,4 @@
-//! A device that has power as long as nobody pulls the plug.
+//! A device that has power until the plug is pulled.
 ghost use Rattle.std.specs.Prelude.{◌≡◌, ◌≤◌, false};
 ghost use Rattle.snap_devices.specs.MemDisk.{memory_device, memory_failures};
 ghost use Rattle.snap_devices.specs.MemDisk.{memory_clock, memory_left, memory_past};
@@ -37,8 +37,7 @@ impl Plugged {
     }
 }
 
-/// Each call counts as failed until it is answered. For one that is lost no byte is read, which moves
-/// the clock on.
+/// Each call counts as failed until it is answered. A lost call reads no byte, which moves the clock on.
 impl Disk for Plugged {
     ghost use Rattle.snap_devices.specs.Past.{only_left_now};
     ghost use Rattle.std.proofs.Common.{inl};

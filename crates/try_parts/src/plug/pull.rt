@@ -12,7 +12,7 @@ pub struct Pull {
     pub is_done: bool,
 }
 
-/// What becomes of a call.
+/// The outcome of a call.
 pub enum Fate {
     /// It is done, and answered.
     Answered,
@@ -42,7 +42,7 @@ impl Plug {
         })
     }
 
-    /// The same plug for a device.
+    /// The plug for one more device.
     pub fn for_device(&self, alloc: Global) -> Result<Plug, AllocError> {
         Ok(Plug {
             asked: Arc::try_clone(&self.asked)?,
@@ -51,7 +51,7 @@ impl Plug {
         })
     }
 
-    /// The same for whoever else asks it of this device.
+    /// The plug of this device for another thread.
     pub fn copied(&self) -> Result<Plug, AllocError> {
         Ok(Plug {
             asked: Arc::try_clone(&self.asked)?,
@@ -60,8 +60,8 @@ impl Plug {
         })
     }
 
-    /// What becomes of the next call. Some calls let the other threads go on before they are done,
-    /// so that the plug is pulled in the midst of them also where one processor does all work.
+    /// The outcome of the next call. Some calls yield to other threads before they are done, so that the plug is pulled
+    /// in the midst of them also on one processor.
     pub fn next(&self) -> Fate {
         let call = self.asked.fetch_add(1, Ordering::SeqCst).saturating_add(1);
         if call > self.pull.call || call == self.pull.call && !self.pull.is_done {

@@ -1,4 +1,4 @@
-//! An opening of all files, and the judgement of what came back.
+//! An opening of all files, and the check of the recovered values.
 ghost use Rattle.std.specs.Prelude.{◌<◌};
 
 use crate::files::try_open_all;
@@ -16,14 +16,14 @@ use std::io;
 
 pub(crate) const SCANNERS: usize = 2;
 
-/// What may come back after a crash.
+/// The numbers that may come back after a crash.
 #[derive(Clone, Copy)]
 pub struct Past {
     /// The greatest number of each segment that its client received or a scan showed.
     pub least: Numbers,
-    /// One more where a call of a further store was done.
+    /// The same number, or the next one if a call of a further store was done.
     pub most: Numbers,
-    /// Where the pull found the writers.
+    /// Where the writers were when the plug was pulled.
     pub places: [Place; SEGMENTS],
 }
 
@@ -43,11 +43,11 @@ impl Past {
 pub struct Machine {
     pub store: Store<Plugged>,
     pub plug: Plug,
-    /// The same for each client, in order of the segments.
+    /// The plug of each client, in order of the segments.
     pub client_plugs: Vec<Plug>,
 }
 
-/// What came of an opening.
+/// The result of an opening.
 #[derive(Drop)]
 pub enum Opened {
     Whole(Machine),
@@ -100,8 +100,8 @@ pub(crate) fn open(alloc: Global, devices: Vec<MemDisk>, pull: Pull) -> io::Resu
     }
 }
 
-/// Whether the past allows what came back: nothing is lost that was acknowledged or shown, and
-/// nothing is there that wasn't begun.
+/// Whether the recovered numbers and values are allowed: nothing is lost that was acknowledged or shown, and nothing is
+/// there that wasn't begun.
 fn is_allowed(writer: &Writer<Plugged>, segment: usize, past: &Past) -> bool
     requires { segment < SEGMENTS }
 {
@@ -111,7 +111,7 @@ fn is_allowed(writer: &Writer<Plugged>, segment: usize, past: &Past) -> bool
         && is_value_of(segment, number, writer.value())
 }
 
-/// Says what came back, and what may, in the 80 characters that an error has room for.
+/// Writes the recovered numbers and the allowed ones in the 80 characters that an error may have.
 fn wrong(alloc: Global, writer: &Writer<Plugged>, segment: usize, past: &Past) -> io::Error
     requires { segment < SEGMENTS }
 {
@@ -126,7 +126,7 @@ fn wrong(alloc: Global, writer: &Writer<Plugged>, segment: usize, past: &Past) -
     }
 }
 
-/// Judges what came back, and counts it. From now on only that may come back.
+/// Checks the recovered numbers and values, and counts them. From now on only these may be recovered.
 pub(crate) fn judge(
     alloc: Global,
     writers: &Vec<Writer<Plugged>>,

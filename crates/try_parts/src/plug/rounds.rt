@@ -22,7 +22,7 @@ const OPENING: u64 = 2 * SEGMENTS as u64;
 /// How many calls after the opening the plug is pulled at most: some four stores of each writer.
 const CALLS: u64 = 80;
 
-/// What is kept from start to start, beside the devices.
+/// The state that is kept from start to start, beside the devices.
 #[derive(Drop)]
 struct Course {
     draw: Draw,
@@ -79,7 +79,7 @@ fn unplugged(alloc: Global, devices: Vec<Plugged>) -> Result<Vec<MemDisk>, Alloc
     Ok(disks)
 }
 
-/// A start whose opening is cut, or stays without any work.
+/// A start whose opening is interrupted, or that ends without any work.
 fn start_idle(
     alloc: Global,
     devices: Vec<MemDisk>,
@@ -122,7 +122,7 @@ fn start_work<X: Threads + Sync>(
     Ok(devices_behind(alloc, workers)?)
 }
 
-/// A start that nothing cuts, and in which nobody works.
+/// A start that isn't interrupted, and in which no thread works.
 fn start_last(alloc: Global, devices: Vec<MemDisk>, course: &mut Course) -> io::Result<()> {
     let never = Pull {
         call: u64::MAX,
@@ -139,7 +139,7 @@ fn start_last(alloc: Global, devices: Vec<MemDisk>, course: &mut Course) -> io::
     )
 }
 
-/// One round after the other, on the same files. What the last one left is judged too.
+/// Runs the rounds one after another, on the same files. The files of the last round are checked too.
 pub(crate) fn pull_often<X: Threads + Sync>(
     host: &X,
     alloc: Global,

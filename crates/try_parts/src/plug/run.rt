@@ -70,7 +70,7 @@ pub(crate) fn run<R: Threads + Sync>(
     Ok(workers)
 }
 
-/// What each client knows.
+/// The numbers that the clients received, and one more of each whose store was begun.
 fn told_by(workers: &Vec<Worker>) -> io::Result<Past> {
     let mut past = Past::at([0; SEGMENTS]);
     for worker in workers {
@@ -87,8 +87,7 @@ fn told_by(workers: &Vec<Worker>) -> io::Result<Past> {
     Ok(past)
 }
 
-/// What a scan has shown is there for good. One scan more, after all
-/// updates, has all that was acknowledged.
+/// Values that a scan has shown stay. One more scan, after all updates, has all that was acknowledged.
 fn show_to(watcher: &mut Watcher, past: &mut Past) -> io::Result<()> {
     watcher.scan();
     if !watcher.is_right {
@@ -103,7 +102,7 @@ fn show_to(watcher: &mut Watcher, past: &mut Past) -> io::Result<()> {
     Ok(())
 }
 
-/// What may come back once the machine has crashed.
+/// The numbers that may come back once the machine has crashed.
 pub(crate) fn past_of(workers: &mut Vec<Worker>) -> io::Result<Past> {
     let mut past = told_by(workers)?;
     for worker in workers.iter_mut() {

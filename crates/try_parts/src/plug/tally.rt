@@ -4,28 +4,28 @@ use crate::values::SEGMENTS;
 use snap_disk::Fill;
 use std::io;
 
-/// Of all rounds those whose pull found some writer at a place, and what came back of the stores
-/// that it cut.
+/// How many rounds pulled the plug while some writer was at each place, and which values came back of the interrupted
+/// stores.
 #[derive(Clone, Copy)]
 pub struct Tally {
     pub rounds: u64,
-    /// Those with a writer at rest.
+    /// Rounds with a writer at rest.
     pub at_rest: u64,
-    /// Those with one inside a store.
+    /// Rounds with a writer inside a store.
     pub in_store: u64,
-    /// Those with one between its store and its client's answer.
+    /// Rounds with a writer between its store and its client's answer.
     pub before_answer: u64,
-    /// Stores that were cut, and whose old value came back.
+    /// Interrupted stores whose old value came back.
     pub old: u64,
-    /// The same with the new value.
+    /// Interrupted stores whose new value came back.
     pub new: u64,
     /// Openings in the midst of which the plug was pulled.
     pub openings: u64,
     /// Crashes of a file that left its bytes.
     pub kept: u64,
-    /// Those that left one byte at all open places, that of closed gates or of open ones.
+    /// Crashes of a file that left one byte at all open places: that of closed gates or of open ones.
     pub alike: u64,
-    /// Those that tore it: its bytes up to a place, and drawn ones after it.
+    /// Crashes that tore a file: its bytes up to a place, and drawn ones after it.
     pub torn: u64,
 }
 
@@ -46,7 +46,7 @@ impl Tally {
         }
     }
 
-    /// One round more, whose pull found the writers there.
+    /// Counts a round by where its writers were.
     pub fn count(&mut self, places: &[Place; SEGMENTS]) {
         count_up(&mut self.rounds, true);
         count_up(&mut self.at_rest, places.contains(&Place::AtRest));
@@ -57,7 +57,7 @@ impl Tally {
         );
     }
 
-    /// What came back of a writer that was found there.
+    /// Counts the recovered value of a writer that was at this place.
     pub fn count_back(&mut self, place: Place, is_new: bool) {
         if place == Place::InStore {
             count_up(&mut self.new, is_new);
@@ -65,12 +65,12 @@ impl Tally {
         }
     }
 
-    /// An opening was cut.
+    /// Counts an opening that was interrupted.
     pub fn count_opening(&mut self) {
         count_up(&mut self.openings, true);
     }
 
-    /// A file was crashed by this fill.
+    /// Counts a crash of a file by this fill.
     pub fn count_fill(&mut self, fill: &Fill) {
         let count = match fill {
             Fill::Keep => &mut self.kept,

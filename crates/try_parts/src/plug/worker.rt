@@ -1,4 +1,4 @@
-//! What the clients and the scanners do until the plug is pulled, each in a thread of its own.
+//! The clients and the scanners until the plug is pulled, each in a thread of its own.
 use crate::plug::device::Plugged;
 use crate::plug::pull::Plug;
 use crate::values::value_of;
@@ -34,7 +34,7 @@ pub struct Client {
     pub segment: usize,
     /// The number of the last update that was answered.
     pub told: u64,
-    /// Where the pull found the writer.
+    /// Where the writer was when the plug was pulled.
     pub place: Place,
     /// Whether each answer was one that may come.
     pub is_right: bool,

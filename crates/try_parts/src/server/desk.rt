@@ -3,7 +3,7 @@
 use crossbeam_channel::{Receiver, Sender};
 use snap_disk::Refusal;
 use snap_frame::{Reply, Request};
-use snap_session::{Background, Done, Service};
+use snap_session::{Background, Completion, Service};
 use std::alloc::{AllocError, Global};
 use std::rt::Clock;
 use std::sync::Wait;
@@ -29,14 +29,14 @@ pub(crate) struct Store<'a, R: Wait + Clock> {
 impl<R: Wait + Clock> Background for Store<'_, R> {
     type Outcome = u64;
 
-    fn next_done(&mut self) -> Option<Done<u64>> {
+    fn next_done(&mut self) -> Option<Completion<u64>> {
         let Ok(job) = self.jobs.recv(self.rt) else {
             return None;
         };
         if !self.delay.is_zero() {
             thread::sleep(self.rt, self.delay);
         }
-        Some(Done {
+        Some(Completion {
             worker: job.worker,
             key: job.key,
             outcome: job.number,
@@ -44,8 +44,8 @@ impl<R: Wait + Clock> Background for Store<'_, R> {
     }
 }
 
-/// Hands the updates of segments 0 and 1 over and answers them by their number, those of other
-/// segments by a refusal, and everything else at once by 0.
+/// Hands the updates of segments 0 and 1 over and answers them by their number. Answers those of other segments by a
+/// refusal, and every other request at once by 0.
 #[derive(Drop)]
 pub(crate) struct Desk<'a, R: Wait> {
     pub(crate) rt: &'a R,

@@ -24,8 +24,8 @@ const PARTS: [(u64, &[u8]); 5] = [
     (16_384, b"\0\0\0\0\0\0\0\x01\0\0\0\x02\0\0\0\0hi"),
 ];
 
-/// What the stopped migration answered, and what is found after a crash of both files with this
-/// garbage: what the new file is opened as, and what a second migration answers.
+/// The result of the stopped migration, and those after a crash of both files with this garbage: of opening the new
+/// file, and of a second migration.
 pub(crate) fn migration_cell(
     alloc: Global,
     stop: Stop,
@@ -48,8 +48,8 @@ pub(crate) fn migration_cell(
     Ok((answer, format!(in alloc; "{found}, {again}")?))
 }
 
-/// What a migration to the first of `count` segments answers, in words. Devices that can count no
-/// more failures take no call.
+/// The result of a migration to the first of `count` segments, in words. Devices that can count no more failures take
+/// no call.
 pub(crate) fn migrate_words<D: Disk>(
     alloc: Global,
     old: &mut D,

@@ -1,4 +1,4 @@
-//! What is made of devices that give random bytes.
+//! Calls on devices that return random bytes.
 use crate::sweeps::migration::migrate_words;
 use crate::sweeps::recovery::{found, one_line};
 use snap_devices::{MemDisk, Noise};
@@ -8,7 +8,7 @@ use std::alloc::Global;
 use std::io;
 use std::string::String;
 
-/// What each call answers on devices whose bytes are drawn from this seed on, in words.
+/// The result of each call on devices whose bytes are drawn from this seed on, in words.
 pub(crate) fn noise_row(alloc: Global, seed: u64) -> io::Result<String> {
     let (opened, formatted) = (open_name(alloc, seed), format_name(seed));
     let all = all_words(alloc, seed)?;

@@ -8,8 +8,7 @@ use std::alloc::Global;
 use std::io;
 use std::string::String;
 
-/// What the stopped opening answered, and what the files are opened as after a crash with this
-/// garbage.
+/// The result of the stopped opening, and that of another one after a crash with this garbage.
 pub(crate) fn opening_cell(
     alloc: Global,
     stop: Stop,
@@ -74,7 +73,7 @@ fn crash_all(alloc: Global, devices: &mut Vec<MemDisk>, garbage: Garbage) {
     }
 }
 
-/// What an opening of all files answers, in words, and the devices.
+/// The result of opening all files, in words, and the devices.
 pub(crate) fn found<D: Disk + Drop>(
     alloc: Global,
     devices: Vec<D>,

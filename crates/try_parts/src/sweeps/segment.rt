@@ -1,4 +1,4 @@
-//! A formatting and stores that are stopped, and what is found after the crash.
+//! A format and stores that are stopped, and the file after the crash.
 use crate::files::{as_io, new_memory};
 use crate::sweeps::stop::{Garbage, Stop};
 use snap_devices::{FaultPlan, MemDisk};
@@ -9,8 +9,8 @@ use std::alloc::Global;
 use std::io;
 use std::string::String;
 
-/// What a stopped formatting answers, and what is found after a crash with this garbage: what the
-/// file is opened as, and what a second formatting answers.
+/// The result of a stopped format, and those after a crash with this garbage: of opening the file, and of a second
+/// format.
 pub(crate) fn format_cell(
     alloc: Global,
     stop: Stop,
@@ -26,7 +26,7 @@ pub(crate) fn format_cell(
     Ok((answer, format!(in alloc; "{found}, {again}")?))
 }
 
-/// What a stopped store of this value answers, and what is found after a crash with this garbage.
+/// The result of a stopped store of this value, and that of opening the file after a crash with this garbage.
 pub(crate) fn store_cell(
     alloc: Global,
     disk: MemDisk,
@@ -68,7 +68,7 @@ fn run_store(
     Ok((format!(in alloc; "{answer}, calls {calls}")?, disk))
 }
 
-/// What a store answers, in words.
+/// The result of a store, in words.
 fn store_words(alloc: Global, segment: &mut Segment<MemDisk>, value: &[u8]) -> io::Result<String> {
     match segment.store(value) {
         Ok(number) => Ok(format!(in alloc; "stored {number}")?),
@@ -76,8 +76,8 @@ fn store_words(alloc: Global, segment: &mut Segment<MemDisk>, value: &[u8]) -> i
     }
 }
 
-/// What is known after a store that was refused: the number and the value, what was begun, and what
-/// another store answers.
+/// The state after a store that was refused: the number and the value, the value that was begun, and the result of
+/// another store.
 fn refused_words(
     alloc: Global,
     segment: &mut Segment<MemDisk>,
@@ -96,7 +96,7 @@ fn refused_words(
     Ok(format!(in alloc; "{why} at {number} {held}, {begun} begun, {again}")?)
 }
 
-/// What an opening answers, in words: a number, a value and the spare gate, or the refusal.
+/// The result of an opening, in words: a number, a value and the spare gate, or the refusal.
 fn opened(alloc: Global, disk: MemDisk) -> io::Result<(String, MemDisk)> {
     match try_open(alloc, disk, 0, 1) {
         Ok(segment) => {
@@ -125,7 +125,7 @@ pub(crate) fn with_hi(alloc: Global) -> io::Result<MemDisk> {
     Ok(segment.into_device())
 }
 
-/// What a formatting answers, in words. A device that can count no more failures takes no call.
+/// The result of a format, in words. A device that can count no more failures takes no call.
 fn try_format(disk: &mut MemDisk) -> &'static str {
     if disk.failures() == u64::MAX {
         return Refusal::DeviceFailed.name();
@@ -149,7 +149,7 @@ fn try_open(
     Segment::open(alloc, disk, index, count)
 }
 
-/// The same, where nothing is to refuse it.
+/// An opening as segment `index` of `count`, where nothing may refuse it.
 pub(crate) fn open_segment(
     alloc: Global,
     disk: MemDisk,

@@ -3,8 +3,7 @@ use snap_devices::FaultPlan;
 use snap_disk::Fill;
 use std::alloc::{AllocError, Global};
 
-/// What the touched places have: the bytes that were there, or the byte of a closed or an open
-/// gate.
+/// The fill of the touched places: the bytes that were there, or the byte of a closed or an open gate.
 #[derive(Clone, Copy)]
 pub enum Garbage {
     Keep,
@@ -36,8 +35,7 @@ impl Garbage {
 #[derive(Clone, Copy)]
 pub struct Stop {
     pub passes: u64,
-    /// What that call leaves, which then fails alone. Where it is none every later call fails too:
-    /// the power fails.
+    /// The fill that this call leaves, if it alone fails. `None` if every later call fails too: the power fails.
     pub fault: Option<Garbage>,
 }
 
@@ -53,8 +51,8 @@ impl Stop {
         Ok(plan)
     }
 
-    /// The same for another device of the run, which is called after the first `calls` calls: none
-    /// where the stop comes earlier.
+    /// The plan of another device of the run, which is called after the first `calls` calls: none if the stop comes
+    /// earlier.
     pub(crate) fn behind(self, calls: u64) -> Option<Stop> {
         if self.fault.is_some() && self.passes < calls {
             return None;

@@ -8,7 +8,7 @@ use std::alloc::Global;
 use std::io;
 use std::string::String;
 
-/// What is run until a device call fails.
+/// A run until a device call fails.
 #[derive(Clone, Copy)]
 pub enum Subject {
     /// `format` on a device of zeros.

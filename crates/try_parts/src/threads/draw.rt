@@ -14,7 +14,7 @@ fn plan(alloc: Global, disk: &mut MemDisk, draw: &mut Draw) -> Result<(), AllocE
     Ok(())
 }
 
-/// The same of each device.
+/// From the next opening on, at most one call of each device fails.
 pub(crate) fn plan_all(
     alloc: Global,
     devices: &mut Vec<MemDisk>,

@@ -42,7 +42,7 @@ fn is_shown<M: Memory>(watchers: &mut Vec<SeatedWatcher<M>>, stored: Numbers) ->
     true
 }
 
-/// What each client and each scan says.
+/// The outcome of a run, by its clients and scans.
 fn outcome_of<M: Memory>(workers: &mut Workers<M>) -> io::Result<Outcome> {
     let stored = stored_by(&workers.clients);
     match most_by(&workers.clients, stored) {

@@ -21,7 +21,7 @@ pub(crate) const SCANNERS: usize = 2;
 /// How many threads work at once.
 const WORKERS: u64 = (SEGMENTS + SCANNERS) as u64;
 
-/// What the clients and whoever read the scans know when the machine crashes.
+/// The numbers that the clients and the readers of scans know when the machine crashes.
 #[derive(Clone, Copy)]
 pub struct Outcome {
     /// The last number of each segment whose update was answered.

@@ -1,4 +1,4 @@
-//! What the writers and the scanners do, each in a thread of its own, and what came of it.
+//! The writers and the scanners, each in a thread of its own, with their results.
 ghost use Rattle.std.specs.Prelude.{◌≡◌};
 
 use crate::threads::seats::{SeatedWatcher, SeatedWriter};

@@ -2,7 +2,8 @@ use Rattle.std.proofs.Common.{◌≡◌, ◌≢◌, ◌∙◌, get_or, arith, in
 use Rattle.std.proofs.lemmas.Bool.Decides.{nat_tests}
 use Rattle.snap_args.proofs.Masks.{always_read, mask_read, no_mask}
 use Rattle.snap_args.proofs.numbers.mask_of.Goals as goal
-use Rattle.snap_args.proofs.numbers.mask_of.Goals.{then-word-ne-MASK_LEN-via-then-word-ne-MASK_LEN, then-word-ne-MASK_LEN-via-else-word-ne-MASK_LEN+then-starts_with}
+use Rattle.snap_args.proofs.numbers.mask_of.Goals.{then-word-ne-MASK_LEN-via-then-word-ne-MASK_LEN}
+use Rattle.snap_args.proofs.numbers.mask_of.Goals.{then-word-ne-MASK_LEN-via-else-word-ne-MASK_LEN+then-starts_with}
 
 pub returns-then-word-ne-MASK_LEN : goal.returns-then-word-ne-MASK_LEN
 returns-then-word-ne-MASK_LEN c = elim c.then-word-ne-MASK_LEN.branch [

@@ -1,6 +1,6 @@
 use Rattle.std.proofs.Common.{◌≡◌, ◌∙◌, List, None, Option, Some, arith, codes, rules, sym}
 use Rattle.clap.specs.Words.{Text, found_of}
-use Rattle.snap_order.specs.declared.order.Serving.{Serving}
+use Rattle.snap_order.specs.declared.order.ServeOptions.{ServeOptions}
 use Rattle.clap.specs.Words.{first_value}
 use Rattle.clap.specs.declared.parser.matches.Found.{Found}
 use Rattle.snap_args.specs.Services.{IsServiceOf}
@@ -11,7 +11,7 @@ use Rattle.snap_args.proofs.words.server_order.Goals as goal
 
 -- the server that the parser found is that of the command's arguments
 service_is : {words : List Text} {name : Text} {found : Found} → HasCommand words name found
-    → (s : Serving) → IsServiceOf (first_value found) (all_values found) s
+    → (s : ServeOptions) → IsServiceOf (first_value found) (all_values found) s
     → IsServiceOf (word_of words) (words_of words) s
 service_is its s is = by_words its (λ of all. IsServiceOf of all s) is
 

@@ -4,8 +4,13 @@ use Rattle.snap_client.proofs.Tries.{tries_last, tries_next}
 use Rattle.snap_client.proofs.again.call_while.Goals as goal
 
 pub returns-in-Ok : goal.returns-in-Ok
-returns-in-Ok g c =
-    (1, c.try_once.new.connect, tries_last (goal.F-step g) _ _ _ c.args.connect.now c.try_once.new.connect _ c.in-Ok.ensures, inl (tt, refl))
+returns-in-Ok g c = (
+  1,
+  c.try_once.new.connect,
+  tries_last (goal.F-step g) _ _ _ c.args.connect.now c.try_once.new.connect _
+      c.in-Ok.ensures,
+  inl (tt, refl),
+)
 
 pub loop-left-init : goal.loop-left-init
 loop-left-init g c = record {

@@ -1,4 +1,5 @@
-use Rattle.std.proofs.Common.{◌≡◌, ◌++◌, length, take, Ok, Err, arith, ap, inl, inr, sym, ◌∙◌, subst, length-append, length-take}
+use Rattle.std.proofs.Common.{◌≡◌, ◌++◌, length, take, Ok, Err, arith, ap, inl, inr, sym, ◌∙◌, subst, length-append}
+use Rattle.std.proofs.Common.{length-take}
 use Rattle.std.proofs.KnownBytes.{Consumes-trans}
 use Rattle.snap_frame.specs.Stream.{Held, IsBytes, IsNextReply}
 use Rattle.snap_frame.specs.declared.reply_feed.ReplyFault.TheVariants.{Failed}

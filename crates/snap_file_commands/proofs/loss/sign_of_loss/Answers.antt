@@ -4,7 +4,8 @@ use Rattle.snap_file_commands.proofs.loss.sign_of_loss.Goals as goal
 
 pub loop-at-preserved : goal.loop-at-preserved
 loop-at-preserved c =
-    All-more (λ number. number ≡ 0) c.args.numbers.now c.loop-at.at 0 (omega (arith, c.loop-at-test.true)) c.loop-at.invariant
+    All-more (λ number. number ≡ 0) c.args.numbers.now c.loop-at.at 0 (omega (arith, c.loop-at-test.true))
+    c.loop-at.invariant
     (omega (arith, c.if-number-gt0.false))
 
 pub returns-clause-none : goal.returns-clause-none

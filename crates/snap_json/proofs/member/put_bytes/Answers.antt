@@ -19,7 +19,8 @@ returns-in_ok-key-in-Err-clause-tokens c =
     let old = c.args.writer.now.tokens in
     let bytes = c.args.bytes.now in
     let is : key (codes "base64") ∷ string _ ∷ [] ≡ _ =
-    ap (λ (s : List ℕ). key (codes "base64") ∷ string s ∷ []) (c.as_str.ensures.value ∙ c.in_ok-text-in-Err.ensures.text)
+    ap (λ (s : List ℕ). key (codes "base64") ∷ string s ∷ []) (c.as_str.ensures.value ∙
+    c.in_ok-text-in-Err.ensures.text)
     ∙ sym (base64_tokens bytes c.in-Err.ensures.cases.0) in
     subst (λ (ts : List Token). OnOk c.string-in-Err.result (c.string-in-Err.new.self.tokens ≡ old ++ ts)) is
     (wrote_last c.string-in-Err.result old _ _ _ _ c.in_ok-key-in-Err.ensures.ok c.string-in-Err.ensures.ok)

@@ -8,7 +8,8 @@ use Rattle.snap_register.specs.Rule.{segments}
 use Rattle.snap_register.specs.declared.plan.Plan.{Plan}
 use Rattle.snap_scan.proofs.Sets.{at_some, at_below, at_named, some}
 use Rattle.snap_memory.specs.Scans.{IsCleanScan, TakesLooksOf}
-use Rattle.snap_memory.proofs.Collects.{Gathers, Gathers-none, Gathers-look, told_fits, takes_looks, clean_some, borrow_some, clean_scan}
+use Rattle.snap_memory.proofs.Collects.{Gathers, Gathers-none, Gathers-look, told_fits, takes_looks, clean_some}
+use Rattle.snap_memory.proofs.Collects.{borrow_some, clean_scan}
 use Rattle.snap_memory.proofs.Collects.{numbers_are, borrowed_scan}
 use Rattle.snap_memory.proofs.looks.gather.Goals as goal
 

@@ -21,7 +21,11 @@ loop-i-init g c = record {
   room = refl;
   kept = c.requires.kept;
   entries = subst (λ l. AreEntries [] (g.L.Looker.known c.args.seat.now) c.args.found (map pair_of l))
-      (sym c.in_ok-values.ensures.items) (record { count = refl; each = λ p i at. absurd (let none : None ≡ Some i = at in cc) });
+      (sym c.in_ok-values.ensures.items) (record {
+        count = refl;
+        each = λ p i at. absurd (let none : None ≡ Some i = at
+            in cc);
+      });
 }
 
 -- the segment's cached entry was seen

@@ -1,4 +1,5 @@
-use Rattle.std.proofs.Common.{rules, ◌≡◌, ℕ, ◌+◌, ◌∷◌, ◌++◌, ◌<◌, ◌-◌, ◌^◌, List, [], length, take, drop, subst, ap, sym, ◌∙◌, arith}
+use Rattle.std.proofs.Common.{rules, ◌≡◌, ℕ, ◌+◌, ◌∷◌, ◌++◌, ◌<◌, ◌-◌, ◌^◌, List, [], length, take, drop, subst, ap}
+use Rattle.std.proofs.Common.{sym, ◌∙◌, arith}
 use Rattle.std.proofs.lemmas.List.{length_push, length-take-le, length-drop}
 use Rattle.snap_history.proofs.Removals.{Taken, taken, all_taken}
 use Rattle.snap_segment.specs.Segment.{SegmentState}
@@ -14,7 +15,9 @@ left_over : {A : Type 0} (k : ℕ) (ds : List A) (d : A) (rest : List A) → Tak
 left_over k ds d rest next = omega (arith, next.inside, length-drop k ds, ap length next.head)
 
 pub open-requires-clause-headroom : goal.open-requires-clause-headroom
-open-requires-clause-headroom g c = all_dropped (λ d. g.D.Disk.failure_count d < 2 ^ 64 - 1) (length c.opening.segments.items) c.args.devices.items c.in-Some.device _ c.requires.headroom (taken _ _ _ _ _ c.opening.invariant.rest c.in-Some.ensures.cases.0)
+open-requires-clause-headroom g c = all_dropped (λ d. g.D.Disk.failure_count d < 2 ^ 64 - 1) (length
+    c.opening.segments.items) c.args.devices.items c.in-Some.device _ c.requires.headroom (taken _ _ _ _ _
+    c.opening.invariant.rest c.in-Some.ensures.cases.0)
 
 pub opening-preserved : goal.opening-preserved
 opening-preserved g c =
@@ -40,13 +43,15 @@ opening-preserved g c =
       back = back_later g.D.Disk g.met.D.Disk.counts_now d s.device o.honest_ok o.any_time_ok;
     } in
     let long : length (take k ds) ≡ k = length-take-le k ds inv.within in
-    let placed : Opened (length ds) (length (take k ds)) d s = subst (λ (p : ℕ × ℕ). Opened p.0 p.1 d s) (λ i. (inv.count i, (index ∙ sym long) i)) here in
+    let placed : Opened (length ds) (length (take k ds)) d s = subst (λ (p : ℕ
+    × ℕ). Opened p.0 p.1 d s) (λ i. (inv.count i, (index ∙ sym long) i)) here in
     let more = Pairs-push (Opened (length ds)) (take k ds) ss d s inv.opened placed in
     let count : length c.keep.new.items.items ≡ k + 1 = ap length c.keep.ensures.items ∙ length_push ss s in
     record {
       rest = next.left _ count;
       long = one_fewer inv.long c.in-Some.ensures.cases.0 c.in-Some.ensures.cases.1;
-      opened = subst (λ (l : List (SegmentState _)). Pairs (Opened (length ds)) (take (length c.keep.new.items.items) ds) l) (sym c.keep.ensures.items)
+      opened = subst (λ (l : List (SegmentState _)). Pairs (Opened (length ds)) (take (length c.keep.new.items.items)
+          ds) l) (sym c.keep.ensures.items)
           (subst (λ l. Pairs (Opened (length ds)) l (ss ++ s ∷ [])) (sym (next.front _ count)) more);
       within = omega arith;
       count = inv.count;
@@ -72,7 +77,8 @@ returns-in-Err-clause-stopped g c =
     let back = back_later g.D.Disk g.met.D.Disk.counts_now d e o.honest_err o.any_time_err in
     let here = returned_here g.D.Disk c.len-count.result c.len-index.result why d e back
     o.count_err o.refused in
-    let placed : Returned (length ds) c.len-index.result why c.len-index.result d e = subst (λ (n : ℕ). Returned n c.len-index.result why c.len-index.result d e) inv.count here in
+    let placed : Returned (length ds) c.len-index.result why c.len-index.result d e = subst (λ (n : ℕ). Returned n
+    c.len-index.result why c.len-index.result d e) inv.count here in
     stopped_at g.D.Disk g.met.D.Disk.only_now why ds c.returned.result.items ss d e _
     c.len-index.result
     index (ap (λ (n : ℕ). drop n ds) index ∙ next.head) (omega arith)

@@ -1,4 +1,4 @@
-use Rattle.snap_restart.proofs.Starts.{last, first}
+use Rattle.snap_restart.proofs.Starts.{last, made, first}
 use Rattle.snap_restart.proofs.laws.restart_laws.Goals as goal
 
 pub returns-clause-any_number : goal.returns-clause-any_number
@@ -7,3 +7,6 @@ returns-clause-any_number g c = λ n start moments devices past. last g.D.Disk n
 
 pub returns-clause-first : goal.returns-clause-first
 returns-clause-first g c = first g.D.Disk
+
+pub returns-clause-made : goal.returns-clause-made
+returns-clause-made g c = made g.D.Disk

@@ -30,10 +30,13 @@ writers-preserved g c =
       long = one_fewer inv.long c.in-Some.ensures.steps.0 c.in-Some.ensures.steps.1;
       seats_rest = seat.left _ on;
       seats_long = one_fewer inv.seats_long c.in-Some-next.ensures.cases.0 c.in-Some-next.ensures.cases.1;
-      segments = ap (map (λ w. w.segment)) c.keep.ensures.items ∙ (map-append (λ w. w.segment) ws (c.new.result ∷ []) ∙ ((λ i. inv.segments i ++ c.new.ensures.segment i ∷ []) ∙ sym (segment.front _ on)));
-      seats = ap (map (λ w. w.seat)) c.keep.ensures.items ∙ (map-append (λ w. w.seat) ws (c.new.result ∷ []) ∙ ((λ i. inv.seats i ++ c.new.ensures.seat i ∷ []) ∙ sym (seat.front _ on)));
+      segments = ap (map (λ w. w.segment)) c.keep.ensures.items ∙ (map-append (λ w. w.segment) ws (c.new.result ∷ []) ∙
+          ((λ i. inv.segments i ++ c.new.ensures.segment i ∷ []) ∙ sym (segment.front _ on)));
+      seats = ap (map (λ w. w.seat)) c.keep.ensures.items ∙ (map-append (λ w. w.seat) ws (c.new.result ∷ []) ∙ ((λ i.
+          inv.seats i ++ c.new.ensures.seat i ∷ []) ∙ sym (seat.front _ on)));
       within = omega arith;
-      count = ap length c.keep.ensures.items ∙ (length_push ws c.new.result ∙ (ap (λ (n : ℕ). n + 1) inv.count ∙ sym on));
+      count = ap length c.keep.ensures.items ∙ (length_push ws c.new.result ∙ (ap (λ (n : ℕ). n + 1) inv.count ∙ sym
+          on));
       room = (let r = c.keep.ensures.room in let was = inv.room in omega arith);
     }
 

@@ -1,4 +1,5 @@
-use Rattle.std.proofs.Common.{rules, ◌≡◌, ℕ, ◌^◌, ◌<◌, ◌≤◌, ◌∷◌, ◌++◌, List, [], length, map, take, slice_get, Some, Vec, Global, refl, subst, ap, sym, ◌∙◌}
+use Rattle.std.proofs.Common.{rules, ◌≡◌, ℕ, ◌^◌, ◌<◌, ◌≤◌, ◌∷◌, ◌++◌, List, [], length, map, take, slice_get, Some}
+use Rattle.std.proofs.Common.{Vec, Global, refl, subst, ap, sym, ◌∙◌}
 use Rattle.std.proofs.lemmas.List.{map-append, take_all}
 use Rattle.std.proofs.lemmas.Option.{slice_get_read}
 use Rattle.snap_history.proofs.Lists.{get-push}
@@ -16,17 +17,22 @@ loop-segment-preserved g c =
     let ss = c.deref-segment-items.result.now in
     let k : ℕ = c.loop-segment.segment-index in
     let s = c.segment-item.result in
-    let e : slice_get ss k ≡ Some s = slice_get_read ss (length ss) k s refl c.loop-segment-test.true c.segment-item.is in
+    let e : slice_get ss k ≡ Some s = slice_get_read ss (length ss) k s refl c.loop-segment-test.true c.segment-item.is
+    in
     let bytes : c.in_ok-value.value.items ≡ s.value = search rules in
     let number : c.number.result ≡ s.number = c.number.ensures.number in
     let x : ℕ × Vec ℕ Global = (c.number.result, c.in_ok-value.value) in
-    let fits : length c.in_ok-value.value.items ≤ 4080 = subst (λ (l : List ℕ). length l ≤ 4080) (c.value.ensures.value ∙ sym bytes) c.value.ensures.size in
+    let fits : length c.in_ok-value.value.items ≤ 4080 = subst (λ (l : List ℕ). length l ≤ 4080) (c.value.ensures.value
+    ∙ sym bytes) c.value.ensures.size in
     let pushed : c.push.new.self.items ≡ vs ++ x ∷ [] = search rules in
     let same : contents_of x ≡ contents s = λ i. (number i, bytes i) in
     record {
-      contents = ap (map (λ x. (x.0, x.1.items))) pushed ∙ (map-append (λ x. (x.0, x.1.items)) vs (x ∷ []) ∙ ((λ i. inv.contents i ++ same i ∷ []) ∙ sym (map_next contents k ss s e)));
-      numbers = λ i y at. get-push (λ z. z.0 < 2 ^ 63) vs x inv.numbers c.number.ensures.low i y (subst (λ l. slice_get l i ≡ Some y) pushed at);
-      sizes = λ i y at. get-push (λ z. length z.1.items ≤ 4080) vs x inv.sizes fits i y (subst (λ l. slice_get l i ≡ Some y) pushed at);
+      contents = ap (map (λ x. (x.0, x.1.items))) pushed ∙ (map-append (λ x. (x.0, x.1.items)) vs (x ∷ []) ∙ ((λ i.
+          inv.contents i ++ same i ∷ []) ∙ sym (map_next contents k ss s e)));
+      numbers = λ i y at. get-push (λ z. z.0 < 2 ^ 63) vs x inv.numbers c.number.ensures.low i y (subst (λ l. slice_get
+          l i ≡ Some y) pushed at);
+      sizes = λ i y at. get-push (λ z. length z.1.items ≤ 4080) vs x inv.sizes fits i y (subst (λ l. slice_get l i ≡
+          Some y) pushed at);
     }
 
 all_of : {A B : Type 0} (f : A → B) (k : ℕ) (items xs : List A) → length items ≤ k → items ≡ xs

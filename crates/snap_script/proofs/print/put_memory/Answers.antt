@@ -1,5 +1,5 @@
 use Rattle.std.proofs.Common.{codes}
-use Rattle.snap_hex.specs.Text.{hex_text}
+use Rattle.snap_stream.specs.Hex.{hex_text}
 use Rattle.snap_script.proofs.Values.{text_on}
 use Rattle.snap_script.proofs.print.put_memory.Goals as goal
 

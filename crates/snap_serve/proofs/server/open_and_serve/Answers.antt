@@ -4,7 +4,7 @@ use Rattle.snap_serve.proofs.server.open_and_serve.Goals as goal
 
 pub returns-in-Ok : goal.returns-in-Ok
 returns-in-Ok g c =
-    let site = site_at g.B.Bind g.B.Listener.Locate g.B.Listener.Listen c.args.edge.bind.now
+    let site = site_at g.B.Bind g.B.Listener.LocalAddress g.B.Listener.Listen c.args.environment.bind.now
     (addresses_of c.args.order.now) in
     let o = g.W.Write.contents c.args.writer.now in
     let n = g.W.Write.contents c.serve_opened.new.writer in

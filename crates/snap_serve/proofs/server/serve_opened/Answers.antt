@@ -11,8 +11,8 @@ returns-in-Err-listen g c = record {
 
 -- it printed that it listens, and served
 listens : (g : _) (c : After-print_served g)
-    → IsListening (site_at g.B.Bind g.B.Listener.Locate g.B.Listener.Listen
-    c.args.edge.bind.now (addresses_of c.args.order.now)) c.in-Ok-listen.listening.0
+    → IsListening (site_at g.B.Bind g.B.Listener.LocalAddress g.B.Listener.Listen
+    c.args.environment.bind.now (addresses_of c.args.order.now)) c.in-Ok-listen.listening.0
     c.args.report.now (g.W.Write.contents c.args.writer.now)
     (g.W.Write.contents c.serve_store-ended.new.to)
 listens g c = listening _ _ _ c.args.report.now _ (g.W.Write.contents c.print_report.new.writer) _

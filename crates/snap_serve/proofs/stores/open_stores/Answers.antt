@@ -1,27 +1,31 @@
-use Rattle.std.proofs.Common.{ℕ, length, ap, arith, ◌∙◌}
+use Rattle.std.proofs.Common.{◌≡◌, ℕ, Some, length, slice_get, ap, arith, subst, sym, ◌∙◌}
 use Rattle.std.proofs.lemmas.Iterator.Adapters.{YieldsList-from_vec}
 use Rattle.std.proofs.lemmas.Iterator.Consumers.{YieldsList-end}
 use Rattle.std.proofs.lemmas.List.{length_push}
+use Rattle.snap_history.proofs.Lists.{get-push_at}
 use Rattle.snap_history.proofs.Removals.{taken}
+use Rattle.snap_memory.specs.Seat.{own_of}
 use Rattle.snap_serve.proofs.stores.open_stores.Goals as goal
 
-pub new-writer-requires-clause-memory : goal.new-writer-requires-clause-memory
-new-writer-requires-clause-memory g c =
+pub add_store-requires : goal.add_store-requires
+add_store-requires g c =
     let ws = c.args.writers.items in
     let k : ℕ = length c.writers.yielded in
     let next = taken k ws _ _ _ c.writers.invariant.rest c.in-Some.ensures.steps.0 in
-    (c.requires.each k c.in-Some.writer next.at).0
+    record { memory = (c.requires.each k c.in-Some.writer next.at).0 }
 
-pub new-writer-requires-clause-own : goal.new-writer-requires-clause-own
-new-writer-requires-clause-own g c =
-    let ws = c.args.writers.items in
-    let k : ℕ = length c.writers.yielded in
-    let next = taken k ws _ _ _ c.writers.invariant.rest c.in-Some.ensures.steps.0 in
-    let own = (c.requires.each k c.in-Some.writer next.at).1 in
-    let stored = c.writers.invariant.stores in
-    let count = c.len.ensures in
-    let len = c.writers.stores.ok in
-    omega arith
+pub writers-init : goal.writers-init
+writers-init g c = record {
+  rest = search;
+  long = search;
+  within = omega arith;
+  stores = search;
+  handles = record {
+    all = search;
+    each = λ i h at. let none = subst (λ xs. slice_get xs i ≡ Some h) c.new-handles.ensures.items at in
+        absurd cc;
+  };
+}
 
 pub writers-preserved : goal.writers-preserved
 writers-preserved g c =
@@ -38,7 +42,14 @@ writers-preserved g c =
           let short = ap length c.in-Some.ensures.steps.0 in omega arith);
       within = omega arith;
       stores = (let was = inv.stores in omega (arith, added.stores));
-      windows = (let was = inv.windows in omega (arith, added.windows));
+      handles = (let own = (c.requires.each k c.in-Some.writer next.at).1 in
+          let more = length_push c.writers.handles.items (own_of c.in-Some.writer.seat) in
+          let long = ap length added.handles in
+          let was = inv.handles.all in record {
+            all = omega arith;
+            each = λ i h at. get-push_at (λ j x. x ≡ j) c.writers.handles.items (own_of c.in-Some.writer.seat)
+                inv.handles.each (own ∙ sym was) i h (subst (λ xs. slice_get xs i ≡ Some h) added.handles at);
+          });
     }
 
 pub returns : goal.returns
@@ -49,4 +60,7 @@ returns g c =
     let end = YieldsList-end all c.writers.yielded c.writers.writer-iterator c.writers.yielded_by
     c.next.result c.next.new.self c.in-None.is c.next.ensures.steps in
     let inv = c.writers.invariant in
-    record { stores = inv.stores ∙ end.1; windows = inv.windows ∙ end.1 }
+    record {
+      stores = inv.stores ∙ end.1;
+      handles = record { all = inv.handles.all ∙ end.1 ∙ c.requires.all; each = inv.handles.each };
+    }

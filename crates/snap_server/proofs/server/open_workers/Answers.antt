@@ -7,7 +7,7 @@ use Rattle.snap_server.proofs.server.open_workers.Goals as goal
 pub returns-then-is_err : goal.returns-then-is_err
 returns-then-is_err g c = record {
   workers = tt;
-  doors = tt;
+  senders = tt;
   places = tt;
   theirs = tt;
   faults = inr refl;
@@ -30,12 +30,12 @@ services-preserved g c =
           (sym c.in_ok-worker.ensures.service));
       places = numbered_more _ c.services.workers.items _ c.in_ok-worker.worker
           c.services.invariant.places one_more
-          (c.in_ok-worker.ensures.inbox ∙ c.len-place.ensures ∙ c.services.workers.ok.0);
-      theirs = numbered_more _ c.services.doors.items _ c.in_ok-worker.door
+          (c.in_ok-worker.ensures.mailbox ∙ c.len-place.ensures ∙ c.services.workers.ok.0);
+      theirs = numbered_more _ c.services.senders.items _ c.in_ok-worker.sender
           c.services.invariant.theirs door_more
-          (c.in_ok-worker.ensures.door ∙ c.len-place.ensures ∙ c.services.workers.ok.0
-          ∙ sym c.services.invariant.doors);
-      doors = pushed_len _ _ _ _ _ _ c.services.invariant.doors door_more one_more;
+          (c.in_ok-worker.ensures.sender ∙ c.len-place.ensures ∙ c.services.workers.ok.0
+          ∙ sym c.services.invariant.senders);
+      senders = pushed_len _ _ _ _ _ _ c.services.invariant.senders door_more one_more;
       long = omega (arith, c.services.invariant.long, c.in-Some.ensures.steps.1, ap length next);
     }
 
@@ -48,12 +48,12 @@ returns g c =
     (sym c.services.invariant.long ∙ c.in-None.ensures.steps.0) in
     record {
       workers = made;
-      doors = c.services.doors.ok.0 ∙ c.services.invariant.doors ∙ made_len _ _ _ made
+      senders = c.services.senders.ok.0 ∙ c.services.invariant.senders ∙ made_len _ _ _ made
           ∙ sym c.args.services.ok.0;
       places = c.services.invariant.places
           ∙ ap (range_with_len 0) (made_len _ _ _ made ∙ sym c.args.services.ok.0);
       theirs = c.services.invariant.theirs
-          ∙ ap (range_with_len 0) (c.services.invariant.doors ∙ made_len _ _ _ made
+          ∙ ap (range_with_len 0) (c.services.invariant.senders ∙ made_len _ _ _ made
           ∙ sym c.args.services.ok.0);
       faults = tt;
     }

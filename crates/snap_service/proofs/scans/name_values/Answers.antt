@@ -1,4 +1,5 @@
-use Rattle.std.proofs.Common.{◌≡◌, ℕ, suc, ◌+◌, [], ◌∷◌, ◌++◌, length, map, take, Some, slice_get, get_or, refl, ap, sym, subst, ◌∙◌, arith}
+use Rattle.std.proofs.Common.{◌≡◌, ℕ, suc, ◌+◌, [], ◌∷◌, ◌++◌, length, map, take, Some, slice_get, get_or, refl, ap}
+use Rattle.std.proofs.Common.{sym, subst, ◌∙◌, arith}
 use Rattle.std.proofs.lemmas.Bool.{iff_false}
 use Rattle.std.proofs.lemmas.List.{length-map, length_push, map-append}
 use Rattle.std.proofs.lemmas.Option.{slice_get-map, slice_get_read}
@@ -42,7 +43,12 @@ loop-segment-preserved c =
     elim c.if-has.branch [
       | then-has+in_ok-clone+in_ok-push w ↦ (
           let named = subst (Names set) c.from.ensures (c.has.ensures.names.0 w.if-has.true) in
-          let x : NamedValue = record { segment = k; number = w.index-entry.result.now.number; value = w.in_ok-clone.field-0 } in
+          let x : NamedValue = record {
+            segment = k;
+            number = w.index-entry.result.now.number;
+            value =
+                w.in_ok-clone.field-0;
+          } in
           let entry = w.index-entry.result.now in
           let here : slice_get values (length items) ≡ Some entry =
           (let n = ap length inv.names in

@@ -1,25 +1,28 @@
-use Rattle.std.proofs.Common.{None, OnSome, inl, inr, ◌⊎◌, ap, sym, subst, length, ◌≤◌, ◌∙◌, take, [], ◌≡◌, ◌<◌, ◌+◌, ℕ, List, Option, Some}
+use Rattle.std.proofs.Common.{None, OnSome, inl, inr, ◌⊎◌, ap, sym, subst, length, ◌≤◌, ◌∙◌, take, [], ◌≡◌, ◌<◌}
+use Rattle.std.proofs.Common.{◌+◌, ℕ, List, Option, Some}
 use Rattle.std.proofs.Common.{true≢false, refl, arith}
 use Rattle.std.specs.Io.KnownBytes.{Consumes}
 use Rattle.snap_session.specs.Talk.{Talk, Stays, HoldsFrameAnd, most_owed}
 use Rattle.snap_session.specs.Turns.{Turns, AllSaid, StandsAt, TakesRounds, FewRounds, WholeRounds, most_rounds}
 use Rattle.snap_frame.specs.declared.request.Request.{Request}
 use Rattle.snap_frame.specs.declared.reply.Reply.{Reply}
-use Rattle.snap_session.specs.declared.turns.End.TheVariants.{Closed, Truncated, TooLarge, NoMemory, ReadFailed, WriteFailed}
-use Rattle.snap_session.specs.declared.turns.Turn.{Turn}
-use Rattle.snap_session.specs.declared.turns.Turn.TheVariants.{Again, NeedsInput, NeedsRoom, NeedsOutcome, Over}
+use Rattle.snap_session.specs.declared.turns.End.TheVariants.{Closed, Truncated, TooLarge, NoMemory, ReadFailed}
+use Rattle.snap_session.specs.declared.turns.End.TheVariants.{WriteFailed}
+use Rattle.snap_session.specs.declared.turns.Polled.{Polled}
+use Rattle.snap_session.specs.declared.turns.Polled.TheVariants.{Again, NeedsInput, NeedsRoom, NeedsOutcome, Over}
 use Rattle.std.proofs.KnownBytes.{Consumes-kept}
 use Rattle.snap_session.proofs.Known.{consumes_none}
 use Rattle.snap_session.proofs.Held.{holds_sent, holds_answered, holds_taken}
 use Rattle.snap_session.proofs.Rounds.{scene, only_sends, reads_nothing, answers_some, reads_some, one_more, and_last}
 use Rattle.snap_session.proofs.Steps.{taken_asked, taken_owed}
-use Rattle.snap_session.proofs.TurnRuns.{Stood, stood_sent, begins, then_round, then_takes, then_ends, few_left, none_owed, some_owed}
+use Rattle.snap_session.proofs.TurnRuns.{Stood, stood_sent, begins, then_round, then_takes, then_ends, few_left}
+use Rattle.snap_session.proofs.TurnRuns.{none_owed, some_owed}
 use Rattle.snap_session.proofs.TurnRuns.{blocked_apart, failed_apart, on_any, on_none}
 use Rattle.snap_session.proofs.TurnRuns.{or_new}
 use Rattle.snap_session.proofs.turns.proceed.Goals as goal
 use Rattle.snap_session.proofs.turns.proceed.Goals.{After-send_owed, After-answer, After-read}
 
--- it still holds after a read that gave nothing
+-- the invariant still holds after a read that returned nothing
 stood_reads : {S : Type 0} {gives : S → Request → Reply → S → Type 0} {hands_over one : Type 0}
     {more : ℕ} {s t : S} {old new : Talk} {r0 r1 r2 w0 w1 : Option (List ℕ)}
     → Stood gives hands_over one more s t old new r0 r1 w0 w1 → Consumes r1 r2 []
@@ -32,10 +35,10 @@ stood_reads {gives = gives} stood read = record {
   held = stood.held;
 }
 
--- the clauses of a turn that ends so
+-- the clauses of a turn with this result
 ends : {S : Type 0} {gives : S → Request → Reply → S → Type 0} {hands_over one : Type 0}
     {more : ℕ} {s t : S} {old new : Talk} {r0 r1 w0 w1 : Option (List ℕ)}
-    → Stood gives hands_over one more s t old new r0 r1 w0 w1 → (turn : Turn)
+    → Stood gives hands_over one more s t old new r0 r1 w0 w1 → (turn : Polled)
     → TakesRounds gives more turn (scene s old r0 w0) (scene t new r1 w1) → StandsAt turn new r1
     → record {
       goes : Turns Stays gives s t old r0 r1 w0 w1 new;
@@ -58,7 +61,7 @@ ends {new = new} {r1 = r1} stood turn rounds stands = record {
   rounds = rounds;
 }
 
--- `Stood` after the bytes that are owed are written
+-- `Stood` after the bytes that are owed are written.
 sent_on : (g : _) (c : After-send_owed g) → Stood g.S.Service.gives g.S.Service.hands_over
     (g.S.Service.hands_over_under c.args.key) (length c.args.piece.now) c.args.service.now
     c.loop.service c.args.session.now
@@ -68,7 +71,7 @@ sent_on : (g : _) (c : After-send_owed g) → Stood g.S.Service.gives g.S.Servic
 sent_on g c = stood_sent g.S.Service.gives _ _ _ _ _ _ _ _ _ _ _ _ _ c.loop.invariant.stood
     c.send_owed.ensures.sends
 
--- `Stood` after frames are answered: no request is handed over then, or one that may be
+-- `Stood` after frames are answered: no request is handed over then, or one that may be.
 answered_on : (g : _) (c : After-answer g) → (c.answer.new.self.asked ≡ None)
     ⊎ (c.send_owed.new.session.asked ≡ None
     → g.S.Service.hands_over × g.S.Service.hands_over_under c.args.key)
@@ -107,7 +110,7 @@ few_sent g c = and_last g.S.Service.gives _ c.loop.counter _ _ _ (omega arith)
     c.loop.invariant.rounds
     (only_sends g.S.Service.gives _ _ _ _ _ _ _ c.send_owed.ensures.sends)
 
--- the rounds, if the last one ends after a read that gave nothing
+-- the rounds, if the last one ends after a read that returned nothing
 few_read : (g : _) (c : After-answer g) (left : Option (List ℕ))
     → Consumes (g.R.Read.remaining c.loop.reader) left []
     → FewRounds g.S.Service.gives (length c.args.piece.now)

@@ -1,4 +1,4 @@
-//! What a scanner keeps of the segments that it listed.
+//! The cache of a scanner: values of the segments that it listed.
 use crate::memory::some::{numbers_of, open_all, renumber, update_some};
 use snap_disk::Refusal;
 use snap_memory::SegmentSet;
@@ -6,8 +6,8 @@ use snap_scan::MAX_SEGMENTS;
 use std::alloc::AllocError;
 use std::test::Fail;
 
-/// What is read is kept, and shared with the answers. A value that was read again would be another one, which no
-/// earlier answer shares.
+/// A value that was read is cached, and shared with the answers. If it were read again, it would be another allocation,
+/// which no earlier answer shares.
 #[test]
 fn reads_what_has_changed_alone(rt: HostRuntime) -> Result<(), Fail> {
     let mut three = open_all(&rt, rt.alloc(), 1000)?;

@@ -6,7 +6,7 @@ use snap_memory::{Scanner, SegmentSet, Snapshot};
 use snap_scan::MAX_SEGMENTS;
 use std::alloc::Global;
 
-/// What a scanner scans.
+/// The segments that a scanner scans.
 #[derive(Clone, Copy)]
 pub(crate) enum Kind {
     /// All segments.

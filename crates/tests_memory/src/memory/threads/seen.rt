@@ -1,4 +1,4 @@
-//! What scans showed in their threads, and a plain judge of it.
+//! The record of scans in their threads, and a plain check of it.
 use crate::memory::some::Numbers;
 use crate::seats::is_value_of;
 use snap_memory::{SegmentSet, Snapshot};

@@ -1,6 +1,7 @@
 use Rattle.std.proofs.Common.{[], ◌∷◌, ◌++◌, arith}
 use Rattle.snap_scan.specs.Stands.{StandsFor}
-use Rattle.snap_scan.proofs.Kept.{close, StandsFor-borrow, StandsFor-next_segment, StandsFor-end_collect, of_picked, turn_fits}
+use Rattle.snap_scan.proofs.Kept.{close, StandsFor-borrow, StandsFor-next_segment, StandsFor-end_collect, of_picked}
+use Rattle.snap_scan.proofs.Kept.{turn_fits}
 use Rattle.snap_scan.proofs.machine.Machine.told.Goals as goal
 
 pub has_moved_twice-requires : goal.has_moved_twice-requires

@@ -1,6 +1,7 @@
 use Rattle.std.proofs.Common.{◌<◌, length, arith}
 use Rattle.std.proofs.lemmas.Bool.Decides.{nat_tests}
-use Rattle.snap_script.proofs.Steps.{done_empty, done_on, empty_list, next_number, prints, prints_part, some_list, unreadable}
+use Rattle.snap_script.proofs.Steps.{done_empty, done_on, empty_list, next_number, prints, prints_part, some_list}
+use Rattle.snap_script.proofs.Steps.{unreadable}
 use Rattle.snap_script.specs.Script.{full_lines}
 use Rattle.snap_script.proofs.line_buffer.LineBuffer.do_line.Goals as goal
 

@@ -1,4 +1,5 @@
-use Rattle.std.proofs.Common.{◌≡◌, ℕ, ◌+◌, ◌<◌, List, [], ◌∷◌, ◌++◌, length, take, drop, get_or, sym, ap, ◌∙◌, append_assoc, append-nil, take-append-drop}
+use Rattle.std.proofs.Common.{◌≡◌, ℕ, ◌+◌, ◌<◌, List, [], ◌∷◌, ◌++◌, length, take, drop, get_or, sym, ap, ◌∙◌}
+use Rattle.std.proofs.Common.{append_assoc, append-nil, take-append-drop}
 use Rattle.std.proofs.lemmas.List.{take_more}
 use Rattle.snap_script.proofs.line_buffer.LineBuffer.take.Goals as goal
 

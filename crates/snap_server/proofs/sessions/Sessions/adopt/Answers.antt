@@ -5,7 +5,8 @@ use Rattle.snap_server.specs.declared.connection.Connection.{Connection}
 use Rattle.snap_server.proofs.SharedService.{added_are, same_are}
 use Rattle.snap_server.proofs.TurnList.{lists_added, lists_same}
 use Rattle.snap_server.proofs.Step.{none_there}
-use Rattle.snap_server.proofs.sessions.Sessions.adopt.Goals.{then-is_err-via-then-is_err, then-is_err-via-else-is_err+then-is_err-2}
+use Rattle.snap_server.proofs.sessions.Sessions.adopt.Goals.{then-is_err-via-then-is_err}
+use Rattle.snap_server.proofs.sessions.Sessions.adopt.Goals.{then-is_err-via-else-is_err+then-is_err-2}
 use Rattle.snap_server.proofs.sessions.Sessions.adopt.Goals as goal
 
 pub invariant_of-self-then-is_err-2-clause-are : goal.invariant_of-self-then-is_err-2-clause-are

@@ -2,23 +2,23 @@ use Rattle.std.proofs.Common.{arith, sym, ap, subst, ◌∙◌, ◌≡◌, ◌�
 use Rattle.std.proofs.lemmas.Grind.{common_steps}
 use Rattle.snap_session.specs.Talk.{Talk}
 use Rattle.snap_session.specs.Turns.{StandsAt}
-use Rattle.snap_session.specs.declared.turns.Turn.{Turn}
-use Rattle.snap_session.specs.declared.turns.Turn.TheVariants.{NeedsInput, NeedsRoom, NeedsOutcome}
+use Rattle.snap_session.specs.declared.turns.Polled.{Polled}
+use Rattle.snap_session.specs.declared.turns.Polled.TheVariants.{NeedsInput, NeedsRoom, NeedsOutcome}
 use Rattle.snap_server.specs.declared.connection.Connection.{Connection}
-use Rattle.snap_server.specs.declared.connection.Stage.TheVariants.{Over}
+use Rattle.snap_server.specs.declared.connection.ConnectionState.TheVariants.{Over}
 use Rattle.snap_server.specs.TurnList.{enlisted, listed_behind}
-use Rattle.snap_server.specs.Stages.{Waits}
+use Rattle.snap_server.specs.ConnectionStates.{Waits}
 use Rattle.snap_server.proofs.SharedService.{moved, still_holds}
 use Rattle.snap_server.proofs.Step.{written, then_listed, somebody, none_there, of_new, of_both, same_stage, ends_idle}
 use Rattle.snap_server.proofs.sessions.Sessions.turn.Goals as goal
 
--- it waits for one of the three
-waiting : (turn : Turn) (t : Talk)
+-- the connection waits for one of the three
+waiting : (turn : Polled) (t : Talk)
     → (turn ≡ NeedsInput) ⊎ ((turn ≡ NeedsRoom) ⊎ (turn ≡ NeedsOutcome)) → StandsAt turn t None
     → Waits t
-waiting turn t (inl is) at = inl (subst (λ (r : Turn). StandsAt r t None) is at)
-waiting turn t (inr (inl is)) at = inr (inl (subst (λ (r : Turn). StandsAt r t None) is at))
-waiting turn t (inr (inr is)) at = inr (inr (subst (λ (r : Turn). StandsAt r t None) is at))
+waiting turn t (inl is) at = inl (subst (λ (r : Polled). StandsAt r t None) is at)
+waiting turn t (inr (inl is)) at = inr (inl (subst (λ (r : Polled). StandsAt r t None) is at))
+waiting turn t (inr (inr is)) at = inr (inr (subst (λ (r : Polled). StandsAt r t None) is at))
 
 pub invariant_of-self-in-Again : goal.invariant_of-self-in-Again
 invariant_of-self-in-Again g c =

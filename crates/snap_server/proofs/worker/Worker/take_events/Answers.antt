@@ -8,6 +8,6 @@ returns g c = record {
       c.list_ready.new.sessions.service c.take_arrival.new.self.sessions.service
       ([], [], c.list_ready.ensures.service)
       (moves_joins g.S.Service.gives c.list_ready.new.sessions.service
-      c.read_mail.new.self.sessions.service c.take_arrival.new.self.sessions.service
-      c.read_mail.ensures.moves ([], [], c.take_arrival.ensures.service));
+      c.read_messages.new.self.sessions.service c.take_arrival.new.self.sessions.service
+      c.read_messages.ensures.moves ([], [], c.take_arrival.ensures.service));
 }

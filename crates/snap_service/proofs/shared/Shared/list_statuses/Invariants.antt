@@ -6,6 +6,6 @@ abbrev pub invariant-loop-lock : goal.invariant-loop-lock
 invariant-loop-lock g l = record {
   count : length l.statuses.items ≡ l.lock-index;
   limits : All IsStatus l.statuses.items;
-  scanner : l.pen.scanner ≡ l.fn.pen.scanner;
-  updates : l.pen.updates ≡ l.fn.pen.updates;
+  scanner : l.token.scanner ≡ l.fn.token.scanner;
+  updates : l.token.updates ≡ l.fn.token.updates;
 }

@@ -2,7 +2,8 @@ use Rattle.std.proofs.Common.{◌≡◌, [], length, refl, ap, subst, sym, inl, 
 use Rattle.snap_frame.specs.declared.frame_buffer.Failure.TheVariants.{NoMemory}
 use Rattle.snap_session.specs.Talk.{refused_malformed, refused_too_large}
 use Rattle.snap_frame.specs.Messages.{says}
-use Rattle.snap_session.proofs.Steps.{rests, by_more, gives_up, answers, refuses, found_first, hands, came_free, owes_turn}
+use Rattle.snap_session.proofs.Steps.{rests, by_more, gives_up, answers, refuses, found_first, hands, came_free}
+use Rattle.snap_session.proofs.Steps.{owes_turn}
 use Rattle.snap_session.proofs.Steps.{asked_of}
 use Rattle.snap_frame.specs.Stream.{HasLongLength}
 use Rattle.snap_session.proofs.session.Session.answer_one.Goals as goal

@@ -7,7 +7,8 @@ use Rattle.snap_world.specs.NodePhases.{up}
 use Rattle.snap_world.specs.declared.register.Register.{Register}
 use Rattle.snap_world.specs.declared.writer.Writer.{Writer}
 use Rattle.snap_world.specs.declared.writer.WriterPhase.TheVariants as writer
-use Rattle.snap_world.proofs.Moves.{within, the_writer, the_register, own_moment, world_shows, shown_register, shown_view, whole}
+use Rattle.snap_world.proofs.Moves.{within, the_writer, the_register, own_moment, world_shows, shown_register}
+use Rattle.snap_world.proofs.Moves.{shown_view, whole}
 use Rattle.snap_world.proofs.PhaseMoves.{writer_moved, came}
 use Rattle.snap_world.proofs.Sizes.{register_fits}
 use Rattle.snap_world.proofs.actors.Actors.show.Goals as goal

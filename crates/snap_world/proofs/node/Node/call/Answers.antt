@@ -7,7 +7,8 @@ use Rattle.snap_world.proofs.Calls.{going_done, not_done}
 use Rattle.snap_world.proofs.Events.{is_up, actors_of, refuses}
 use Rattle.snap_world.proofs.Sizes.{register_fits}
 use Rattle.snap_world.proofs.Stored.{call_goes, call_ends, call_moves, call_stores, there, storing, number_is, value_is}
-use Rattle.snap_world.proofs.Stored.{segment_there, drive_fits, number_room, value_fits, drive_size, slot_low, call_left}
+use Rattle.snap_world.proofs.Stored.{segment_there, drive_fits, number_room, value_fits, drive_size, slot_low}
+use Rattle.snap_world.proofs.Stored.{call_left}
 use Rattle.snap_world.proofs.node.Node.call.Goals as goal
 
 pub returns-then-not-may_store : goal.returns-then-not-may_store

@@ -1,7 +1,8 @@
 use Rattle.std.proofs.Common.{refl, ap}
 use Rattle.snap_persist.specs.Stage.{calls_left}
 use Rattle.snap_world.proofs.Events.{is_up, actors_of, refuses}
-use Rattle.snap_world.proofs.Stored.{call_fails, fail_moves, there, segment_there, drive_fits, drive_size, slot_low, call_left}
+use Rattle.snap_world.proofs.Stored.{call_fails, fail_moves, there, segment_there, drive_fits, drive_size, slot_low}
+use Rattle.snap_world.proofs.Stored.{call_left}
 use Rattle.snap_world.proofs.node.Node.fail.Goals as goal
 
 pub returns-then-not-may_store : goal.returns-then-not-may_store

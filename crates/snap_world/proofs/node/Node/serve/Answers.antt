@@ -5,7 +5,8 @@ use Rattle.std.proofs.lemmas.List.{length-map}
 use Rattle.snap_history.specs.History.{from_nothing, IsMemory}
 use Rattle.snap_world.specs.inside.NodeSteps.{store_left}
 use Rattle.snap_world.proofs.Crash.{sized}
-use Rattle.snap_world.proofs.Serves.{readable, marks, h, memory, y, actors_stand, drives_stand, same_devices, device_served, gates}
+use Rattle.snap_world.proofs.Serves.{readable, marks, h, memory, y, actors_stand, drives_stand, same_devices}
+use Rattle.snap_world.proofs.Serves.{device_served, gates}
 use Rattle.snap_world.proofs.Serves.{idle_phases}
 use Rattle.snap_world.proofs.node.Node.serve.Goals as goal
 

@@ -1,6 +1,0 @@
-use Rattle.std.proofs.Common.{rules}
-use Rattle.std.proofs.lemmas.Fmt.{length-decimal-le}
-use Rattle.snap_call.proofs.line.append_number.Goals as goal
-
-pub append-requires : goal.append-requires
-append-requires c = search (rules, length-decimal-le 20)

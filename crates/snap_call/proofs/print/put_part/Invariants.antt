@@ -1,8 +1,0 @@
-use Rattle.std.proofs.Common.{◌≡◌, ◌++◌, flat_map, take}
-use Rattle.snap_order.specs.declared.order.Layout.TheVariants.{Lines}
-use Rattle.snap_call.specs.Text.{named_line}
-use Rattle.snap_call.proofs.print.put_part.Given as goal
-
-abbrev pub invariant-loop-value : goal.invariant-loop-value
-invariant-loop-value l =
-    l.layout ≡ Lines → l.out.items ≡ l.fn.out.items ++ flat_map named_line (take l.value-index l.values)

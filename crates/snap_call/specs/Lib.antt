@@ -1,4 +1,0 @@
-pub mod Text
-pub mod Ends
-pub mod Puts
-pub mod Fetch

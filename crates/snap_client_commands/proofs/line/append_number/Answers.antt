@@ -1,0 +1,6 @@
+use Rattle.std.proofs.Common.{rules}
+use Rattle.std.proofs.lemmas.Fmt.{length-decimal-le}
+use Rattle.snap_client_commands.proofs.line.append_number.Goals as goal
+
+pub append-requires : goal.append-requires
+append-requires c = search (rules, length-decimal-le 20)

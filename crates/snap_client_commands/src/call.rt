@@ -1,0 +1,417 @@
+//! Sends the request of a call and prints the reply.
+ghost use Rattle.std.specs.Prelude.{◌≡◌, ◌^◌, ◌<◌, ◌≤◌, ℕ, List, IfSome, MatchOption, if◌then◌else◌, length};
+ghost use Rattle.snap_client.specs.Again.{TriesIn};
+ghost use Rattle.snap_frame.specs.Messages.{IsAskable, max_payload, payload};
+ghost use Rattle.snap_order.specs.Limits.{MAX_COUNT, MAX_TRIES};
+ghost use Rattle.snap_order.specs.Order.{IsCallable, IsWithin, request_of};
+ghost use Rattle.snap_order.specs.declared.status.Status.TheVariants as status;
+ghost use Rattle.snap_stream.specs.Streams.{refused_line};
+ghost use Rattle.snap_client_commands.specs.Ends.{Asks, EndsAsked, EndsGot, EndsRead, GivesUp, IsOnlyValue};
+ghost use Rattle.snap_client_commands.specs.Ends.{IsRead, IsRefused, Prints, PrintsInPlace, SaysRefused};
+ghost use Rattle.snap_client_commands.specs.Ends.{WantsMemory, answer_status, tries_of};
+ghost use Rattle.snap_client_commands.specs.Puts.{Does, ReadsInput};
+ghost use Rattle.snap_client_commands.specs.Text.{stored_line};
+
+use crate::line::{detailed_line, stored_line};
+use crate::print::{answer_of, is_any_fenced};
+use crate::put::store;
+use snap_client::{ClientFault, call_again, call_while};
+use snap_frame::{NamedValue, Reply};
+use snap_order::{CallOptions, CallRequest, Exit, OutputFormat, Request, SegmentSet, Status};
+use snap_stream::{Refusal, complain, complain_of_refusal, write_whole};
+use std::alloc::Global;
+use std::fmt::Display;
+use std::io::{Read, Write};
+
+/// Does what the order says: sends its requests to a server, prints the reply on `writer`, and
+/// returns the exit status. The status of a health call with a fenced segment is
+/// [`Status::Refused`]. `connect` returns a reader and a writer, or `None` if no connection can be
+/// made. For each request it is called once, and again if the same request may be answered on
+/// another connection: up to the order's number of tries. If the order waits there is no such
+/// limit: `connect` itself has to pause, and to end the wait by `None`.
+///
+/// A put of standard input first reads `input` to its end, and makes no connection if that fails or
+/// has too many bytes for a value. Then it sends two requests: one for the current number, and an
+/// update with the next one. If the order has a number, it sends the update alone.
+///
+/// If the server refuses, or memory runs out, `errors` gets a complaint, nothing is printed, and
+/// the status is [`Status::Refused`]. The outcome of an update is printed without memory, so after
+/// a reply memory can run out only for the values and fences of a read. If a connection, `writer`
+/// or `input` fails, `errors` gets a complaint and the status is [`Status::Failed`]; `writer` may
+/// have got a beginning of the text. A complaint is one line, except for line feeds in the address.
+pub fn ask<
+    R: Read + Drop,
+    C: Write + Drop,
+    F: FnMut() -> Option<(R, C)>,
+    I: Read,
+    W: Write,
+    E: Write,
+>(
+    alloc: Global,
+    order: &CallOptions<'_>,
+    connect: &mut F,
+    input: &mut I,
+    writer: &mut W,
+    errors: &mut E,
+) -> Exit
+    requires limits { IsCallable order.now }
+    requires callable { F.IsAlwaysCallable connect.old }
+
+    // Each request was sent on at most that many connections, and the last answer decides the end.
+    ensures does { Does order.now.layout (tries_of order.now) F.step R.remaining C.contents
+        order.now.question (I.remaining input.old) connect.old result connect.new
+        (W.contents writer.old) (W.contents writer.new) (E.contents errors.old)
+        (E.contents errors.new) }
+    ensures unread { (ReadsInput order.now.question → ⊥) → input.new ≡ input.old }
+{
+    match &order.question {
+        CallRequest::Put(put) => store(alloc, order, put, connect, input, writer, errors),
+        question => ask_once(alloc, order, question, connect, writer, errors),
+    }
+}
+
+/// Sends the request of a call other than a put, and ends with its answer. It uses the order's address, tries and
+/// output format.
+pub(crate) fn ask_once<
+    R: Read + Drop,
+    C: Write + Drop,
+    F: FnMut() -> Option<(R, C)>,
+    W: Write,
+    E: Write,
+>(
+    alloc: Global,
+    order: &CallOptions<'_>,
+    question: &CallRequest,
+    connect: &mut F,
+    writer: &mut W,
+    errors: &mut E,
+) -> Exit
+    requires limits { IsCallable order.now }
+    requires fits { length (payload (request_of question.now)) ≤ max_payload }
+    requires askable { IsAskable (request_of question.now) }
+    requires within { IsWithin question.now }
+    requires callable { F.IsAlwaysCallable connect.old }
+    ensures { Asks order.now.layout (tries_of order.now) F.step R.remaining C.contents question.now connect.old result
+        connect.new (W.contents writer.old) (W.contents writer.new) (E.contents errors.old)
+        (E.contents errors.new) }
+{
+    let answer = answer_from(alloc, question, tries_of(order), connect);
+    end(
+        alloc,
+        order.address,
+        question,
+        order.layout,
+        answer,
+        writer,
+        errors,
+    )
+}
+
+/// The most connections for each request of the order. `None` if it waits, and `connect` decides.
+#[tactic(auto, unfolding(crate::specs::Ends::tries_of))]
+pub(crate) fn tries_of(order: &CallOptions<'_>) -> Option<u8>
+    requires limits { IsCallable order.now }
+    ensures value { result ≡ tries_of order.now }
+    ensures some { IfSome result (λ n. 1 ≤ n) }
+    ensures few { IfSome result (λ n. n ≤ MAX_TRIES) }
+{
+    match order.wait {
+        Some(_) => None,
+        None => Some(order.tries),
+    }
+}
+
+/// The answer to this request, over at most `tries` connections, or over as many as `connect`
+/// makes.
+pub(crate) fn answer_to<R: Read + Drop, C: Write + Drop, F: FnMut() -> Option<(R, C)>>(
+    alloc: Global,
+    request: &Request,
+    tries: Option<u8>,
+    connect: &mut F,
+) -> Result<Reply, ClientFault>
+    requires fits { length (payload request.now) ≤ max_payload }
+    requires askable { IsAskable request.now }
+    requires some { IfSome tries (λ n. 1 ≤ n) }
+    requires few { IfSome tries (λ n. n ≤ MAX_TRIES) }
+    requires callable { F.IsAlwaysCallable connect.old }
+    ensures { TriesIn tries F.step R.remaining C.contents request.now connect.old result connect.new }
+{
+    match tries {
+        Some(tries) => call_again(alloc, connect, request, tries),
+        None => call_while(alloc, connect, request),
+    }
+}
+
+/// The server's answer to a call's request. A health call and a put ask for the status.
+pub(crate) fn answer_from<R: Read + Drop, C: Write + Drop, F: FnMut() -> Option<(R, C)>>(
+    alloc: Global,
+    question: &CallRequest,
+    tries: Option<u8>,
+    connect: &mut F,
+) -> Result<Reply, ClientFault>
+    requires fits { length (payload (request_of question.now)) ≤ max_payload }
+    requires askable { IsAskable (request_of question.now) }
+    requires within { IsWithin question.now }
+    requires some { IfSome tries (λ n. 1 ≤ n) }
+    requires few { IfSome tries (λ n. n ≤ MAX_TRIES) }
+    requires callable { F.IsAlwaysCallable connect.old }
+    ensures { TriesIn tries F.step R.remaining C.contents (request_of question.now) connect.old
+        result connect.new }
+{
+    match question {
+        CallRequest::Request(request) => answer_to(alloc, request, tries, connect),
+        CallRequest::Get { segment } => {
+            let request = Request::Part(set_of(*segment));
+            answer_to(alloc, &request, tries, connect)
+        }
+        CallRequest::Health => answer_to(alloc, &Request::Status, tries, connect),
+        CallRequest::Put(_) => answer_to(alloc, &Request::Status, tries, connect),
+    }
+}
+
+/// The set of this segment alone.
+fn set_of(segment: u8) -> SegmentSet
+    requires { segment < MAX_COUNT }
+    ensures { result.bits ≡ 2 ^ segment }
+{
+    SegmentSet {
+        bits: 1u16 << segment,
+    }
+}
+
+/// Ends a call with the answer to its request.
+pub(crate) fn end<W: Write, E: Write>(
+    alloc: Global,
+    address: &str,
+    question: &CallRequest,
+    layout: OutputFormat,
+    answer: Result<Reply, ClientFault>,
+    writer: &mut W,
+    errors: &mut E,
+) -> Exit
+    ensures { EndsAsked layout question.now answer result (W.contents writer.old)
+        (W.contents writer.new) (E.contents errors.old) (E.contents errors.new) }
+{
+    match answer {
+        Ok(Reply::Refused { why, detail }) => refuse(why, detail, errors),
+        Ok(Reply::Stored(number)) => say_stored(alloc, number, writer, errors),
+        Ok(reply) => print_read(alloc, address, question, layout, &reply, writer, errors),
+        Err(ClientFault::NoMemory) => stop(errors),
+        Err(fault) => give_up(alloc, address, fault, errors),
+    }
+}
+
+/// Prints the reply to a read. Of a get it prints the value alone.
+fn print_read<W: Write, E: Write>(
+    alloc: Global,
+    address: &str,
+    question: &CallRequest,
+    layout: OutputFormat,
+    reply: &Reply,
+    writer: &mut W,
+    errors: &mut E,
+) -> Exit
+    requires { IsRead reply.now }
+    ensures { EndsRead layout question.now reply.now result (W.contents writer.old)
+        (W.contents writer.new) (E.contents errors.old) (E.contents errors.new) }
+{
+    match (question, reply) {
+        (CallRequest::Get { segment }, Reply::Part(values)) => {
+            print_value(alloc, address, *segment, values, writer, errors)
+        }
+        _ => print(alloc, question, layout, reply, writer, errors),
+    }
+}
+
+/// Prints the value of this segment, if the reply has no other one.
+fn print_value<W: Write, E: Write>(
+    alloc: Global,
+    address: &str,
+    segment: u8,
+    values: &[NamedValue],
+    writer: &mut W,
+    errors: &mut E,
+) -> Exit
+    ensures { EndsGot segment values.now result (W.contents writer.old) (W.contents writer.new)
+        (E.contents errors.old) (E.contents errors.new) }
+{
+    let Some(value) = only_value(segment, values) else {
+        return give_up(alloc, address, ClientFault::BadReply, errors);
+    };
+    print_whole(alloc, Status::Done, value, writer, errors)
+}
+
+/// The value of this segment. `None` unless it is the only value.
+fn only_value<'a>(segment: u8, values: &'a [NamedValue]) -> Option<&'a [u8]>
+    ensures { MatchOption result ((x : List ℕ) → IsOnlyValue segment values.now x → ⊥)
+        (λ x. IsOnlyValue segment values.now x.now) }
+{
+    if values.len() != 1 || values[0].segment != segment {
+        return None;
+    }
+    Some(values[0].value.as_slice())
+}
+
+/// The status of a call whose answer was printed.
+fn status_of(question: &CallRequest, reply: &Reply) -> Status
+    ensures { result ≡ answer_status question.now reply.now }
+{
+    match (question, reply) {
+        (CallRequest::Health, Reply::Status(statuses)) => fence_status(is_any_fenced(statuses)),
+        _ => Status::Done,
+    }
+}
+
+/// The status of a health call.
+fn fence_status(is_fenced: bool) -> Status
+    ensures { result ≡ if is_fenced then status.Refused else status.Done }
+{
+    if is_fenced {
+        Status::Refused
+    } else {
+        Status::Done
+    }
+}
+
+/// Prints the number under which an update was stored. The line takes no memory.
+fn say_stored<W: Write, E: Write>(
+    alloc: Global,
+    number: u64,
+    writer: &mut W,
+    errors: &mut E,
+) -> Exit
+    ensures { PrintsInPlace status.Done (stored_line number) result
+        (W.contents writer.old) (W.contents writer.new)
+        (E.contents errors.old) (E.contents errors.new) }
+{
+    let line = stored_line(number);
+    let Err(error) = write_whole(writer, line.as_str().as_bytes()) else {
+        return Exit {
+            status: Status::Done,
+            is_told: true,
+        };
+    };
+    let is_told = complain(
+        alloc,
+        errors,
+        &format_args!("stored {number}, but standard output: {error}"),
+    );
+    Exit {
+        status: Status::Failed,
+        is_told,
+    }
+}
+
+/// Prints the reply to a read.
+#[tactic(auto, unfolding(crate::specs::Ends::Prints))]
+fn print<W: Write, E: Write>(
+    alloc: Global,
+    question: &CallRequest,
+    layout: OutputFormat,
+    reply: &Reply,
+    writer: &mut W,
+    errors: &mut E,
+) -> Exit
+    requires { IsRead reply.now }
+    ensures { Prints (answer_status question.now reply.now) layout question.now reply.now
+        result (W.contents writer.old) (W.contents writer.new) (E.contents errors.old)
+        (E.contents errors.new) }
+{
+    let Ok(text) = answer_of(alloc, question, layout, reply) else {
+        return stop(errors);
+    };
+    let status = status_of(question, reply);
+    print_whole(alloc, status, text.as_slice(), writer, errors)
+}
+
+/// Prints the text, and ends with this status, or as failed if `writer` fails.
+fn print_whole<W: Write, E: Write>(
+    alloc: Global,
+    status: Status,
+    text: &[u8],
+    writer: &mut W,
+    errors: &mut E,
+) -> Exit
+    ensures { PrintsInPlace status text.now result (W.contents writer.old)
+        (W.contents writer.new) (E.contents errors.old) (E.contents errors.new) }
+{
+    let Err(error) = write_whole(writer, text) else {
+        return Exit {
+            status,
+            is_told: true,
+        };
+    };
+    let is_told = complain(alloc, errors, &format_args!("standard output: {error}"));
+    Exit {
+        status: Status::Failed,
+        is_told,
+    }
+}
+
+/// Complains that the server refused the request, with the refusal's detail. It takes no memory.
+pub(crate) fn refuse<E: Write>(why: Refusal, detail: u64, errors: &mut E) -> Exit
+    ensures { IsRefused result (E.contents errors.old) (E.contents errors.new) }
+{
+    let line = detailed_line(why, detail);
+    let is_told = match write_whole(errors, line.as_str().as_bytes()) {
+        Ok(()) => true,
+        Err(_) => false,
+    };
+    Exit {
+        status: Status::Refused,
+        is_told,
+    }
+}
+
+/// Complains that memory ran out. It takes none.
+pub(crate) fn stop<E: Write>(errors: &mut E) -> Exit
+    ensures { WantsMemory result (E.contents errors.old) (E.contents errors.new) }
+{
+    refuse_here(Refusal::NoMemory, errors)
+}
+
+/// Complains that the call was refused before the server was asked. It takes no memory.
+pub(crate) fn refuse_here<E: Write>(why: Refusal, errors: &mut E) -> Exit
+    ensures { SaysRefused (refused_line why) result (E.contents errors.old)
+        (E.contents errors.new) }
+{
+    Exit {
+        status: Status::Refused,
+        is_told: complain_of_refusal(errors, why),
+    }
+}
+
+/// Complains that there is no answer, with advice.
+pub(crate) fn give_up<E: Write>(
+    alloc: Global,
+    address: &str,
+    fault: ClientFault,
+    errors: &mut E,
+) -> Exit
+    ensures { GivesUp result (E.contents errors.old) (E.contents errors.new) }
+{
+    match remedy_of(fault) {
+        Some(remedy) => fail(alloc, &format_args!("{address}: {fault}: {remedy}"), errors),
+        None => fail(alloc, &format_args!("{address}: {fault}"), errors),
+    }
+}
+
+/// Complains that something failed.
+pub(crate) fn fail<T: Display, E: Write>(alloc: Global, text: &T, errors: &mut E) -> Exit
+    ensures { GivesUp result (E.contents errors.old) (E.contents errors.new) }
+{
+    let is_told = complain(alloc, errors, text);
+    Exit {
+        status: Status::Failed,
+        is_told,
+    }
+}
+
+/// The advice after a fault. If no connection could be made, the caller that makes them gives it.
+fn remedy_of(fault: ClientFault) -> Option<&'static str> {
+    match fault {
+        ClientFault::ConnectFailed => None,
+        ClientFault::BadReply => Some("check the address"),
+        _ => Some("send it again, since an update is stored once"),
+    }
+}

@@ -1,0 +1,224 @@
+//! The texts of the replies to reads.
+ghost use Rattle.std.specs.Prelude.{◌≡◌, ◌++◌, IfOk, OnOk, codes, flat_map};
+ghost use Rattle.snap_stream.specs.Hex.{hex_text};
+ghost use Rattle.snap_json.specs.Each.{each_from};
+ghost use Rattle.snap_order.specs.declared.order.OutputFormat.TheVariants.{Lines};
+ghost use Rattle.snap_client_commands.specs.Ends.{IsRead};
+ghost use Rattle.snap_client_commands.specs.Text.{Shows, ShowsEach, is_any_fenced, named_line, segment_text};
+ghost use Rattle.snap_client_commands.specs.Text.{status_line, value_line, value_text};
+
+use itoa::Buffer;
+use snap_frame::{NamedValue, Reply, SegmentStatus, SegmentValue};
+use snap_json::{health_document, part_document, quote, scan_document, status_document};
+use snap_order::{CallRequest, OutputFormat};
+use snap_stream::put_hex;
+use std::alloc::{AllocError, Global};
+
+/// The text of the reply to a call's request, in this output format.
+pub(crate) fn answer_of(
+    alloc: Global,
+    question: &CallRequest,
+    layout: OutputFormat,
+    reply: &Reply,
+) -> Result<Vec<u8>, AllocError>
+    requires { IsRead reply.now }
+    ensures { IfOk result (λ text. Shows layout question.now reply.now text.items) }
+{
+    match layout {
+        OutputFormat::Json => document_of(alloc, question, reply),
+        OutputFormat::Lines | OutputFormat::Text => lines_of(alloc, question, layout, reply),
+    }
+}
+
+/// The JSON document of the reply to a call's request.
+fn document_of(alloc: Global, question: &CallRequest, reply: &Reply) -> Result<Vec<u8>, AllocError>
+    requires { IsRead reply.now }
+{
+    match (question, reply) {
+        (CallRequest::Health, Reply::Status(statuses)) => health_document(alloc, statuses),
+        (_, Reply::Snapshot(values)) => scan_document(alloc, values),
+        (_, Reply::Part(values)) => part_document(alloc, values),
+        (_, Reply::Status(statuses)) => status_document(alloc, statuses),
+        (_, Reply::Stored(_) | Reply::Refused { .. }) => unreachable!(),
+    }
+}
+
+/// The lines of the reply to a call's request.
+fn lines_of(
+    alloc: Global,
+    question: &CallRequest,
+    layout: OutputFormat,
+    reply: &Reply,
+) -> Result<Vec<u8>, AllocError>
+    requires { IsRead reply.now }
+    ensures { IfOk result (λ text. Shows layout question.now reply.now text.items) }
+{
+    match (question, reply) {
+        (CallRequest::Health, Reply::Status(statuses)) => health_of(alloc, statuses),
+        _ => text_of(alloc, layout, reply),
+    }
+}
+
+/// The lines of a server's health.
+fn health_of(alloc: Global, statuses: &[SegmentStatus]) -> Result<Vec<u8>, AllocError> {
+    let mut out = Vec::new(alloc);
+    if is_any_fenced(statuses) {
+        put_fences(&mut out, statuses)?;
+    } else {
+        out.extend_from_slice(b"healthy\n")?;
+    }
+    Ok(out)
+}
+
+/// Whether one of the segments is fenced.
+pub(crate) fn is_any_fenced(statuses: &[SegmentStatus]) -> bool
+    ensures { result ≡ is_any_fenced statuses.now }
+{
+    statuses.iter().any(|status| status.is_fenced)
+}
+
+/// The lines of the reply to a read.
+fn text_of(alloc: Global, layout: OutputFormat, reply: &Reply) -> Result<Vec<u8>, AllocError>
+    requires { IsRead reply.now }
+    ensures { IfOk result (λ text. layout ≡ Lines → ShowsEach reply.now text.items) }
+{
+    let mut out = Vec::new(alloc);
+    match reply {
+        Reply::Snapshot(values) => put_values(alloc, &mut out, layout, values)?,
+        Reply::Part(values) => put_part(alloc, &mut out, layout, values)?,
+        Reply::Status(statuses) => put_statuses(&mut out, statuses)?,
+        Reply::Stored(_) | Reply::Refused { .. } => unreachable!(),
+    }
+    Ok(out)
+}
+
+/// Appends a line for each segment's value.
+fn put_values(
+    alloc: Global,
+    out: &mut Vec<u8>,
+    layout: OutputFormat,
+    values: &[SegmentValue],
+) -> Result<(), AllocError>
+    ensures { layout ≡ Lines → OnOk result (out.new.items
+        ≡ out.old.items ++ each_from value_line 0 values.now) }
+{
+    for (index, value) in values.iter().enumerate() {
+        put_value(
+            alloc,
+            out,
+            layout,
+            index,
+            value.number,
+            value.value.as_slice(),
+        )?;
+    }
+    Ok(())
+}
+
+/// Appends a line for each value, under the index of the segment that it names.
+fn put_part(
+    alloc: Global,
+    out: &mut Vec<u8>,
+    layout: OutputFormat,
+    values: &[NamedValue],
+) -> Result<(), AllocError>
+    ensures { layout ≡ Lines → OnOk result (out.new.items
+        ≡ out.old.items ++ flat_map named_line values.now) }
+{
+    for value in values {
+        let index = usize::from(value.segment);
+        put_value(
+            alloc,
+            out,
+            layout,
+            index,
+            value.number,
+            value.value.as_slice(),
+        )?;
+    }
+    Ok(())
+}
+
+/// Appends a line for each segment's status.
+fn put_statuses(out: &mut Vec<u8>, statuses: &[SegmentStatus]) -> Result<(), AllocError>
+    ensures { OnOk result (out.new.items
+        ≡ out.old.items ++ each_from status_line 0 statuses.now) }
+{
+    for (index, status) in statuses.iter().enumerate() {
+        put_status(out, index, status)?;
+    }
+    Ok(())
+}
+
+/// Appends a line for each segment that is fenced.
+fn put_fences(out: &mut Vec<u8>, statuses: &[SegmentStatus]) -> Result<(), AllocError> {
+    let mut digits = Buffer::new();
+    for (index, status) in statuses.iter().enumerate() {
+        if status.is_fenced {
+            out.extend_from_slice(b"fenced ")?;
+            out.extend_from_slice(digits.format(index).as_bytes())?;
+            out.extend_from_slice(b"\n")?;
+        }
+    }
+    Ok(())
+}
+
+/// Appends the line of one segment's value.
+fn put_value(
+    alloc: Global,
+    out: &mut Vec<u8>,
+    layout: OutputFormat,
+    index: usize,
+    number: u64,
+    value: &[u8],
+) -> Result<(), AllocError>
+    ensures { layout ≡ Lines → OnOk result (out.new.items
+        ≡ out.old.items ++ value_text index number value.now) }
+{
+    put_segment(out, index, number)?;
+    put_shown(alloc, out, layout, value)?;
+    out.extend_from_slice(b"\n")
+}
+
+/// Appends a value: as quoted text if it is printable and the output format shows text, else in hexadecimal digits.
+fn put_shown(
+    alloc: Global,
+    out: &mut Vec<u8>,
+    layout: OutputFormat,
+    value: &[u8],
+) -> Result<(), AllocError>
+    ensures { layout ≡ Lines → OnOk result (out.new.items
+        ≡ out.old.items ++ (codes " value " ++ hex_text value.now)) }
+{
+    if let OutputFormat::Text = layout {
+        if let Some(text) = quote(alloc, value)? {
+            out.extend_from_slice(b" text ")?;
+            return out.extend_from_slice(text.as_slice());
+        }
+    }
+    out.extend_from_slice(b" value ")?;
+    put_hex(out, value)
+}
+
+/// Appends the line of one segment's status.
+fn put_status(out: &mut Vec<u8>, index: usize, status: &SegmentStatus) -> Result<(), AllocError>
+    ensures { OnOk result (out.new.items ≡ out.old.items ++ status_line index status.now) }
+{
+    put_segment(out, index, status.number)?;
+    if status.is_fenced {
+        out.extend_from_slice(b" fenced 1\n")
+    } else {
+        out.extend_from_slice(b" fenced 0\n")
+    }
+}
+
+/// Appends a segment's index and number.
+fn put_segment(out: &mut Vec<u8>, index: usize, number: u64) -> Result<(), AllocError>
+    ensures { OnOk result (out.new.items ≡ out.old.items ++ segment_text index number) }
+{
+    let mut digits = Buffer::new();
+    out.extend_from_slice(b"segment ")?;
+    out.extend_from_slice(digits.format(index).as_bytes())?;
+    out.extend_from_slice(b" number ")?;
+    out.extend_from_slice(digits.format(number).as_bytes())
+}

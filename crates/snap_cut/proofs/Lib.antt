@@ -1,7 +1,0 @@
-pub mod Order
-pub mod Merge
-pub mod Placed
-pub mod Lives
-pub mod Crash
-pub mod Starts
-pub mod Durability

@@ -1,3 +1,0 @@
-pub mod Crash
-pub mod Laws
-pub mod Durability

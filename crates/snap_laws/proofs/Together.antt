@@ -1,0 +1,221 @@
+-- The premises of the law of a cut if two writers are at work.
+use Rattle.std.proofs.Common.{◌≡◌, ◌⊎◌, ℕ, zero, suc, ◌+◌, ◌≤◌, inl, inr, List, [], ◌∷◌, ◌++◌, length, Option, Some}
+use Rattle.std.proofs.Common.{slice_get, refl, ap, sym, subst, ◌∙◌, arith, length-append}
+use Rattle.std.specs.Option.{option_to_list}
+use Rattle.std.proofs.lemmas.Bool.{cases_lt}
+use Rattle.std.proofs.lemmas.Option.{same_Some}
+use Rattle.snap_history.specs.History.{Update, IsBeginning, number_after}
+use Rattle.snap_history.specs.Limits.{IsNumber, IsShort}
+use Rattle.snap_history.specs.declared.limits.TheConstants.{LAST_NUMBER}
+use Rattle.snap_history.proofs.Beginnings.{beginning-self}
+use Rattle.snap_scan.specs.Looks.{most_looks}
+use Rattle.snap_register.specs.declared.plan.Plan.{Plan}
+use Rattle.snap_register.specs.History.{starts}
+use Rattle.snap_register.specs.Rule.{segments}
+use Rattle.snap_register.specs.Seat.{Known}
+use Rattle.snap_segment.specs.Segment.{SegmentState}
+use Rattle.snap_writer.specs.Writer.{WriterState, number_of}
+use Rattle.snap_writer.specs.Judge.{IsJudged}
+use Rattle.snap_writer.specs.declared.judgement.Judgement.TheVariants.{Go}
+use Rattle.snap_writer.specs.Life.{Place, in_store, resting, seen_at, Sees, Shows, StoresFirst, IsWriterOf}
+use Rattle.snap_restart.specs.LifeLaws.{IsLivedIn}
+use Rattle.snap_restart.proofs.LifeCrash.{each_seen, cut_recovers}
+use Rattle.snap_restart.proofs.Crash.{opened_on}
+use Rattle.snap_laws.specs.Opened.{AreNew}
+use Rattle.snap_laws.specs.Together.{stored_unshown, AreTwo, IsRecoveredAt}
+use Rattle.snap_laws.proofs.Openings.{sees_itself}
+use Rattle.snap_disk.specs.declared.disk.Disk as Disk
+
+module _ {D : Type 0} (disk : Disk.Ghosts D) where
+  -- to show an update, or to see more, leaves the segment unchanged
+  same_segment : (b z : WriterState D) → (Shows disk b z)
+      ⊎ (Sees disk b z) → z.segment ≡ b.segment
+  same_segment b z (inl shows) = shows.segment_is
+  same_segment b z (inr sees) = sees.segment_is
+
+  module _ (plan : Plan) (i : ℕ) (v : List ℕ) (a z : WriterState D)
+      (is : IsWriterOf disk plan 2 i a) (fresh : a.seat.seen ≡ [])
+      (first : StoresFirst disk v a z) where
+    none_seen : IsBeginning first.0.seat.seen []
+    none_seen = subst (λ (h : List Update). IsBeginning h []) (sym (ap (λ (k : Known). k.seen)
+        first.1.seat_is ∙ fresh)) (beginning-self [])
+
+    -- inside its store
+    lived_inside : IsLivedIn disk plan 2 [] i
+        (in_store a v z.segment.device)
+    lived_inside =
+        let b = first.0 in (
+          a,
+          b,
+          b ∷ [],
+          is,
+          (inr (inl (v, first.1)), refl),
+          inr (inl (
+            a,
+            v,
+            sees_itself disk a,
+            subst (λ (k : Known). IsBeginning a.seat.seen k.seen) (sym first.1.seat_is)
+                (beginning-self a.seat.seen),
+            first.1,
+            ap (λ (s : SegmentState D). in_store a v s.device) (same_segment b z first.2),
+          )),
+          none_seen,
+        )
+
+    -- between its store and its show
+    lived_between : IsLivedIn disk plan 2 [] i
+        (stored_unshown a z)
+    lived_between =
+        let b = first.0 in
+        let segment = same_segment b z first.2 in
+        let seat = first.1.seat_is in (
+          a,
+          b,
+          b ∷ [],
+          is,
+          (inr (inl (v, first.1)), refl),
+          inr (inr (
+            b,
+            sees_itself disk b,
+            beginning-self b.seat.seen,
+            λ t. resting (record { segment = segment t; seat = sym seat t }),
+          )),
+          none_seen,
+        )
+
+  module _ (plan : Plan) (p q : Place D)
+      (first : IsLivedIn disk plan 2 [] 0 p)
+      (second : IsLivedIn disk plan 2 [] 1 q)
+      (p_fresh : seen_at p ≡ []) (q_fresh : seen_at q ≡ []) where
+    of_both : (P : ℕ → Place D → Type 0) → P 0 p → P 1 q → (i : ℕ) (r : Place D)
+        → slice_get (p ∷ q ∷ []) i ≡ Some r → P i r
+    of_both P one other zero r e = subst (P 0) (same_Some p r e) one
+    of_both P one other (suc zero) r e = subst (P 1) (same_Some q r e) other
+    of_both P one other (suc (suc i)) r e = absurd (cc e)
+
+    fresh_at : (i : ℕ) (r : Place D) → slice_get (p ∷ q ∷ []) i ≡ Some r → seen_at r ≡ []
+    fresh_at = of_both (λ _ r. seen_at r ≡ []) p_fresh q_fresh
+
+    recovered_at : IsRecoveredAt disk plan (p ∷ q ∷ [])
+    recovered_at files left =
+        cut_recovers disk plan [] (p ∷ q ∷ []) [] files
+        (omega arith) (of_both (λ i r. IsLivedIn disk plan 2 [] i r) first second)
+        (λ k seen e. absurd (cc e))
+        (λ j seen e i r at. (
+        let fresh = each_seen (λ (h : List Update). h ≡ []) (p ∷ q ∷ []) [] fresh_at
+        (λ k x there. absurd (cc there)) j seen e in
+        let one = ap (λ (h : List Update). number_after (starts plan) h i) fresh in
+        let two = ap (λ (h : List Update). number_after (starts plan) h i) (fresh_at i r at) in
+        omega (arith, one, two)))
+        left
+
+  -- both made an update, stored first and then shown
+  module _ (first second first_new second_new : WriterState D) (v w : List ℕ)
+      (two : AreTwo disk first second)
+      (one : StoresFirst disk v first first_new)
+      (other : StoresFirst disk w second second_new) where
+    abbrev plan : Plan
+    plan = first.seat.plan
+
+    first_inside : IsLivedIn disk plan 2 [] 0 (in_store first v first_new.segment.device)
+    first_inside = lived_inside plan 0 v first first_new two.first_is two.first_fresh one
+
+    second_between : IsLivedIn disk plan 2 [] 1 (stored_unshown second second_new)
+    second_between = lived_between plan 1 w second second_new two.second_is two.second_fresh other
+
+    -- both inside their stores; one inside its store and the other stored; both stored and not yet
+    -- shown
+    pub at_work : IsRecoveredAt disk plan (in_store first v first_new.segment.device
+        ∷ in_store second w second_new.segment.device ∷ [])
+        × IsRecoveredAt disk plan (in_store first v first_new.segment.device
+        ∷ stored_unshown second second_new ∷ [])
+        × IsRecoveredAt disk plan (stored_unshown first first_new
+        ∷ stored_unshown second second_new ∷ [])
+    at_work = (
+      recovered_at plan _ _ first_inside
+          (lived_inside plan 1 w second second_new two.second_is two.second_fresh other)
+          two.first_fresh two.second_fresh,
+      recovered_at plan _ _ first_inside second_between two.first_fresh two.second_fresh,
+      recovered_at plan _ _
+          (lived_between plan 0 v first first_new two.first_is two.first_fresh one)
+          second_between two.first_fresh two.second_fresh,
+    )
+
+-- ---- an opening meets these premises
+
+pub two_popped : {A : Type 0} (all mid rest : List A) (r s : Option A) (x y : A) → length all ≡ 2
+    → all ≡ mid ++ option_to_list r → r ≡ Some y → mid ≡ rest ++ option_to_list s → s ≡ Some x
+    → all ≡ x ∷ y ∷ []
+two_popped all mid [] r s x y size one er two es =
+    one ∙ ap (λ (o : Option _). mid ++ option_to_list o) er
+    ∙ ap (λ (l : List _). l ++ y ∷ []) (two ∙ ap (λ (o : Option _). option_to_list o) es)
+two_popped all mid (z ∷ zs) r s x y size one er two es =
+    let ry = ap (λ (o : Option _). length (option_to_list o)) er in
+    let sx = ap (λ (o : Option _). length (option_to_list o)) es in
+    absurd (omega (
+      arith,
+      size,
+      ap length one,
+      ap length two,
+      length-append mid (option_to_list r),
+      length-append (z ∷ zs) (option_to_list s),
+      ry,
+      sx,
+    ))
+
+pub below_last : (k : ℕ) → IsNumber k → (k ≡ LAST_NUMBER → ⊥) → IsNumber (k + 1)
+below_last k low other = elim (cases_lt k LAST_NUMBER) [
+  | inl less ↦ omega (arith, less)
+  | inr least ↦ absurd (other (omega (arith, least, low)))
+]
+
+module _ {D : Type 0} (disk : Disk.Ghosts D) (devices : List D)
+    (writers : List (WriterState D)) (x y : WriterState D) (are : writers ≡ x ∷ y ∷ [])
+    (new : AreNew disk devices writers) where
+  at_0 : slice_get writers 0 ≡ Some x
+  at_0 = ap (λ (l : List (WriterState D)). slice_get l 0) are
+
+  at_1 : slice_get writers 1 ≡ Some y
+  at_1 = ap (λ (l : List (WriterState D)). slice_get l 1) are
+
+  two : length writers ≡ 2
+  two = ap (λ (l : List (WriterState D)). length l) are
+
+  same_plan : x.seat.plan ≡ new.opened.plan
+  same_plan = (new.opened.writers_are 0 x at_0).plan_is
+
+  of_two : (i : ℕ) (w : WriterState D) → slice_get writers i ≡ Some w
+      → IsWriterOf disk x.seat.plan 2 i w
+  of_two i w at = subst (λ (z : Plan × ℕ).
+      IsWriterOf disk z.0 z.1 i w)
+      (λ t. (sym same_plan t, two t)) (new.opened.writers_are i w at)
+
+  pub are_two : AreTwo disk x y
+  are_two = record {
+    first_is = of_two 0 x at_0;
+    second_is = of_two 1 y at_1;
+    first_fresh = (new.fresh 0 x at_0).0;
+    second_fresh = (new.fresh 1 y at_1).0;
+  }
+
+  goes_at : (i : ℕ) (w : WriterState D) (k : ℕ) (v : List ℕ) → slice_get writers i ≡ Some w
+      → IsShort v → k ≡ number_of w + 1 → IsNumber k → IsJudged w k v Go
+  goes_at i w k v at short next number =
+      let is = (opened_on disk devices writers new.were i w at).2 in
+      let left = (new.fresh i w at).1 in
+      let count : segments w.seat.plan ≡ 2 =
+      ap (λ (p : Plan). segments p) (new.opened.writers_are i w at).plan_is
+      ∙ sym new.opened.all ∙ two in (
+        (short, next),
+        number,
+        is.unfenced,
+        subst (λ (n : ℕ). most_looks n ≤ w.seat.left) (sym count) (omega (arith, left)),
+      )
+
+  pub first_goes : (k : ℕ) (v : List ℕ) → IsShort v → k ≡ number_of x + 1 → IsNumber k
+      → IsJudged x k v Go
+  first_goes k v = goes_at 0 x k v at_0
+
+  pub second_goes : (k : ℕ) (v : List ℕ) → IsShort v → k ≡ number_of y + 1 → IsNumber k
+      → IsJudged y k v Go
+  second_goes k v = goes_at 1 y k v at_1

@@ -1,0 +1,12 @@
+pub mod Told
+pub mod Laws
+pub mod Ever
+pub mod Heard
+pub mod Worker
+pub mod Opened
+pub mod Worked
+pub mod Together
+pub mod NoLoss
+pub mod Again
+pub mod Moment
+pub mod Between

@@ -1,0 +1,40 @@
+//! Metrics of a running server: each worker and each storer thread counts for itself, and any
+//! thread reads without a lock. Begin with [`Metrics`] (metrics.rt).
+//!
+//! A worker writes its [`WorkerMetrics`], by the [`CountingService`] around its desk. A storer
+//! thread writes the [`SegmentMetrics`] of its segment, by the [`TimedDisk`] of the segment's file.
+//! Each number has one writer, so no thread waits for another. [`Metrics::read`] takes a
+//! [`MetricsSnapshot`]: each number as it was at some moment of the call.
+#![tactic(auto)]
+
+mod counter;
+mod counting_service;
+mod devices;
+mod frame_len;
+mod histogram;
+mod list;
+mod log;
+mod looks;
+mod metrics;
+mod request_counts;
+mod segment;
+mod senders;
+mod snapshot;
+mod stage;
+mod timed_disk;
+mod worker;
+
+pub use counter::Counter;
+pub use counting_service::{CountedAnswer, CountingService};
+pub use devices::time_all;
+pub use frame_len::{reply_frame_len, request_frame_len};
+pub use histogram::{Histogram, nanoseconds_of, place_of};
+pub use looks::Looking;
+pub use metrics::Metrics;
+pub use segment::SegmentMetrics;
+pub use snapshot::{
+    BOUNDS, FIRST_BOUND, HistogramSnapshot, MetricsSnapshot, REFUSALS, RequestCounts,
+    SegmentSnapshot,
+};
+pub use timed_disk::TimedDisk;
+pub use worker::WorkerMetrics;

@@ -1,0 +1,145 @@
+//! All metrics of a server.
+ghost use Rattle.std.specs.Prelude.{◌≡◌, ◌<◌, IfOk, length};
+ghost use Rattle.snap_metrics.specs.Places.{IsWithinAccepted};
+
+use crate::segment::SegmentMetrics;
+use crate::snapshot::{MetricsSnapshot, RequestCounts, SegmentSnapshot};
+use crate::worker::WorkerMetrics;
+use std::alloc::{AllocError, Global};
+use std::marker::Model;
+use std::sync::atomic::{AtomicU64, Ordering};
+
+/// The metrics of a server. Each worker and each storer thread writes its own part, and any thread
+/// reads all of them at any time, without a lock.
+///
+/// Models the number of workers and the number of segments.
+#[derive(Drop)]
+pub struct Metrics {
+    workers: Vec<WorkerMetrics>,
+    segments: Vec<SegmentMetrics>,
+    accepted: AtomicU64,
+    ended: AtomicU64,
+}
+
+impl Model for Metrics {
+    ghost use Rattle.std.specs.Prelude.{length};
+    ghost use Rattle.snap_metrics.specs.Places.{Places};
+
+    ghost Value = { Places };
+
+    ghost view = { λ f. record { workers = length f.workers.items; segments = length f.segments.items } };
+}
+
+impl Metrics {
+    /// Metrics for `workers` workers and `segments` segments, with nothing counted yet.
+    pub fn new(alloc: Global, workers: usize, segments: usize) -> Result<Metrics, AllocError>
+        ensures workers { IfOk result (λ f. f.workers ≡ workers) }
+        ensures segments { IfOk result (λ f. f.segments ≡ segments) }
+    {
+        Ok(Metrics {
+            workers: new_workers(alloc, workers)?,
+            segments: new_segments(alloc, segments)?,
+            accepted: AtomicU64::new(0),
+            ended: AtomicU64::new(0),
+        })
+    }
+
+    /// The number of workers.
+    pub fn worker_count(&self) -> usize
+        ensures { result ≡ self.now.workers }
+    {
+        self.workers.len()
+    }
+
+    /// The number of segments.
+    pub fn segment_count(&self) -> usize
+        ensures { result ≡ self.now.segments }
+    {
+        self.segments.len()
+    }
+
+    /// The metrics of one worker.
+    pub fn worker(&self, worker: usize) -> &WorkerMetrics
+        requires { worker < self.now.workers }
+    {
+        &self.workers[worker]
+    }
+
+    /// The metrics of one segment.
+    pub fn segment(&self, segment: usize) -> &SegmentMetrics
+        requires { segment < self.now.segments }
+    {
+        &self.segments[segment]
+    }
+
+    /// Counts an accepted connection. Any thread may call this.
+    pub fn accept(&self) {
+        self.accepted.fetch_add(1, Ordering::SeqCst);
+    }
+
+    /// Counts a close of an accepted connection. Any thread may call this.
+    pub fn end(&self) {
+        self.ended.fetch_add(1, Ordering::SeqCst);
+    }
+
+    /// Reads all metrics, each number as it was at some moment of this call. Neither the reader nor
+    /// a writer waits.
+    pub fn read(&self, alloc: Global) -> Result<MetricsSnapshot, AllocError>
+        ensures segments { IfOk result (λ r. length r.segments.items ≡ self.now.segments) }
+        ensures connections { IfOk result IsWithinAccepted }
+    {
+        let requests = read_workers(&self.workers);
+        let segments = read_segments(alloc, &self.segments)?;
+        // Read first, so that it is at most `accepted`.
+        let ended = self.ended.load(Ordering::SeqCst);
+        let accepted = self.accepted.load(Ordering::SeqCst);
+        Ok(MetricsSnapshot {
+            requests,
+            segments,
+            accepted,
+            open: accepted.saturating_sub(ended),
+        })
+    }
+}
+
+fn new_workers(alloc: Global, count: usize) -> Result<Vec<WorkerMetrics>, AllocError>
+    ensures { IfOk result (λ v. length v.items ≡ count) }
+{
+    let mut workers = Vec::with_capacity(alloc, count)?;
+    for i in 0..count {
+        workers.push(WorkerMetrics::new())?;
+    }
+    Ok(workers)
+}
+
+fn new_segments(alloc: Global, count: usize) -> Result<Vec<SegmentMetrics>, AllocError>
+    ensures { IfOk result (λ v. length v.items ≡ count) }
+{
+    let mut segments = Vec::with_capacity(alloc, count)?;
+    for i in 0..count {
+        segments.push(SegmentMetrics::new())?;
+    }
+    Ok(segments)
+}
+
+/// Adds up all workers' counts.
+fn read_workers(workers: &[WorkerMetrics]) -> RequestCounts {
+    let mut together = RequestCounts::new();
+    for worker in workers {
+        together.merge(&worker.read());
+    }
+    together
+}
+
+fn read_segments(
+    alloc: Global,
+    segments: &[SegmentMetrics],
+) -> Result<Vec<SegmentSnapshot>, AllocError>
+    ensures { IfOk result (λ v. length v.items ≡ length segments.now) }
+{
+    let mut readings = Vec::with_capacity(alloc, segments.len())?;
+    for segment in segments {
+        readings.push(segment.read())?;
+    }
+    Ok(readings)
+}

@@ -1,2 +1,0 @@
-pub mod Old
-pub mod Found

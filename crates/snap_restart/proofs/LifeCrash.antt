@@ -1,0 +1,216 @@
+-- A crash of all devices: at a consistent cut, and at a moment of the registers.
+use Rattle.std.proofs.Common.{◌≡◌, ◌⊎◌, ⊎_elim, ℕ, zero, suc, ◌+◌, ◌<◌, ◌≤◌, inl, inr, List, [], ◌∷◌, length, map}
+use Rattle.std.proofs.Common.{Some, slice_get, refl, ap, sym, subst, ◌∙◌, arith}
+use Rattle.std.proofs.lemmas.List.{length-append, length-map}
+use Rattle.std.proofs.lemmas.Option.{same_Some, slice_get_within}
+use mathlib.Core.Option.{some}
+use lib.ListN.{get_elem?}
+use Rattle.snap_register.specs.Registers.{Moment}
+use Rattle.snap_slot.specs.Layout.{IsFileOf}
+use Rattle.snap_history.specs.History.{Update, IsBeginning, updates_of, number_after, value_after}
+use Rattle.snap_history.specs.Pairs.{Pairs}
+use Rattle.snap_history.proofs.Beginnings.{beginning-self, beginning-trans, number-beginning}
+use Rattle.snap_history.proofs.Pairs.{element}
+use Rattle.snap_memory.proofs.ScanAnswer.{same_value}
+use Rattle.snap_register.specs.declared.plan.Plan.{Plan}
+use Rattle.snap_register.specs.declared.plan.SeatView.{SeatView}
+use Rattle.snap_register.specs.History.{starts, updates, only}
+use Rattle.snap_register.specs.Rule.{Kept}
+use Rattle.snap_register.proofs.Updates.{updates_count, beginning_is}
+use Rattle.snap_writer.specs.Writer.{number_of, value_of}
+use Rattle.snap_writer.specs.Life.{Place, HasBegun, seen_at, CrashLeaves, IsPlaceOf}
+use Rattle.snap_restart.specs.LifeCrash.{all_seen, Begun, IsRecovered}
+use Rattle.snap_restart.specs.LifeLaws.{CutLaw, ConsistentLaw, IsSeatOf, IsSeenIn}
+use Rattle.snap_restart.proofs.LifeOrder.{longest, has_early}
+use Rattle.snap_restart.proofs.Merge.{Found, merge}
+use Rattle.snap_restart.proofs.Placed.{crash_leaves}
+use Rattle.snap_restart.proofs.Lives.{life_fits}
+use Rattle.snap_disk.specs.declared.disk.Disk as Disk
+
+-- ---- the histories that seats have seen
+
+module _ {D : Type 0} where
+  seen_there : (writers : List (Place D)) (scanners : List (List Update)) (i : ℕ) (p : Place D)
+      → slice_get writers i ≡ Some p
+      → slice_get (all_seen writers scanners) i ≡ Some (seen_at p)
+  seen_there [] scanners i p e = absurd (cc e)
+  seen_there (w ∷ ws) scanners zero p e = ap (λ (q : Place D). Some (seen_at q)) (same_Some w p e)
+  seen_there (w ∷ ws) scanners (suc i) p e = seen_there ws scanners i p e
+
+  -- a property of all that writers have seen, and of all that scanners have seen, holds of each
+  pub each_seen : (P : List Update → Type 0) (writers : List (Place D))
+      (scanners : List (List Update))
+      → ((i : ℕ) (p : Place D) → slice_get writers i ≡ Some p → P (seen_at p))
+      → ((k : ℕ) (x : List Update) → slice_get scanners k ≡ Some x → P x)
+      → (j : ℕ) (x : List Update) → slice_get (all_seen writers scanners) j ≡ Some x → P x
+  each_seen P [] scanners theirs others j x e = others j x e
+  each_seen P (w ∷ ws) scanners theirs others zero x e =
+      subst P (same_Some (seen_at w) x e) (theirs 0 w refl)
+  each_seen P (w ∷ ws) scanners theirs others (suc j) x e =
+      each_seen P ws scanners (λ i p at. theirs (suc i) p at) others j x e
+
+-- ---- consequences of the registers' rule at a moment
+
+seat_saw : (plan : Plan) (s : Moment) (kept : Kept plan s) (j : ℕ) (v : SeatView)
+    → get_elem? s.views j ≡ some v → IsBeginning (updates v.seen) (updates kept.history)
+seat_saw plan s kept j v at = beginning_is v.seen kept.history (kept.each_seat j v at).seen
+
+pub seen_saw : (plan : Plan) (s : Moment) (kept : Kept plan s) (seen : List Update)
+    → IsSeenIn s.views seen → IsBeginning seen (updates kept.history)
+seen_saw plan s kept seen (j, v, at, is) =
+    subst (λ (y : List Update). IsBeginning y (updates kept.history)) (sym is)
+    (seat_saw plan s kept j v at)
+
+-- a writer that has shown all its updates in the history
+pub record Agrees {D : Type 0} (plan : Plan) (h : List Update) (i : ℕ) (p : Place D)
+    : Type 0 where
+  pub saw : IsBeginning (seen_at p) h
+  pub whole : number_after (starts plan) h i ≤ number_after (starts plan) (seen_at p) i
+
+seat_agrees : {D : Type 0} (plan : Plan) (s : Moment) (kept : Kept plan s)
+    (i : ℕ) (p : Place D) → IsSeatOf s.views i p → Agrees plan (updates kept.history) i p
+seat_agrees plan s kept i p seat =
+    let h = updates kept.history in
+    let v = seat.1 in
+    let low : v.low ≡ i = seat.3.0 in
+    let high : v.high ≡ i + 1 = seat.3.1 in
+    let end : v.seen_end ≡ i + 1 = seat.3.2 in
+    let writes = (kept.each_seat seat.0 v seat.2).role i (omega arith, omega arith) in
+    let all : only i v.seen ≡ only i kept.history = writes.all (omega arith) in
+    let counted : length (only i v.seen) ≡ length (only i kept.history) = ap length all in
+    let same : updates_of i h ≡ updates_of i (seen_at p) = updates_count i kept.history
+    ∙ sym counted ∙ sym (updates_count i v.seen)
+    ∙ ap (λ (y : List Update). updates_of i y) (sym seat.4) in
+    record {
+      saw = seen_saw plan s kept (seen_at p) (seat.0, v, seat.2, seat.4);
+      whole = omega (arith, same);
+    }
+
+pub moment_consistent : {D : Type 0} → ConsistentLaw D
+moment_consistent plan s kept writers scanners seats seen j x e i p at =
+    let h = updates kept.history in
+    let begins = each_seen (λ (y : List Update). IsBeginning y h) writers scanners
+    (λ k q there. (seat_agrees plan s kept k q (seats k q there)).saw)
+    (λ k y there. seen_saw plan s kept y (seen k y there)) j x e in
+    let below = number-beginning (starts plan) x h i begins in
+    let whole = (seat_agrees plan s kept i p (seats i p at)).whole in
+    omega (arith, below, whole)
+
+module _ {D : Type 0} (disk : Disk.Ghosts D) where
+  -- ---- the contents of the devices
+
+  agreed : (plan : Plan) (h : List Update) (n i : ℕ) (p : Place D) (b : List ℕ)
+      → IsPlaceOf disk plan n i p → Agrees plan h i p
+      → CrashLeaves disk p b
+      → (IsFileOf i n (number_after (starts plan) h i) (value_after (starts plan) h i) b)
+      ⊎ ((v : List ℕ) × HasBegun p v × IsFileOf i n (number_after (starts plan) h i + 1) v b)
+  agreed plan h n i p b is a left =
+      let w = p.writer in
+      let of = is.writer_is in
+      let number : number_of w ≡ number_after (starts plan) (seen_at p) i =
+      (λ t. number_after (starts (of.plan_is t)) (seen_at p) (of.low_is t)) in
+      let value : value_of w ≡ value_after (starts plan) (seen_at p) i =
+      (λ t. value_after (starts (of.plan_is t)) (seen_at p) (of.low_is t)) in
+      let rises = number-beginning (starts plan) (seen_at p) h i a.saw in
+      let whole = a.whole in
+      let same : number_after (starts plan) (seen_at p) i ≡ number_after (starts plan) h i =
+      omega (arith, rises, whole) in
+      let now : number_of w ≡ number_after (starts plan) h i = number ∙ same in
+      let value_now : value_of w ≡ value_after (starts plan) h i =
+      value ∙ same_value (starts plan) h (seen_at p) h i a.saw (beginning-self h) same in
+      ⊎_elim
+      (λ old. inl (subst (λ (y : ℕ × List ℕ). IsFileOf i n y.0 y.1 b)
+      (λ t. (now t, value_now t)) old))
+      (λ new. inr (new.0, new.1, subst (λ (k : ℕ). IsFileOf i n (k + 1) new.0 b) now new.2))
+      (crash_leaves disk plan n i p is b left)
+
+  recovered : (plan : Plan) (n : ℕ) (h : List Update) (writers : List (Place D))
+      (files : List (List ℕ)) → length writers ≡ n
+      → ((i : ℕ) (p : Place D) → slice_get writers i ≡ Some p
+      → IsPlaceOf disk plan n i p × Agrees plan h i p)
+      → Pairs (λ _. CrashLeaves disk) writers files
+      → IsRecovered n (starts plan) h (Begun writers) files
+  recovered plan n h writers files count each left =
+      let size = left.size in
+      let Kind : ℕ → ℕ → List ℕ → Type 0 =
+      λ i k v. (b : List ℕ) → slice_get files i ≡ Some b → IsFileOf i n k v b in
+      let found : (i : ℕ) → i < n → Found (starts plan) h (Begun writers) Kind i = λ i low. (
+      let p = element writers i (omega (arith, low, count)) in
+      let f = element files i (omega (arith, low, count, size)) in
+      let is = each i p.0 p.1 in
+      let all : (k : ℕ) (v : List ℕ) → IsFileOf i n k v f.0 → Kind i k v = λ k v x b e.
+      subst (λ (y : List ℕ). IsFileOf i n k v y) (same_Some f.0 b (sym f.1 ∙ e)) x in
+      ⊎_elim
+      (λ old. inl (all _ _ old))
+      (λ new. inr (new.0, (p.0, p.1, new.1), all _ _ new.2))
+      (agreed plan h n i p.0 f.0 is.0 is.1 (left.each i p.0 f.0 p.1 f.1))) in
+      let m = merge (starts plan) h (Begun writers) Kind n found in
+      record {
+        begun_too = m.more;
+        were_begun = m.were_begun;
+        once = m.once;
+        size = sym size ∙ count;
+        holds = λ i b e. (
+            let within = slice_get_within files i b e in
+            m.holds i (omega (arith, within, size, count)) b e);
+      }
+
+  -- ---- a consistent cut
+
+  pub cut_recovers : CutLaw disk
+  cut_recovers plan h writers scanners files least lived saw consistent left =
+      let start = starts plan in
+      let n = length writers in
+      let fits : (i : ℕ) (p : Place D) → slice_get writers i ≡ Some p
+      → IsPlaceOf disk plan n i p × IsBeginning (seen_at p) h =
+      λ i p e. (
+      let x = lived i p e in
+      let f = life_fits disk plan n i x.0 x.1 x.2 p x.3 x.4 x.5 in
+      (f.0, beginning-trans (seen_at p) x.1.seat.seen h f.2 x.6)) in
+      let begins = each_seen (λ (y : List Update). IsBeginning y h) writers scanners
+      (λ i p e. (fits i p e).1) saw in
+      let long : 0 < length (all_seen writers scanners) =
+      omega (
+        arith,
+        least,
+        length-append (map seen_at writers) scanners,
+        length-map writers seen_at,
+      ) in
+      let l = longest (all_seen writers scanners) h long begins in
+      let within : IsBeginning l.it h = begins l.place l.it l.there in
+      record {
+        visible = l.it;
+        within = within;
+        seen_by = (l.place, l.there);
+        all_visible = l.whole;
+        acknowledged = λ i k v p e has low. (
+            let more = number-beginning start (seen_at p) l.it i
+            (l.whole i (seen_at p) (seen_there writers scanners i p e)) in
+            has_early start l.it h i k v within has (omega (arith, low, more)));
+        recovered = recovered plan n l.it writers files refl
+            (λ i p e. (
+              (fits i p e).0,
+              record {
+                saw = l.whole i (seen_at p) (seen_there writers scanners i p e);
+                whole = consistent l.place l.it l.there i p e;
+              },
+            )) left;
+      }
+
+  -- ---- a moment of the registers
+
+  pub moment_recovers : (plan : Plan) (n : ℕ) (s : Moment) (kept : Kept plan s)
+      (writers : List (Place D)) (files : List (List ℕ)) → length writers ≡ n
+      → ((i : ℕ) (p : Place D) → slice_get writers i ≡ Some p
+      → IsPlaceOf disk plan n i p × IsSeatOf s.views i p)
+      → Pairs (λ _. CrashLeaves disk) writers files
+      → ((j : ℕ) (v : SeatView) → get_elem? s.views j ≡ some v
+      → IsBeginning (updates v.seen) (updates kept.history))
+      × IsRecovered n (starts plan) (updates kept.history) (Begun writers) files
+  moment_recovers plan n s kept writers files count each left = (
+    seat_saw plan s kept,
+    recovered plan n (updates kept.history) writers files count (λ i p e. (
+      (each i p e).0,
+      seat_agrees plan s kept i p (each i p e).1,
+    )) left,
+  )

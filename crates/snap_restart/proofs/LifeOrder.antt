@@ -1,0 +1,87 @@
+-- Of two beginnings of one history the shorter is a beginning of the longer.
+use Rattle.std.proofs.Common.{◌≡◌, ℕ, zero, suc, ◌<◌, ◌≤◌, inl, inr, List, [], ◌∷◌, ◌++◌, length, take, drop, Some}
+use Rattle.std.proofs.Common.{slice_get, refl, ap, sym, subst, ◌∙◌, arith}
+use Rattle.std.proofs.lemmas.Bool.{cases_lt}
+use Rattle.std.proofs.lemmas.List.{take-append-drop}
+use Rattle.std.proofs.lemmas.Option.{same_Some}
+use Rattle.snap_history.specs.History.{Update, Start, IsBeginning, number_after}
+use Rattle.snap_history.proofs.Beginnings.{beginning-self, beginning-trans, take-beginning, number-beginning}
+use Rattle.snap_memory.proofs.Collects.{beginning-take}
+use Rattle.snap_memory.proofs.ScanAnswer.{same_value}
+use Rattle.snap_restart.specs.LifeCrash.{Has}
+
+pub shorter : (a b h : List Update) → IsBeginning a h → IsBeginning b h → length a ≤ length b
+    → IsBeginning a b
+shorter a b h pa pb l =
+    let is : take (length a) b ≡ a = sym (take-beginning b h (length a) pb l)
+    ∙ beginning-take a h pa in (
+      drop (length a) b,
+      sym (take-append-drop (length a) b) ∙ ap (λ (x : List Update). x ++ drop (length a) b) is,
+    )
+
+-- the longest of some beginnings of one history; the others are beginnings of it
+pub record Longest (all : List (List Update)) : Type 0 where
+  pub it : List Update
+  pub place : ℕ
+  pub there : slice_get all place ≡ Some it
+  pub whole : (j : ℕ) (x : List Update) → slice_get all j ≡ Some x → IsBeginning x it
+
+one_more_whole : (x : List Update) (xs : List (List Update)) (it : List Update) → IsBeginning x it
+    → ((j : ℕ) (y : List Update) → slice_get xs j ≡ Some y → IsBeginning y it)
+    → (j : ℕ) (y : List Update) → slice_get (x ∷ xs) j ≡ Some y → IsBeginning y it
+one_more_whole x xs it first rest zero y e =
+    subst (λ (z : List Update). IsBeginning z it) (same_Some x y e) first
+one_more_whole x xs it first rest (suc j) y e = rest j y e
+
+one_more : (x : List Update) (xs : List (List Update)) (h : List Update) → IsBeginning x h
+    → (r : Longest xs) → IsBeginning r.it h → Longest (x ∷ xs)
+one_more x xs h bx r br = elim (cases_lt (length r.it) (length x)) [
+  | inl more ↦ (
+      let below : IsBeginning r.it x = shorter r.it x h br bx (omega arith) in
+      record {
+        it = x;
+        place = 0;
+        there = refl;
+        whole = one_more_whole x xs x (beginning-self x)
+            (λ j y e. beginning-trans y r.it x (r.whole j y e) below);
+      })
+  | inr le ↦ record {
+    it = r.it;
+    place = suc r.place;
+    there = r.there;
+    whole = one_more_whole x xs r.it (shorter x r.it h bx br le) r.whole;
+  }
+]
+
+pub longest : (all : List (List Update)) (h : List Update) → 0 < length all
+    → ((j : ℕ) (x : List Update) → slice_get all j ≡ Some x → IsBeginning x h) → Longest all
+longest [] h some each = absurd (omega arith)
+longest (x ∷ []) h some each = record {
+  it = x;
+  place = 0;
+  there = refl;
+  whole = one_more_whole x [] x (beginning-self x) (λ j y e. absurd (cc e));
+}
+longest (x ∷ y ∷ all) h some each =
+    let r = longest (y ∷ all) h (omega arith) (λ j z e. each (suc j) z e) in
+    one_more x (y ∷ all) h (each 0 x refl) r (each (suc r.place) r.it r.there)
+
+-- an update of the history is in each beginning whose number is high enough
+pub has_early : (start : Start) (p h : List Update) (i k : ℕ) (v : List ℕ) → IsBeginning p h
+    → Has start h i k v → k ≤ number_after start p i → Has start p i k v
+has_early start p h i k v bp has low =
+    let q = has.0 in
+    elim (cases_lt (length p) (length q)) [
+      | inl lt ↦ (
+          let under : IsBeginning p q = shorter p q h bp has.1 (omega arith) in
+          let le : number_after start p i ≤ number_after start q i =
+          number-beginning start p q i under in
+          let k_is : k ≡ number_after start q i = has.2 in
+          let same : number_after start p i ≡ number_after start q i = omega arith in (
+            p,
+            beginning-self p,
+            has.2 ∙ sym same,
+            has.3 ∙ same_value start h q p i has.1 bp (sym same),
+          ))
+      | inr ge ↦ (q, shorter q p h has.1 bp ge, has.2, has.3)
+    ]

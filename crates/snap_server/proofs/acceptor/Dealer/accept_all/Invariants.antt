@@ -1,4 +1,0 @@
-use Rattle.snap_server.proofs.acceptor.Dealer.accept_all.Given as goal
-
-abbrev pub invariant-loop : goal.invariant-loop
-invariant-loop g l = g.L.Listen.refuses l.listener → g.L.Listen.refuses l.fn.listener

@@ -1,6 +1,0 @@
-use Rattle.snap_server.proofs.Deals.{HasDealt}
-use Rattle.snap_server.proofs.acceptor.Dealer.accept_so_many.Given as goal
-
-abbrev pub invariant-loop : goal.invariant-loop
-invariant-loop g l = HasDealt g.L.Listen.accepts g.L.Listen.refuses g.H.Hand.takes
-    l.fn.self.doors.now l.counter l.fn.listener l.listener l.self.doors.now l.self.next l.self.dealt

@@ -1,0 +1,163 @@
+//! A worker's mailbox, by which other threads send it connections and messages.
+ghost use Rattle.std.specs.Prelude.{◌≡◌, IfOk, true};
+ghost use Rattle.snap_server.specs.declared.listen.Accepted.{Accepted};
+
+use crate::listen::Accepted;
+use crossbeam_channel::{Receiver, SendError, Sender, unbounded};
+use mio::Waker;
+use std::alloc::{AllocError, Global};
+use std::rt::Clock;
+use std::sync::atomic::{AtomicBool, Ordering};
+use std::sync::{Arc, Wait};
+use std::thread;
+use std::time::Duration;
+
+/// The pause before a send is tried again after memory ran out, in milliseconds.
+const REST: u64 = 5;
+
+/// A message to a worker, other than a connection.
+#[derive(Drop)]
+pub enum Message<O: Drop> {
+    /// The outcome of the request that the connection `key` handed over.
+    Done { key: usize, outcome: O },
+    /// No more connections will arrive.
+    Close,
+    /// No more connections will arrive, and each existing one is closed between two requests.
+    Stop,
+}
+
+/// Delivers connections and messages to a worker.
+pub trait Deliver {
+    /// The outcome of a request that the worker's service handed over.
+    type Outcome: Drop;
+
+    /// The connection was delivered to the worker.
+    ghost takes: { Self → Accepted → Type 0 };
+
+    /// Delivers a connection and wakes the worker; `false` if it has ended.
+    fn deliver<X: Wait + Clock>(&self, rt: &X, arrival: Accepted) -> bool
+        ensures { result ≡ true → takes self.now arrival };
+
+    /// Sends a message and wakes the worker; `false` if it has ended.
+    fn post<X: Wait + Clock>(&self, rt: &X, message: Message<Self::Outcome>) -> bool;
+}
+
+/// The sending side of a worker's mailbox.
+///
+/// Connections and messages have separate channels, so that no outcome waits for connections to be
+/// taken. A wake is lost once its waker is dropped, so a sender outlives its worker.
+///
+/// A wake is a system call, and a worker that is awake needs none, since it polls its mailbox. A
+/// worker sets `sleeps` and then polls the mailbox once more; a sender sends first and then reads
+/// `sleeps`. In any order, one of the two sees what the other did.
+#[derive(Drop)]
+pub struct MailboxSender<O: Drop> {
+    arrivals: Sender<Accepted>,
+    messages: Sender<Message<O>>,
+    waker: Waker,
+    sleeps: Arc<AtomicBool, Global>,
+    /// The index of its worker. Only clauses read it.
+    place: usize,
+}
+
+/// The receiving side of a worker's mailbox.
+#[derive(Drop)]
+pub struct Mailbox<O: Drop> {
+    pub arrivals: Receiver<Accepted>,
+    pub messages: Receiver<Message<O>>,
+    /// Whether the worker sleeps, or is about to.
+    sleeps: Arc<AtomicBool, Global>,
+    /// The index of its worker. Only clauses read it.
+    place: usize,
+}
+
+impl<O: Drop> MailboxSender<O> {
+    /// Makes both sides of a mailbox, for the worker at index `place`.
+    pub fn new(
+        alloc: Global,
+        waker: Waker,
+        place: usize,
+    ) -> Result<(MailboxSender<O>, Mailbox<O>), AllocError>
+        ensures sender { IfOk result (λ made. made.0.place ≡ place) }
+        ensures mailbox { IfOk result (λ made. made.1.place ≡ place) }
+    {
+        let (arrivals, arrived) = unbounded(alloc)?;
+        let (messages, came) = unbounded(alloc)?;
+        let sleeps = Arc::new(alloc, AtomicBool::new(false))?;
+        let mailbox = Mailbox {
+            arrivals: arrived,
+            messages: came,
+            sleeps: Arc::try_clone(&sleeps)?,
+            place,
+        };
+        let sender = MailboxSender {
+            arrivals,
+            messages,
+            waker,
+            sleeps,
+            place,
+        };
+        Ok((sender, mailbox))
+    }
+
+    /// Sends `what`, and wakes the worker if it sleeps. `false` if the receiver was dropped, or the
+    /// system refused the wake.
+    ///
+    /// If memory runs out it pauses and tries again, so that nothing is lost: a request whose
+    /// outcome were dropped would never be answered.
+    fn send<X: Wait + Clock, T: Drop>(&self, rt: &X, to: &Sender<T>, what: T) -> bool {
+        let mut what = what;
+        for _ in rt.forever() {
+            what = match to.send(rt, what) {
+                Ok(()) => return !self.sleeps.load(Ordering::SeqCst) || self.waker.wake().is_ok(),
+                Err(SendError::Disconnected(_)) => return false,
+                Err(SendError::OutOfMemory(back)) => back,
+            };
+            thread::sleep(rt, Duration::from_millis(REST));
+        }
+        unreachable!()
+    }
+}
+
+impl<O: Drop> Mailbox<O> {
+    /// Whether it holds a connection or a message.
+    pub fn has_some(&self) -> bool {
+        !self.messages.is_empty() || self.has_arrivals()
+    }
+
+    /// Whether it holds a connection.
+    pub fn has_arrivals(&self) -> bool {
+        !self.arrivals.is_empty()
+    }
+
+    /// Marks the worker as about to sleep, then checks the mailbox. If the mailbox isn't empty the
+    /// worker may not sleep, and is marked as awake.
+    pub fn may_sleep(&self) -> bool {
+        self.sleeps.store(true, Ordering::SeqCst);
+        if self.has_some() {
+            self.is_awake();
+            return false;
+        }
+        true
+    }
+
+    /// Marks the worker as awake.
+    pub fn is_awake(&self) {
+        self.sleeps.store(false, Ordering::SeqCst);
+    }
+}
+
+impl<O: Drop> Deliver for MailboxSender<O> {
+    type Outcome = O;
+
+    // Nothing is known of what passes through a channel.
+    ghost takes = { λ _ _. Unit {0} };
+
+    fn deliver<X: Wait + Clock>(&self, rt: &X, arrival: Accepted) -> bool {
+        self.send(rt, &self.arrivals, arrival)
+    }
+
+    fn post<X: Wait + Clock>(&self, rt: &X, message: Message<O>) -> bool {
+        self.send(rt, &self.messages, message)
+    }
+}

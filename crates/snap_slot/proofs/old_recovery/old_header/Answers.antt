@@ -1,0 +1,7 @@
+use Rattle.snap_slot.proofs.Whole.{header_of_file}
+use Rattle.snap_slot.specs.Old.{old_mark}
+use Rattle.snap_slot.proofs.old_recovery.old_header.Goals as goal
+
+pub returns : goal.returns
+returns c = header_of_file old_mark c.args.file.now c.block_at.result.now c.read_header.result
+    c.block_at.ensures.block c.read_header.ensures

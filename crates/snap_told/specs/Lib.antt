@@ -1,4 +1,0 @@
-pub mod Told
-pub mod Laws
-pub mod Ever
-pub mod Heard

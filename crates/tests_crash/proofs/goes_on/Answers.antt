@@ -1,8 +1,0 @@
-use Rattle.tests_crash.proofs.Durability.{loses_nothing}
-use Rattle.tests_crash.proofs.goes_on.Goals as goal
-
-pub returns : goal.returns
-returns g c =
-    loses_nothing g.D.Disk
-    c.args.writer.now c.update.new.self c.update-2.new.self c.life_laws.ensures.stays c.requires
-    c.update.ensures.updated.lived c.update-2.ensures.updated.lived

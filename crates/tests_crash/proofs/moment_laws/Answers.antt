@@ -1,8 +1,0 @@
-use Rattle.tests_crash.proofs.Moment.{crash_at_once, come_over}
-use Rattle.tests_crash.proofs.moment_laws.Goals as goal
-
-pub returns-clause-at_once : goal.returns-clause-at_once
-returns-clause-at_once g c = crash_at_once g.D.Disk
-
-pub returns-clause-over : goal.returns-clause-over
-returns-clause-over g c = come_over g.D.Disk
