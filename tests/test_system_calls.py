@@ -60,8 +60,7 @@ SYNCED_ALONE = [("fdatasync",)]
 NAMED = [("open of the folder",), ("fsync of the folder",), ("close of the folder",)]
 RECOVERED = [*SYNCED, ("pread64", 0, 28_672)]
 # Before the first write of a process: whether the file has the length, the header and the heads of slots that it read.
-# Each part is read with the gate that follows it, and nothing follows the last.
-PARTS = ((0, 4_097), (4_096, 8_193), (12_288, 8_193), (20_480, 8_192))
+PARTS = ((0, 4_096), *((layout.gate_at(slot), 4_112) for slot in range(3)))
 COMPARED = [("lseek",), *(("pread64", at, count) for at, count in PARTS)]
 # Of a file that is taken for a new segment: whether it is formatted, and the calls that format it.
 LOOKED_AT = [*SYNCED, ("pread64", 0, 4_096)]

@@ -1,42 +1,33 @@
-//! The contents that a device has read from its file and written to it, and whether the file still has them.
+//! What a device remembers of its file, by what it has read and written, and whether the file still has it.
 //!
 //! A lock excludes only programs that lock the file too, so any other program may copy onto a file in use, or truncate
 //! it. The file keeps its name then, and the next store would make a mixture of both. So before the first byte of a
-//! store the file is compared with the contents that are remembered: its length, its header, the number and length of
-//! the slot that was stored last, and the gates of that slot and the next one. A copy of another segment has another
-//! header. A copy from another time has another number in that slot, or has opened the next one. Before the first store
-//! all slots are compared. A file with the same bytes there takes the store as the old one does.
+//! store the file is compared with what is remembered: its length, its header, the number and length of the slot that
+//! was stored last, and the gates of that slot and the next one. A copy of another segment has another header. A copy
+//! from another time has another number in that slot, or has opened the next one. Before the first store all slots are
+//! compared. A file with the same bytes there takes the store as the old one does.
 //!
 //! Each call and each byte counts here. A seek gives the length, since asking for the file's times would cost the next
-//! write (`opened_path.rt`). Two reads give the rest: the first slot's gate follows the header, and each other gate
-//! follows a slot.
+//! write (`opened_path.rt`). Three reads give the rest. Only the bytes that are compared are kept, so a device is small
+//! where it is moved.
 
-ghost use Rattle.std.specs.Prelude.{◌≤◌, ◌<◌};
+ghost use Rattle.std.specs.Prelude.{◌<◌};
 ghost use Rattle.snap_slot.specs.declared.layout.TheConstants.{SLOT_COUNT};
-ghost use Rattle.snap_devices.specs.declared.contents.TheConstants.{READ_LEN};
 
 use crate::file::{CallFault, CallKind};
-use snap_slot::{BLOCK_LEN, FILE_LEN, OPEN_GATE, SLOT_COUNT, VALUE_AT, gate_at};
+use snap_slot::{
+    BLOCK_LEN, FILE_LEN, HEADER_GATE_AT, OPEN_GATE, SLOT_COUNT, VALUE_AT, body_at, gate_at,
+    next_slot,
+};
 use std::fs::File;
 use std::io::{self, ErrorKind, Seek, SeekFrom};
 use std::os::unix::fs::FileExt;
 
-/// How many bytes a segment file has.
-const LEN: usize = FILE_LEN as usize;
+/// How many bytes of the header are compared, beside its gate. All others are zeros.
+const START_LEN: usize = 16;
 
-/// How many bytes are read at once at most: a slot, and the gate that follows it.
-const READ_LEN: usize = 2 * BLOCK_LEN + 1;
-
-/// The ranges of the file's beginning that are compared: the header without its zeros, its gate, and the first slot's
-/// gate.
-const OF_HEADER: [(usize, usize); 2] = [(0, 16), (BLOCK_LEN - 1, BLOCK_LEN + 1)];
-
-/// The ranges of a slot that are compared: its gate, its body's number and length, and the gate that follows.
-const OF_SLOT: [(usize, usize); 3] = [
-    (0, 1),
-    (BLOCK_LEN, BLOCK_LEN + VALUE_AT),
-    (READ_LEN - 1, READ_LEN),
-];
+/// How many bytes a slot's gate block and the beginning of its body have, which are read at once.
+const SLOT_READ: usize = BLOCK_LEN + VALUE_AT;
 
 /// When the file is compared next.
 #[derive(Clone, Copy, Debug, PartialEq, Eq)]
@@ -51,13 +42,20 @@ enum Look {
     AfterOne,
 }
 
-/// The contents of a segment's file, by what its device has read and written. They are known from the first read of the
-/// whole file on, until a call fails.
+/// A slot's gate, and the beginning of its body: its number and length.
+#[derive(Clone, Copy)]
+struct SlotHead {
+    gate: u8,
+    body: [u8; VALUE_AT],
+}
+
+/// The contents of a segment's file that are compared, by what its device has read and written. They are known from the
+/// first read of the whole file on, until a call fails or writes something that isn't a slot's gate or body.
 #[derive(Drop)]
 pub(crate) struct Contents {
-    bytes: [u8; LEN],
-    /// A buffer for the bytes that are compared.
-    found: [u8; READ_LEN],
+    start: [u8; START_LEN],
+    header_gate: u8,
+    slots: [SlotHead; SLOT_COUNT as usize],
     /// The slot whose gate this device opened last, if it opened one.
     opened: Option<u64>,
     look: Look,
@@ -66,9 +64,14 @@ pub(crate) struct Contents {
 impl Contents {
     /// The contents of a file that wasn't read yet: unknown.
     pub(crate) fn unknown() -> Contents {
+        let slot = SlotHead {
+            gate: 0,
+            body: [0; VALUE_AT],
+        };
         Contents {
-            bytes: [0; LEN],
-            found: [0; READ_LEN],
+            start: [0; START_LEN],
+            header_gate: 0,
+            slots: [slot; SLOT_COUNT as usize],
             opened: None,
             look: Look::Unknown,
         }
@@ -76,8 +79,15 @@ impl Contents {
 
     /// Notes that these bytes were read from there on. If they are the whole file, its contents are known.
     pub(crate) fn note_read(&mut self, at: u64, bytes: &[u8]) {
-        if at == 0 && bytes.len() == LEN {
-            self.bytes.copy_from_slice(bytes);
+        if at == 0 && bytes.len() == FILE_LEN as usize {
+            self.start.copy_from_slice(&bytes[..START_LEN]);
+            self.header_gate = bytes[HEADER_GATE_AT as usize];
+            for slot in 0..SLOT_COUNT {
+                let body = body_at(slot) as usize;
+                let head = &mut self.slots[slot as usize];
+                head.gate = bytes[gate_at(slot) as usize];
+                head.body.copy_from_slice(&bytes[body..body + VALUE_AT]);
+            }
             self.opened = None;
             self.look = Look::Due;
         }
@@ -85,13 +95,21 @@ impl Contents {
 
     /// Notes that these bytes were written from there on.
     fn note_write(&mut self, at: u64, bytes: &[u8]) {
-        if bytes.len() <= LEN && at <= (LEN - bytes.len()) as u64 {
-            let at = at as usize;
-            self.bytes[at..at + bytes.len()].copy_from_slice(bytes);
-            if bytes == [OPEN_GATE].as_slice() {
-                self.opened = slot_of_gate(at as u64);
+        for slot in 0..SLOT_COUNT {
+            let head = &mut self.slots[slot as usize];
+            if at == gate_at(slot) && bytes.len() == 1 {
+                head.gate = bytes[0];
+                if bytes[0] == OPEN_GATE {
+                    self.opened = Some(slot);
+                }
+                return;
+            }
+            if at == body_at(slot) && bytes.len() >= VALUE_AT {
+                head.body.copy_from_slice(&bytes[..VALUE_AT]);
+                return;
             }
         }
+        self.forget();
     }
 
     /// Notes that the file was synced.
@@ -147,69 +165,65 @@ impl Contents {
 
     /// Whether the file has the length of this, its header, the head of the slot that was stored last, and the next
     /// one's gate.
-    fn is_in(&mut self, file: &mut File) -> io::Result<bool> {
-        if file.seek(SeekFrom::End(0))? != FILE_LEN
-            || !self.holds(file, 0, BLOCK_LEN + 1, &OF_HEADER)?
-        {
+    fn is_in(&self, file: &mut File) -> io::Result<bool> {
+        if file.seek(SeekFrom::End(0))? != FILE_LEN || !self.has_header(file)? {
             return Ok(false);
         }
         match self.opened {
-            Some(slot) if slot < SLOT_COUNT => self.holds(
-                file,
-                gate_at(slot) as usize,
-                READ_LEN,
-                &OF_SLOT,
-            ),
+            Some(slot) if slot < SLOT_COUNT => {
+                Ok(self.has_slot(file, slot)? && self.has_gate(file, next_slot(slot))?)
+            }
             _ => self.has_all_slots(file),
         }
     }
 
+    /// Whether the file has this header.
+    fn has_header(&self, file: &File) -> io::Result<bool> {
+        let mut found = [0; BLOCK_LEN];
+        Ok(
+            has_read(file, 0, &mut found)?
+                && found[..START_LEN] == self.start[..]
+                && found[HEADER_GATE_AT as usize] == self.header_gate,
+        )
+    }
+
     /// Whether the file has the head of each slot.
-    fn has_all_slots(&mut self, file: &File) -> io::Result<bool> {
+    fn has_all_slots(&self, file: &File) -> io::Result<bool> {
         for slot in 0..SLOT_COUNT {
-            if !self.holds(file, gate_at(slot) as usize, READ_LEN, &OF_SLOT)? {
+            if !self.has_slot(file, slot)? {
                 return Ok(false);
             }
         }
         Ok(true)
     }
 
-    /// Whether the file has what this has from `at` on, in these ranges of the next `count` bytes. Of a range that
-    /// begins at the file's end nothing is compared.
-    fn holds(
-        &mut self,
-        file: &File,
-        at: usize,
-        count: usize,
-        ranges: &[(usize, usize)],
-    ) -> io::Result<bool>
-        requires { count ≤ READ_LEN }
+    /// Whether the file has the head of this slot.
+    fn has_slot(&self, file: &File, slot: u64) -> io::Result<bool>
+        requires { slot < SLOT_COUNT }
     {
-        let Some(left) = self.bytes.get(at..) else {
-            return Ok(false);
-        };
-        let left = left.get(..count).unwrap_or(left);
-        let room = &mut self.found[..];
-        let found = &mut room[..left.len()];
-        match file.read_exact_at(found, at as u64) {
-            Ok(()) => Ok(
-                ranges
-                    .iter()
-                    .all(|(from, to)| found.get(*from..*to) == left.get(*from..*to)),
-            ),
-            // It was truncated meanwhile.
-            Err(reason) if reason.kind() == ErrorKind::UnexpectedEof => Ok(false),
-            Err(reason) => Err(reason),
-        }
+        let head = &self.slots[slot as usize];
+        let mut found = [0; SLOT_READ];
+        Ok(
+            has_read(file, gate_at(slot), &mut found)?
+                && found[0] == head.gate
+                && found[BLOCK_LEN..] == head.body[..],
+        )
+    }
+
+    /// Whether the file has this slot's gate.
+    fn has_gate(&self, file: &File, slot: u64) -> io::Result<bool>
+        requires { slot < SLOT_COUNT }
+    {
+        let mut found = [0; 1];
+        Ok(has_read(file, gate_at(slot), &mut found)? && found[0] == self.slots[slot as usize].gate)
     }
 }
 
-/// The slot whose gate is there.
-fn slot_of_gate(at: u64) -> Option<u64> {
-    for slot in 0..SLOT_COUNT {
-        if gate_at(slot) == at {
-            return Some(slot);
-        }
+/// Fills `found` from there on; `false` if the file ends before: then it was truncated meanwhile.
+fn has_read(file: &File, at: u64, found: &mut [u8]) -> io::Result<bool> {
+    match file.read_exact_at(found, at) {
+        Ok(()) => Ok(true),
+        Err(reason) if reason.kind() == ErrorKind::UnexpectedEof => Ok(false),
+        Err(reason) => Err(reason),
     }
-    None
 }
