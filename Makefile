@@ -6,11 +6,11 @@
 # The program without its proofs, as bin/snapd.
 demo:
 	@sh verification/needs.sh rt python3
-	@python3 verification/demo.py
+	@python3 verification/quick.py --demo
 
 build:
 	@sh verification/needs.sh rt python3
-	@python3 verification/demo.py --build
+	@python3 verification/quick.py
 
 # Every proof of the program, from nothing or from this machine's archive of such runs (with FRESH=1 from nothing), the
 # program by two compilers, the edits that must-fail.lock lacks, and the end-to-end tests on the proved program. It
@@ -34,12 +34,12 @@ edits:
 # Lays the libraries that this machine has proved before where `rt check` looks, so that it begins at once in any crate.
 libraries:
 	@sh verification/needs.sh rt python3
-	@python3 verification/libraries.py
+	@python3 verification/archive.py
 
 # The program that the end-to-end tests run beside snapd, without its proofs, and these tests alone, on bin/snapd.
 programs:
 	@sh verification/needs.sh rt python3
-	@python3 verification/quick.py --level 0 try_parts
+	@python3 verification/quick.py try_parts
 
 tests: programs
 	python3 tests/run.py

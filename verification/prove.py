@@ -12,37 +12,23 @@ import argparse
 import re
 import sys
 
-from edits import LOCK, Edits, try_over
-from proofs import prove
-from quick import build_all, place
-from record import LOCK as RECORD
-from record import Record
-from stamp import take_program
-from tree import LOGS, TOP, copied, crates_of, proved_crates, refuse_strange, with_below
-from run_tests import programs, run_end_to_end
+from edits import Edits, prove_and_try
+from quick import build_all
+from record import LOCK, Record
+from run_tests import programs, run_end_to_end, told_in_all
+from tree import TOP, crates_of, proved_crates, refuse_strange, with_below
 
 # The line of README that says what is on record.
-LINE = re.compile(rf"^`{RECORD}: .*`$", re.M)
+LINE = re.compile(rf"^`{LOCK}: .*`$", re.M)
 
 
 def write_record(proofs):
     """Notes every crate as proved, in the record and in README."""
-    record = Record.of(TOP)
+    record, readme = Record.of(TOP), TOP / "README.md"
     record.take(proofs.seconds)
     record.write(TOP)
-    readme = TOP / "README.md"
     readme.write_text(LINE.sub(f"`{record.told()}`", readme.read_text()))
     print(record.told(), flush=True)
-
-
-def prove_programs(names, fresh):
-    """Proves and builds these programs alone."""
-    with copied(TOP, with_below(crates_of(TOP), names)) as copy:
-        proofs = prove(copy, LOGS / "proofs.log", fresh)
-        for it in names:
-            take_program(copy, it)
-    print(*proofs.failures, proofs.told(), sep="\n")
-    return 1 if proofs.failed else 0
 
 
 def main():
@@ -51,28 +37,19 @@ def main():
     words.add_argument("names", nargs="*", metavar="NAME", help="programs that are proved and built alone")
     words = words.parse_args()
     refuse_strange(crates_of(TOP), words.names)
-    LOGS.mkdir(exist_ok=True)
+    anew = ["--anew"] * words.fresh
     if words.names:
-        return prove_programs(words.names, words.fresh)
+        proofs = prove_and_try(with_below(crates_of(TOP), words.names), anew=anew, programs=words.names)
+        return told_in_all(proofs.part())
     edits = Edits.of(TOP)
-    new = edits.unknown()
-    with copied(TOP, proved_crates(TOP)) as copy:
-        proofs = prove(copy, LOGS / "proofs.log", words.fresh)
-        print(proofs.told(), flush=True)
-        take_program(copy, "snapd")
-        if not proofs.failed:
-            write_record(proofs)
-        if new and not proofs.failed:
-            try_over(copy, {it[0] for it in new}, edits, new)
-    print(f"{LOCK}: {len(edits.known())} of {len(edits.digests)} edits were refused as they are here", flush=True)
-    parts = [(proofs.passed, proofs.failed, proofs.failures), (edits.refused, len(edits.failures), edits.failures)]
+    proofs = prove_and_try(proved_crates(TOP), edits, edits.unknown(), anew, ["snapd"])
+    print(edits.told(), flush=True)
+    parts = [proofs.part(), edits.part()]
     if not proofs.failed:
-        build_all([(it, False, place(it, False)) for it in programs(TOP)], level=0)
+        write_record(proofs)
+        build_all(programs(TOP), lambda it: None)
         parts.append(run_end_to_end(TOP / "bin" / "snapd"))
-    print(*(line for _, failed, lines in parts if failed for line in lines), sep="\n")
-    passed, failed = (sum(it[at] for it in parts) for at in (0, 1))
-    print(f"{passed} passed, {failed} failed")
-    return 1 if failed else 0
+    return told_in_all(*parts)
 
 
 if __name__ == "__main__":

@@ -11,27 +11,21 @@ which is left at bin/snapd. With --fresh nothing is taken from this machine's ar
 
 import argparse
 import random
-import subprocess
 import sys
+from concurrent.futures import ThreadPoolExecutor
 
-from edits import LOCK, Edits, drawn, try_over
-from libraries import lay_all
-from proofs import prove
+import archive
+import kit
+from edits import LOCK, Edits, drawn, prove_and_try
 from record import Record
-from stamp import take_program
-from tree import LOGS, TOP, below, copied, crates_of, proved_crates, with_below
-from run_tests import PROGRAM, build_and_run, run_end_to_end
+from run_tests import PROGRAM, build_and_run, run_end_to_end, told_in_all
+from tree import TOP, crates_of, proved_crates, with_below
 
 # The sample: how many crates, how many of their edits, and what the crates' proofs may take in all,
 # in seconds of a processor.
 SAMPLE = (3, 20, 600)
-
-
-def run_demo():
-    """The first job, as `make demo` runs it."""
-    words, nothing = ["sh", "tests/demo.sh", str(PROGRAM)], subprocess.DEVNULL
-    ran = subprocess.run(words, cwd=TOP, stdin=nothing, stdout=nothing)
-    return (1, 0, []) if ran.returncode == 0 else (0, 1, ["the first job failed: sh tests/demo.sh out/snapd"])
+# The free memory above which the tests of crates are built beside proofs.
+BOTH = 16_000_000_000
 
 
 def lacking(record, edits):
@@ -40,35 +34,22 @@ def lacking(record, edits):
     return said + [f"{LOCK} doesn't have {edits.name(it)} as it is: make edits tries it" for it in edits.unknown()]
 
 
-def sample(edits, record, owed, words):
-    """The crates and the edits that are drawn, where the crates in `owed` are proved anyway."""
-    with copied(TOP, proved_crates(TOP)) as copy:
-        missing = proved_crates(TOP) if words.fresh else lay_all(copy)[1]
-    seconds = {name: it.seconds for name, it in record.lines.items()}
-    crates, missing = crates_of(TOP), set(missing) - owed
-    names, chosen = drawn(proved_crates(TOP), edits.known(), crates, seconds, missing, words.seed, SAMPLE)
-    print(f"sample: {', '.join(names) or 'no crate'}, with {len(chosen)} edits (seed {words.seed})", flush=True)
-    return names, chosen
-
-
-def prove_and_try(words):
-    """Proves what is to be proved, and tries edits; what came of each."""
-    record, edits, crates = Record.of(TOP), Edits.of(TOP), crates_of(TOP)
-    print(record.told(), flush=True)
-    print(f"{LOCK}: {len(edits.known())} of {len(edits.digests)} edits were refused as they are here", flush=True)
-    owed = with_below(crates, proved_crates(TOP) if words.all else record.missing())
+def prove_some(words):
+    """Proves what is to be proved, and tries edits; what came of each. A crate is proved from nothing before its edits
+    are tried; one of the sample of which none was drawn isn't taken from the archive."""
+    record, edits, crates, proved = Record.of(TOP), Edits.of(TOP), crates_of(TOP), proved_crates(TOP)
+    print(record.told(), edits.told(), sep="\n", flush=True)
+    owed = with_below(crates, proved if words.all else record.missing())
     new, said = ([], lacking(record, edits)) if words.all else (edits.unknown(), [])
-    names, chosen = sample(edits, record, owed, words)
-    names = {*names, *(it[0] for it in new)}
-    with copied(TOP, owed | {lower for it in names for lower in below(crates, it)}) as copy:
-        proofs = prove(copy, LOGS / "proofs.log", words.fresh)
-        print(proofs.told(), flush=True)
-        if words.all:
-            take_program(copy, "snapd")
-        if not proofs.failed:
-            try_over(copy, names, edits, [*new, *chosen])
-    tried = edits.refused, len(edits.failures), edits.failures
-    return [(0, len(said), said), (proofs.passed, proofs.failed, proofs.failures), tried]
+    missing = {*(proved if words.fresh else archive.missing(TOP))} - owed
+    seconds = {name: it.seconds for name, it in record.lines.items()}
+    names, chosen = drawn(proved, edits.known(), crates, seconds, missing, words.seed, SAMPLE)
+    print(f"sample: {', '.join(names) or 'no crate'}, with {len(chosen)} edits (seed {words.seed})", flush=True)
+    tried = {it[0] for it in chosen}
+    anew = ["--anew"] if words.fresh else [it for it in names if it not in tried]
+    owed |= with_below(crates, {*names, *(it[0] for it in new)})
+    proofs = prove_and_try(owed, edits, [*new, *chosen], anew, ["snapd"] * words.all)
+    return [(0, len(said), said), proofs.part(), edits.part()]
 
 
 def main():
@@ -77,15 +58,11 @@ def main():
     words.add_argument("--fresh", action="store_true", help="take nothing from this machine's archive of proofs")
     words.add_argument("--seed", type=int, default=random.SystemRandom().randrange(10**9), help="of the sample")
     words = words.parse_args()
-    LOGS.mkdir(exist_ok=True)
-    parts = [build_and_run(), run_demo(), *prove_and_try(words)]
-    parts.append(run_end_to_end(TOP / "bin" / "snapd" if words.all else PROGRAM))
-    for _, failed, lines in parts:
-        if failed:
-            print(*lines, sep="\n")
-    passed, failed = (sum(it[at] for it in parts) for at in (0, 1))
-    print(f"{passed} passed, {failed} failed")
-    return 1 if failed else 0
+    lanes = 2 if kit.load("free").free() > BOTH else 1
+    with ThreadPoolExecutor(lanes) as pool:
+        tests, proofs = pool.submit(build_and_run, 4 // lanes), pool.submit(prove_some, words)
+    program = TOP / "bin" / "snapd" if words.all else PROGRAM
+    return told_in_all(tests.result(), *proofs.result(), run_end_to_end(program))
 
 
 if __name__ == "__main__":
