@@ -17,7 +17,7 @@ build:
 # writes proofs.lock.
 prove:
 	@sh verification/needs.sh rt python3 gcc
-	@python3 verification/prove.py $(if $(FRESH),--fresh)
+	@python3 verification/test.py --prove $(if $(FRESH),--fresh)
 
 # Every test; proofs and edits where the locks lack them, and a sample of the others.
 # With PROVE=all every crate is proved.
@@ -47,7 +47,7 @@ tests: programs
 # What is timed has no checks in it, so it is proved.
 bench:
 	@sh verification/needs.sh rt python3 gcc
-	python3 verification/prove.py snapd try_parts
+	python3 verification/test.py --prove snapd try_parts
 	python3 bench/run.py
 	python3 bench/server.py
 	python3 bench/others.py

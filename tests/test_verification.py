@@ -439,7 +439,7 @@ def test_a_kit_that_lacks_a_part_is_told_apart(snapd, _):
 
 
 def test_a_crate_that_is_not_there_is_told_by_its_name(snapd, _):
-    for program in ("quick", "prove", "edits"):
+    for program in ("quick", "test", "edits"):
         run = subprocess.run(
             [sys.executable, TOP / "verification" / f"{program}.py", "nowhere"], capture_output=True, text=True,
             timeout=PATIENCE,

@@ -43,17 +43,17 @@ def opened(*parts):
 
     def own_sum(crate):
         """The sum of all that a crate's proof reads but the libraries below it."""
-        folder = pathlib.Path(crate.folder)
-        top = folder.parent.parent
-        return summed(rt.kit_sum(), (top / "HANDLES").read_bytes(), crates_of(top)[crate.name].line, *texts_of(folder))
+        folder, top = pathlib.Path(crate.folder), pathlib.Path(crate.folder).parent.parent
+        line = crates_of(top)[crate.name].line
+        return summed(rt.kit_sum(), (top / "HANDLES").read_bytes(), line, *texts_of(folder))
 
     rt.STORE, rt.own_sum = str(place()), own_sum
     return rt
 
 
 def missing(top, is_laid=False):
-    """The proved libraries of a checkout that the archive lacks, or that use one of these. With `is_laid` the others are
-    put into their crates' out/."""
+    """The libraries of a checkout that the archive lacks, or that use one of these. With `is_laid` the others are put
+    into their crates' out/."""
     rt, proved, lacking = opened(), proved_crates(top), []
     crates = [it for it in rt.rtlib.crates_below(str(top)) if it.makes_rlib() and it.name in proved]
     kept = rt.Kept(crates)

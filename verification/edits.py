@@ -108,13 +108,13 @@ def drawn(names, edits, crates, seconds, missing, seed, most):
     return chosen, draw.sample(found, min(most[1], len(found)))
 
 
-def prove_and_try(names, edits=None, chosen=(), anew=(), programs=()):
+def prove_and_try(names, edits, chosen, anew=(), programs=()):
     """Proves these crates and takes these programs; tries the chosen edits, and records what was refused."""
     with copied(TOP, names, chosen) as copy:
         proofs = prove(copy, anew)
         for it in programs:
             take_program(copy, it)
-    if edits:
+    if chosen:
         edits.take(chosen, proofs.lines)
         edits.record(TOP)
     return proofs
@@ -130,7 +130,6 @@ def main():
     wanted = edits.digests if words.every else edits.unknown()
     chosen = [it for it in wanted if not words.names or it[0] in words.names]
     failures = prove_and_try(with_below(crates, {it[0] for it in chosen}), edits, chosen).failures if chosen else []
-    edits.record(TOP)
     print(*failures, *edits.failures, edits.told(), sep="\n")
     return 1 if failures or edits.failures else 0
 

@@ -32,6 +32,7 @@ def path():
     return pathlib.Path(os.path.realpath(shutil.which("rt")))
 
 
+@functools.lru_cache(maxsize=None)
 def load(*names):
     """The command `rt` as a module. Ends the program where it lacks one of these parts, which are named with dots."""
     loader = importlib.machinery.SourceFileLoader("rt_of_the_kit", str(path()))

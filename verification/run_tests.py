@@ -11,11 +11,10 @@ import tempfile
 import time
 
 import kit
-from quick import build_all, place, told
 from proofs import COUNT, LAST
+from quick import build_all, place, told
 from tree import TOP, crates_of, has_tests
 
-PARTS = ("rtlib.RUNNER", "drop_to_nobody")
 # The program that `make test` builds, apart from the one that `make demo` or `make prove` left.
 PROGRAM = TOP / "out" / "snapd"
 # How long the tests of one crate may take each, in seconds.
@@ -30,14 +29,14 @@ def programs(top):
 
 def tests(top):
     """The tests of crates, as they are to be built, the largest first."""
-    sources = {it: (top / "crates" / it / "src").rglob("*.rt") for it in crates_of(top) if has_tests(top / "crates" / it)}
-    by_size = sorted(sources, key=lambda it: -sum(path.stat().st_size for path in sources[it]))
-    return [(it, True, place(it, True)) for it in by_size]
+    homes = {it: top / "crates" / it for it in crates_of(top)}
+    sizes = {name: sum(it.stat().st_size for it in home.glob("src/**/*.rt")) for name, home in homes.items()}
+    return [(it, True, place(it, True)) for it in sorted(sizes, key=lambda it: -sizes[it]) if has_tests(homes[it])]
 
 
 def run_tests(rt, built):
-    """Runs a crate's tests as the kit does, outside the checkout and, if possible, as the user nobody. Returns what they
-    printed, and their status."""
+    """Runs a crate's tests as the kit does, outside the checkout and, if possible, as the user nobody: what they print,
+    and their status."""
     drop = rt.drop_to_nobody() or []
     with tempfile.TemporaryDirectory(prefix="snapd-tests-") as room:
         program, data = pathlib.Path(room, built.path.name), pathlib.Path(room, "data")
@@ -47,9 +46,9 @@ def run_tests(rt, built):
         if drop:
             os.chown(data, 65534, 65534)
         env = {"PATH": "/usr/local/bin:/usr/bin:/bin", "HOME": data, "TMPDIR": data, "LANG": "C.UTF-8"}
-        how = {"stdin": subprocess.DEVNULL, "stdout": subprocess.PIPE, "stderr": subprocess.STDOUT, "cwd": data, "env": env}
+        how = {"stdin": subprocess.DEVNULL, "stdout": subprocess.PIPE, "stderr": subprocess.STDOUT, "env": env}
         words = [*drop, rt.rtlib.RUNNER, "--seconds", str(LIMIT), program]
-        ran = subprocess.run(words, text=True, errors="replace", **how)
+        ran = subprocess.run(words, cwd=data, text=True, errors="replace", **how)
     return ran.stdout.rstrip("\n").split("\n"), ran.returncode
 
 
@@ -65,7 +64,7 @@ def judged(name, lines, status):
 def build_and_run(lanes):
     """Builds the program, those beside it and the crates' tests, each without proofs, runs the crates' tests, and the
     first job as `make demo` does."""
-    rt, began, passed, failures = kit.load(*PARTS), time.monotonic(), [], []
+    rt, began, passed, failures = kit.load("rtlib.RUNNER", "drop_to_nobody"), time.monotonic(), [], []
 
     def each(built):
         said, bad = told(built), [] if built.is_built else told(built).split("\n")
@@ -86,22 +85,12 @@ def build_and_run(lanes):
 
 def run_end_to_end(program):
     """Runs the end-to-end tests on a program."""
-    words = [sys.executable, str(TOP / "tests" / "run.py"), "--program", str(program)]
-    lines, began = [], time.monotonic()
+    words, lines = [sys.executable, TOP / "tests" / "run.py", "--program", program], []
     with subprocess.Popen(words, cwd=TOP, stdin=subprocess.DEVNULL, stdout=subprocess.PIPE, text=True) as run:
         for line in run.stdout:
             print(line, end="", flush=True)
             lines.append(line.rstrip())
     count = COUNT.fullmatch(lines[-1]) if lines else None
     passed, failed = (int(count[1]), int(count[2])) if count else (0, 1)
-    print(f"end-to-end tests: {passed} passed in {time.monotonic() - began:.0f} s", flush=True)
     failed = max(failed, 1) if run.returncode else failed
     return passed, failed, lines[-LAST:] if failed else []
-
-
-def told_in_all(*parts):
-    """Prints what failed of all parts, and their sum; returns the status."""
-    print(*(line for _, failed, lines in parts if failed for line in lines), sep="\n")
-    passed, failed = (sum(it[at] for it in parts) for at in (0, 1))
-    print(f"{passed} passed, {failed} failed")
-    return 1 if failed else 0

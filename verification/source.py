@@ -1,7 +1,7 @@
 """Finds the functions of a source and the definitions of a file, and what an edit replaces in it."""
 
 import re
-from dataclasses import dataclass
+from collections import namedtuple
 
 HEAD = re.compile(r"^(\s*)(?:pub(?:\([a-z]+\))? )?(?:const )?(?:unsafe )?fn (\w+)")
 IMPL = re.compile(r"^(?:pub )?(?:impl|trait)\b(.*)")
@@ -14,6 +14,8 @@ COMMENT = {
 DEFINED = re.compile(r"^( *)(?:(?:pub|abbrev|unfoldable|record|data|unfolding) )*([A-Za-z_◌][^\s:({]*)", re.M)
 DECLARED = re.compile(r"\b(?:struct|enum|trait|type|union|const|static) (\w+)")
 VARIANTS = re.compile(r"^    (\w+)[ ,({=]", re.M)
+# A function of a source file, by its first and last line, and the head of its impl.
+Function = namedtuple("Function", "path name first last of")
 
 
 def uncommented(text, kind):
@@ -32,17 +34,6 @@ def without_comments(path):
 def proved_text(path):
     """What a proof reads of a file: all but the lines that are comments."""
     return without_comments(path) if path.suffix in COMMENT else path.read_bytes()
-
-
-@dataclass(frozen=True)
-class Function:
-    """A function of a source file, by its first and last line, and the head of its impl."""
-
-    path: str
-    name: str
-    first: int
-    last: int
-    of: str
 
 
 def functions_in(text, path):
@@ -121,19 +112,6 @@ def replacements(edit):
         elif line.startswith("new:"):
             found.append((path, old, line.removeprefix("new:").removeprefix(" ")))
     return found
-
-
-def applies(folder, edit):
-    """Whether each text that an edit replaces is still in its crate, exactly once."""
-    texts = {}
-    for path, old, new in replacements(edit):
-        if path not in texts and not (folder / path).exists():
-            return False
-        text = texts.get(path) or (folder / path).read_text()
-        if text.count(old) != 1:
-            return False
-        texts[path] = text.replace(old, new)
-    return bool(texts)
 
 
 def function_of(folder, edit):

@@ -1,37 +1,50 @@
-"""The whole test: builds all without proofs and runs the tests, proves what isn't on record, and a sample of what is.
+"""The whole test, and with --prove the proof of all: `make test` and `make prove`.
 
     python3 verification/test.py [--all] [--fresh] [--seed N]
+    python3 verification/test.py --prove [--fresh] [NAME ..]
 
-proves the crates that proofs.lock doesn't have as they are, tries the edits that must-fail.lock doesn't have, and
-proves and tries a sample of the others, drawn anew in each run. With --all every crate is proved by this run, or was by
-an earlier one on this machine, both locks have to have everything, and the end-to-end tests run on the proved program,
-which is left at bin/snapd. With --fresh nothing is taken from this machine's archive. The last line,
-`N passed, M failed`, is the sum of all parts, and the status is 1 where something failed or didn't come to its count.
+The test builds all without proofs and runs the tests, proves the crates that proofs.lock doesn't have as they are,
+tries the edits that must-fail.lock doesn't have, and proves and tries a sample of the others, drawn anew in each run.
+With --all every crate is proved by this run, or was by an earlier one on this machine, both locks have to have
+everything, and the end-to-end tests run on the proved program, which is left at bin/snapd.
+
+With --prove every crate is proved so, the edits that aren't on record are tried, and the end-to-end tests run on the
+program. If every proof passed, proofs.lock records that, and README has its line. With names only these programs are
+proved, each in its crate's out/, where the benchmarks need them.
+
+With --fresh nothing is taken from this machine's archive. The last line, `N passed, M failed`, is the sum of all parts,
+and the status is 1 where something failed or didn't come to its count.
 """
 
 import argparse
 import random
+import re
 import sys
 from concurrent.futures import ThreadPoolExecutor
 
 import archive
+import edits as must_fail
 import kit
-from edits import LOCK, Edits, drawn, prove_and_try
+import record
+from edits import Edits, drawn, prove_and_try
+from quick import build_all
 from record import Record
-from run_tests import PROGRAM, build_and_run, run_end_to_end, told_in_all
-from tree import TOP, crates_of, proved_crates, with_below
+from run_tests import PROGRAM, build_and_run, programs, run_end_to_end
+from tree import TOP, crates_of, proved_crates, refuse_strange, with_below
 
 # The sample: how many crates, how many of their edits, and what the crates' proofs may take in all,
 # in seconds of a processor.
 SAMPLE = (3, 20, 600)
 # The free memory above which the tests of crates are built beside proofs.
 BOTH = 16_000_000_000
+# The line of README that says what is on record.
+LINE = re.compile(rf"^`{record.LOCK}: .*`$", re.M)
 
 
 def lacking(record, edits):
     """What the locks don't have as it is now."""
     said = [f"proofs.lock doesn't have {it} as it is: make prove writes it" for it in record.missing()]
-    return said + [f"{LOCK} doesn't have {edits.name(it)} as it is: make edits tries it" for it in edits.unknown()]
+    return said + [f"{must_fail.LOCK} doesn't have {edits.name(it)}: make edits tries it" for it in edits.unknown()]
 
 
 def prove_some(words):
@@ -52,17 +65,47 @@ def prove_some(words):
     return [(0, len(said), said), proofs.part(), edits.part()]
 
 
-def main():
-    words = argparse.ArgumentParser(description="Runs every test, proves what isn't on record and a sample of what is.")
-    words.add_argument("--all", action="store_true", help="prove every crate, by this run or an earlier one here")
-    words.add_argument("--fresh", action="store_true", help="take nothing from this machine's archive of proofs")
-    words.add_argument("--seed", type=int, default=random.SystemRandom().randrange(10**9), help="of the sample")
-    words = words.parse_args()
+def test(words):
+    """Builds and runs the tests of crates beside the proofs where memory allows, and then the end-to-end tests."""
     lanes = 2 if kit.load("free").free() > BOTH else 1
     with ThreadPoolExecutor(lanes) as pool:
         tests, proofs = pool.submit(build_and_run, 4 // lanes), pool.submit(prove_some, words)
-    program = TOP / "bin" / "snapd" if words.all else PROGRAM
-    return told_in_all(tests.result(), *proofs.result(), run_end_to_end(program))
+    return [tests.result(), *proofs.result(), run_end_to_end(TOP / "bin" / "snapd" if words.all else PROGRAM)]
+
+
+def prove(words):
+    """Proves everything, or these programs alone."""
+    names, anew, edits = words.names or ["snapd"], ["--anew"] * words.fresh, Edits.of(TOP)
+    if words.names:
+        return [prove_and_try(with_below(crates_of(TOP), names), edits, [], anew, names).part()]
+    proofs = prove_and_try(proved_crates(TOP), edits, edits.unknown(), anew, names)
+    parts = [proofs.part(), edits.part()]
+    if proofs.failed:
+        return parts
+    # Every crate is on record as it is now.
+    record, readme = Record.of(TOP), TOP / "README.md"
+    record.take(proofs.seconds)
+    record.write(TOP)
+    readme.write_text(LINE.sub(f"`{record.told()}`", readme.read_text()))
+    print(record.told(), edits.told(), sep="\n", flush=True)
+    build_all(programs(TOP), lambda it: None)
+    return [*parts, run_end_to_end(TOP / "bin" / "snapd")]
+
+
+def main():
+    words = argparse.ArgumentParser(description="Runs every test, proves what isn't on record and a sample of what is.")
+    words.add_argument("--prove", action="store_true", help="prove everything, and record it, in place of the test")
+    words.add_argument("--all", action="store_true", help="prove every crate, by this run or an earlier one here")
+    words.add_argument("--fresh", action="store_true", help="take nothing from this machine's archive of proofs")
+    words.add_argument("--seed", type=int, default=random.SystemRandom().randrange(10**9), help="of the sample")
+    words.add_argument("names", nargs="*", metavar="NAME", help="with --prove: programs that are proved alone")
+    words = words.parse_args()
+    refuse_strange(crates_of(TOP), words.names)
+    parts = prove(words) if words.prove else test(words)
+    print(*(line for _, failed, lines in parts if failed for line in lines), sep="\n")
+    passed, failed = (sum(it[at] for it in parts) for at in (0, 1))
+    print(f"{passed} passed, {failed} failed")
+    return 1 if failed else 0
 
 
 if __name__ == "__main__":

@@ -88,7 +88,8 @@ def copied(top, names, edits=()):
         shutil.copy(top / "HANDLES", copy)
         (copy / "crates.txt").write_text("".join(f"{it.line}\n" for it in crates.values() if it.name in names))
         for name in names:
-            shutil.copytree(top / "crates" / name, copy / "crates" / name, ignore=shutil.ignore_patterns("out", "*.edit"))
+            left = shutil.ignore_patterns("out", "*.edit")
+            shutil.copytree(top / "crates" / name, copy / "crates" / name, ignore=left)
         for name, path in edits:
             shutil.copy(path, copy / "crates" / name / "must-fail")
         yield copy
