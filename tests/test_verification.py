@@ -283,8 +283,9 @@ def test_a_copy_has_what_the_prover_reads_and_the_edits_that_are_tried(snapd, _)
 def ended(lines, status, names=("low", "middle", "high")):
     """What a run of the prover over these crates came to that has printed these lines."""
     proofs = Proofs(dict.fromkeys(names, 60), 2)
-    for it in lines:
-        proofs.take(f"{it}\n")
+    with contextlib.redirect_stdout(None):
+        for it in lines:
+            proofs.take(f"{it}\n")
     proofs.end(status)
     return proofs
 

@@ -19,7 +19,8 @@ from dataclasses import dataclass, field
 import kit
 from digests import Digests
 from proofs import UNKNOWN, prove
-from stamp import take_program
+from quick import place
+from stamp import put
 from tree import TOP, below, copied, crates_of, edits_of, refuse_strange, rows_of, with_below
 
 LOCK = "must-fail.lock"
@@ -113,7 +114,7 @@ def prove_and_try(names, edits, chosen, anew=(), programs=()):
     with copied(TOP, names, chosen) as copy:
         proofs = prove(copy, anew)
         for it in programs:
-            take_program(copy, it)
+            put(copy / "crates" / it / "out" / it, place(it), "proved")
     if chosen:
         edits.take(chosen, proofs.lines)
         edits.record(TOP)
