@@ -3,14 +3,12 @@
     python3 verification/archive.py
 
 A crate's proof is kept under the sum of all that it has read: the kit, HANDLES, the crate's line of crates.txt, its
-files without their comments, and the built libraries below it, byte for byte. It is used again only if the sums of what
-it left are still right. The archive is the folder $XDG_CACHE_HOME/snapd-proofs, or ~/.cache/snapd-proofs. A user with
-write access to it can forge a proof, so it is used only if it belongs to this user and no other user can write to it.
+files without their comments, and the built libraries below it. The archive is the folder $XDG_CACHE_HOME/snapd-proofs,
+or ~/.cache/snapd-proofs. Whoever can write to it can forge a proof, so it has to be this user's alone.
 
 `rt check` knows nothing of that, and in a fresh checkout it proves each library below its crate first. This script puts
 each library that was proved from these very files into its crate's out/, with the stamp by which `rt check` sees that
-nothing has changed since. Anything else there is removed, since statements fit only the libraries that they were built
-over. No gate reads an out/.
+nothing has changed since. Anything else there is removed: statements fit only the libraries that they were built over.
 """
 
 import contextlib

@@ -3,11 +3,10 @@ time.
 
     python3 verification/record.py
 
-prints how much of this checkout is in `proofs.lock` as it is now. `make prove` writes a line for each crate that was
-proved from nothing, by that run or by an earlier one on that machine. Its digest (SHA-256) is of all that the proof
+prints how much of this checkout is in `proofs.lock` as it is now. A line's digest (SHA-256) is of all that the proof
 rests on: each file of the crate's src/, specs/ and proofs/ without its comments, its line of crates.txt, HANDLES, the
-kit's logic, and the digests of the crates below. A line is only a claim of its author: anyone can check it by
-`make prove`, and `make test` checks a sample.
+kit's logic, and the digests of the crates below. It is only a claim of its author: anyone can check it by `make prove`,
+which writes the record, and `make test` checks a sample.
 """
 
 import datetime

@@ -1,4 +1,4 @@
-"""Finds the functions of a source and the definitions of a file, and what an edit replaces in it."""
+"""Finds the functions of a source and the definitions of a file, and where an edit lies in it."""
 
 import re
 from collections import namedtuple
@@ -101,31 +101,21 @@ def defined_in(paragraph):
     return {name for indent, name in DEFINED.findall(paragraph) if is_inside or not indent}
 
 
-def replacements(edit):
-    """What an edit replaces: the file, the old text and the new one, in order."""
-    path, old, found = "", "", []
-    for line in edit.read_text().split("\n"):
-        if line.startswith("file: "):
-            path = line.removeprefix("file: ").strip()
-        elif line.startswith("old: "):
-            old = line.removeprefix("old: ")
-        elif line.startswith("new:"):
-            found.append((path, old, line.removeprefix("new:").removeprefix(" ")))
-    return found
-
-
 def function_of(folder, edit):
     """The file that an edit changes, and the text of the function that it lies in, with the head of its impl; where it
     lies in several, or in none, the whole file's."""
-    path = replacements(edit)[0][0]
+    path, replaced = "", []
+    for word, rest in re.findall(r"^(file|old): (.*)$", edit.read_text(), re.M):
+        path = rest.strip() if word == "file" else path
+        replaced += [(path, rest)] if word == "old" else []
+    path = replaced[0][0]
     text, found = (folder / path).read_text(), set()
-    for where, old, _ in replacements(edit):
+    for where, old in replaced:
         line = text[: text.find(old)].count("\n") + 1 if where == path and old in text else 0
         around = [it for it in functions_in(text, path) if it.first < line <= it.last]
         found.add(max(around, key=lambda it: it.first, default=None))
-    whole = without_comments(folder / path)
     if len(found) != 1 or None in found:
-        return path, whole
+        return path, without_comments(folder / path)
     function = found.pop()
     lines = text.split("\n")[function.first - 1 : function.last]
     return path, function.of + "\n" + uncommented("\n".join(lines), ".rt")

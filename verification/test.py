@@ -3,14 +3,13 @@
     python3 verification/test.py [--all] [--fresh] [--seed N]
     python3 verification/test.py --prove [--fresh] [NAME ..]
 
-The test builds all without proofs and runs the tests, proves the crates that proofs.lock doesn't have as they are,
-tries the edits that must-fail.lock doesn't have, and proves and tries a sample of the others, drawn anew in each run.
-With --all every crate is proved by this run, or was by an earlier one on this machine, both locks have to have
-everything, and the end-to-end tests run on the proved program, which is left at bin/snapd.
+The test builds all without proofs and runs the tests, proves the crates and tries the edits that the locks don't have
+as they are, and a sample of the others, drawn anew in each run. With --all every crate is proved, by this run or by an
+earlier one on this machine, both locks have to have everything, and the end-to-end tests run on the proved program,
+which is left at bin/snapd.
 
-With --prove every crate is proved so, the edits that aren't on record are tried, and the end-to-end tests run on the
-program. If every proof passed, proofs.lock records that, and README has its line. With names only these programs are
-proved, each in its crate's out/, where the benchmarks need them.
+With --prove every crate is proved so, the edits that aren't on record are tried, and the end-to-end tests run. If every
+proof passed, proofs.lock records that, and README has its line. With names only these programs are proved.
 
 With --fresh nothing is taken from this machine's archive. The last line, `N passed, M failed`, is the sum of all parts,
 and the status is 1 where something failed or didn't come to its count.
@@ -23,28 +22,25 @@ import sys
 from concurrent.futures import ThreadPoolExecutor
 
 import archive
-import edits as must_fail
 import kit
-import record
 from edits import Edits, drawn, prove_and_try
 from quick import build_all
-from record import Record
+from record import LOCK, Record
 from run_tests import PROGRAM, build_and_run, programs, run_end_to_end
 from tree import TOP, crates_of, proved_crates, refuse_strange, with_below
 
-# The sample: how many crates, how many of their edits, and what the crates' proofs may take in all,
-# in seconds of a processor.
+# The sample: how many crates, how many of their edits, and the seconds of a processor that the crates' proofs may take.
 SAMPLE = (3, 20, 600)
 # The free memory above which the tests of crates are built beside proofs.
 BOTH = 16_000_000_000
 # The line of README that says what is on record.
-LINE = re.compile(rf"^`{record.LOCK}: .*`$", re.M)
+LINE = re.compile(rf"^`{LOCK}: .*`$", re.M)
 
 
 def lacking(record, edits):
     """What the locks don't have as it is now."""
-    said = [f"proofs.lock doesn't have {it} as it is: make prove writes it" for it in record.missing()]
-    return said + [f"{must_fail.LOCK} doesn't have {edits.name(it)}: make edits tries it" for it in edits.unknown()]
+    said = [f"{LOCK} doesn't have {it} as it is: make prove writes it" for it in record.missing()]
+    return said + [f"must-fail.lock doesn't have {edits.name(it)}: make edits tries it" for it in edits.unknown()]
 
 
 def prove_some(words):
