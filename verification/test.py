@@ -19,6 +19,7 @@ import argparse
 import random
 import re
 import sys
+from collections import Counter
 from concurrent.futures import ThreadPoolExecutor
 
 import archive
@@ -39,13 +40,14 @@ LINE = re.compile(rf"^`{LOCK}: .*`$", re.M)
 
 def lacking(record, edits):
     """What the locks don't have as it is now."""
-    said = [f"{LOCK} doesn't have {it} as it is: make prove writes it" for it in record.missing()]
-    return said + [f"must-fail.lock doesn't have {edits.name(it)}: make edits tries it" for it in edits.unknown()]
+    crates = [f"{LOCK} doesn't have {it} as it is: make prove writes it" for it in record.missing()]
+    unknown = map(edits.name, edits.unknown())
+    return crates + [f"must-fail.lock doesn't have {it} as it is: make edits tries it" for it in unknown]
 
 
 def prove_some(words):
-    """Proves what is to be proved, and tries edits; what came of each. A crate is proved from nothing before its edits
-    are tried; one of the sample of which none was drawn isn't taken from the archive."""
+    """Proves what is to be proved, and tries edits; what came of each. The kit proves a crate from nothing before it
+    tries two edits or more; one of the sample with fewer isn't taken from the archive."""
     record, edits, crates, proved = Record.of(TOP), Edits.of(TOP), crates_of(TOP), proved_crates(TOP)
     print(record.told(), edits.told(), sep="\n", flush=True)
     owed = with_below(crates, proved if words.all else record.missing())
@@ -54,8 +56,8 @@ def prove_some(words):
     seconds = {name: it.seconds for name, it in record.lines.items()}
     names, chosen = drawn(proved, edits.known(), crates, seconds, missing, words.seed, SAMPLE)
     print(f"sample: {', '.join(names) or 'no crate'}, with {len(chosen)} edits (seed {words.seed})", flush=True)
-    tried = {it[0] for it in chosen}
-    anew = ["--anew"] if words.fresh else [it for it in names if it not in tried]
+    tried = Counter(it[0] for it in chosen)
+    anew = ["--anew"] if words.fresh else [it for it in names if tried[it] < 2]
     owed |= with_below(crates, {*names, *(it[0] for it in new)})
     proofs = prove_and_try(owed, edits, [*new, *chosen], anew, ["snapd"] * words.all)
     return [(0, len(said), said), proofs.part(), edits.part()]
