@@ -1,4 +1,4 @@
-"""The imports of code, contracts and proofs name modules that are there: a second here saves a proof that ends at one."""
+"""The imports of code, contracts and proofs name modules that are there: a second here saves a proof of minutes."""
 
 import functools
 import pathlib
