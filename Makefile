@@ -6,18 +6,18 @@
 # The program without its proofs, as bin/snapd.
 demo:
 	@sh verification/needs.sh rt python3
-	@python3 verification/demo.py
+	@python3 verification/quick.py --demo
 
 build:
 	@sh verification/needs.sh rt python3
-	@python3 verification/demo.py --build
+	@python3 verification/quick.py
 
 # Every proof of the program, from nothing or from this machine's archive of such runs (with FRESH=1 from nothing), the
 # program by two compilers, the edits that must-fail.lock lacks, and the end-to-end tests on the proved program. It
 # writes proofs.lock.
 prove:
 	@sh verification/needs.sh rt python3 gcc
-	@python3 verification/prove.py $(if $(FRESH),--fresh)
+	@python3 verification/test.py --prove $(if $(FRESH),--fresh)
 
 # Every test; proofs and edits where the locks lack them, and a sample of the others.
 # With PROVE=all every crate is proved.
@@ -34,12 +34,12 @@ edits:
 # Lays the libraries that this machine has proved before where `rt check` looks, so that it begins at once in any crate.
 libraries:
 	@sh verification/needs.sh rt python3
-	@python3 verification/libraries.py
+	@python3 verification/archive.py
 
 # The program that the end-to-end tests run beside snapd, without its proofs, and these tests alone, on bin/snapd.
 programs:
 	@sh verification/needs.sh rt python3
-	@python3 verification/quick.py --level 0 try_parts
+	@python3 verification/quick.py try_parts
 
 tests: programs
 	python3 tests/run.py
@@ -47,7 +47,7 @@ tests: programs
 # What is timed has no checks in it, so it is proved.
 bench:
 	@sh verification/needs.sh rt python3 gcc
-	python3 verification/prove.py snapd try_parts
+	python3 verification/test.py --prove snapd try_parts
 	python3 bench/run.py
 	python3 bench/server.py
 	python3 bench/others.py

@@ -4,7 +4,6 @@ and what is read from the prover's output."""
 import contextlib
 import os
 import pathlib
-import shutil
 import subprocess
 import sys
 import types
@@ -13,17 +12,17 @@ TOP = pathlib.Path(__file__).resolve().parent.parent
 sys.path.insert(0, str(TOP / "verification"))
 
 import archive  # noqa: E402
-import demo  # noqa: E402
 import kit  # noqa: E402
+import quick  # noqa: E402
 import record  # noqa: E402
 import run_tests  # noqa: E402
 import stamp  # noqa: E402
 from digests import Digests  # noqa: E402
 from edits import Edits, Refusal, drawn, read_lock  # noqa: E402
-from proofs import Progress, by_seconds, judged  # noqa: E402
+from proofs import Proofs, by_seconds  # noqa: E402
 from record import Proved, Record  # noqa: E402
 from source import function_of, functions_in, uncommented  # noqa: E402
-from tree import copied, edits_of, laid, proved_crates  # noqa: E402
+from tree import copied, edits_of, proved_crates  # noqa: E402
 from waiting import PATIENCE  # noqa: E402
 
 BODY = """\
@@ -172,7 +171,7 @@ def test_the_lock_has_what_was_refused_as_it_stands_and_nothing_else(snapd, _):
         "rt: must-fail middle/first.edit: refused, as it must be (only because a proof file names what the edit took "
         "away)\nrt: must-fail high/first.edit: refused, as it must be (only by a limit of the prover)\n"
     )
-    edits.take([*names[:3], *names[4:]], said)
+    edits.take([*names[:3], *names[4:]], said.split("\n"))
     assert edits.refused == 2 and [it.split(":")[0] for it in edits.failures] == [
         "edit low/second.edit", "edit middle/first.edit", "edit high/second.edit",
     ]
@@ -243,7 +242,7 @@ def test_a_record_has_a_crate_as_long_as_nothing_under_its_proof_changes(snapd, 
 
 
 def test_a_build_without_proofs_ends_with_what_is_on_record(snapd, _):
-    first, second = demo.closing(Record({"low": "0", "high": "1"}, {"low": Proved("0", "kit-1", "2026-12-01", 5)}))
+    first, second = quick.closing(Record({"low": "0", "high": "1"}, {"low": Proved("0", "kit-1", "2026-12-01", 5)}))
     assert first == (
         "This build isn't proved here. "
         "proofs.lock: 1 of 2 crates were proved as they are here, by kit-1, 2026-12-01; not high"
@@ -268,80 +267,93 @@ let r = r#"a "quoted"
     assert uncommented("-- Said.\n" + kept + "  -- More.\n", ".antt") == kept
 
 
-def test_a_copy_has_what_the_prover_reads_and_no_edit(snapd, _):
+def test_a_copy_has_what_the_prover_reads_and_the_edits_that_are_tried(snapd, _):
     top = tree(snapd.folder)
     (top / "crates" / "low" / "out").mkdir()
-    with copied(top, ["low"]) as copy:
-        found = sorted(str(it.relative_to(copy)) for it in copy.rglob("*") if it.is_file())
-        assert found == sorted(["HANDLES", "crates.txt", *(f"crates/low/{it}" for it in FILES)])
-        laid(top, copy, ["high", "low"])
-        assert (copy / "crates.txt").read_text() == "low: byteorder\nhigh: middle\n"
-        assert (
-            (copy / "crates" / "high" / "src" / "lib.rt").exists()
-            and not (copy / "crates" / "high" / "must-fail").exists()
-        )
-    assert not copy.exists()
+    edit = next(it for it in edits_of(top, "low"))
+    for edits in ([], [("low", edit)]):
+        with copied(top, ["low"], edits) as copy:
+            found = sorted(str(it.relative_to(copy)) for it in copy.rglob("*") if it.is_file())
+            own = [*FILES, *(f"must-fail/{path.name}" for _, path in edits)]
+            assert found == sorted(["HANDLES", "crates.txt", *(f"crates/low/{it}" for it in own)])
+            assert (copy / "crates.txt").read_text() == "low: byteorder\n"
+        assert not copy.exists()
+
+
+def ended(lines, status, names=("low", "middle", "high")):
+    """What a run of the prover over these crates came to that has printed these lines."""
+    proofs = Proofs(dict.fromkeys(names, 60), 2)
+    with contextlib.redirect_stdout(None):
+        for it in lines:
+            proofs.take(f"{it}\n")
+    proofs.end(status)
+    return proofs
 
 
 def test_a_prover_that_fails_is_never_taken_for_one_that_passed(snapd, _):
-    passed = judged(["rt: low proved", "rt: ok; handles allowed: none", "3 passed, 0 failed"], 0)
-    assert (passed.passed, passed.failed, passed.failures) == (3, 0, [])
+    every = [f"rt: {it} proved" for it in LOWER]
+    assert ended([*every, "rt: ok; handles allowed: none", "3 passed, 0 failed"], 0).part() == (3, 0, [])
+    # An edit that isn't refused fails no proof.
+    told = ["rt: must-fail low/first.edit: NOT REFUSED: text", "rt: FAILED: low/first.edit", "3 passed, 1 failed"]
+    assert ended([*every, *told], 1).part() == (3, 0, [])
     for lines, status in (
-        (["3 passed, 0 failed"], 1), ([], 0), (["3 passed, 0 failed", "more"], 0), (["2 passed, 1 failed"], 0),
-        (["rt: no"], -9),
+        ([*every, "3 passed, 0 failed"], 1), ([], 0), ([*every, "3 passed, 0 failed", "more"], 0),
+        ([*every, "rt: FAILED: low", "2 passed, 1 failed"], 0), (["rt: no"], -9), ([*every, *told[:2]], 1),
+        ([*every, "rt: FAILED: low (run)", "3 passed, 1 failed"], 1),
+        ([*every, "rt: low NOT PROVED again, before its edits", "3 passed, 0 failed"], 0),
     ):
-        came = judged(lines, status)
+        came = ended(lines, status)
         assert came.failed and (came.failures or not lines), lines
-    assert judged(["rt: low NOT PROVED", "x", "2 passed, 1 failed"], 1).failures == ["rt: low NOT PROVED"]
+    came = ended(["rt: low NOT PROVED", "x", "rt: FAILED: low", "0 passed, 1 failed"], 1, ["low"])
+    assert came.part() == (0, 1, ["rt: low NOT PROVED", "rt: FAILED: low"])
 
 
 def test_each_proof_is_told_as_it_ends(snapd, _):
-    progress = Progress(["low", "middle", "high"], 2)
-    for line in (
-        "took low 12\n", "rt: low proved\n", "kept middle\n", "rt: middle proved\n", "took high 3\n",
-        "rt: high NOT PROVED\n", "rt: high: note\n",
-    ):
-        progress.take(line)
-    assert (progress.done, progress.kept, progress.seconds, progress.bad, progress.left) == (
-        3, {"middle"}, {"low": 12, "high": 3}, ["high"], {},
+    lines = (
+        "took low 12", "rt: low proved", "rt: middle is kept: an earlier run", "took high 3", "rt: high NOT PROVED",
+        "rt: high: note", "rt: FAILED: high", "2 passed, 1 failed",
     )
+    proofs = ended(lines, 1)
+    assert (proofs.kept, proofs.seconds, proofs.left) == (1, {"low": 12, "high": 3}, {})
+    assert proofs.part() == (2, 1, ["rt: high NOT PROVED", "rt: FAILED: high"])
 
 
 def test_a_proof_is_kept_as_long_as_all_that_it_read_is_the_same(snapd, _):
-    top, folder = tree(snapd.folder), snapd.folder / "archive"
-    folder.mkdir()
-    for name in LOWER:
-        built = top / "crates" / name / "out" / "rlib" / f"{name}.rlib" / "statements"
-        built.parent.mkdir(parents=True)
-        built.write_text(name)
+    top = tree(snapd.folder)
+    os.environ["XDG_CACHE_HOME"] = str(snapd.folder)
 
-    def taken(name="middle"):
-        """Whether the archive restores the crate's library after it was removed."""
-        built = top / "crates" / name / "out" / "rlib"
-        shutil.rmtree(built, ignore_errors=True)
-        is_taken = archive.Archive(top, folder).take(name)
-        assert (built / f"{name}.rlib" / "statements").exists() == is_taken
-        return is_taken
+    def built(name):
+        return top / "crates" / name / "out" / "rlib" / f"{name}.rlib"
 
-    assert not taken("high")
-    archive.Archive(top, folder).keep("middle")
-    assert taken() and taken()
-    for path in (
-        "crates/middle/src/lib.rt", "crates/middle/specs/Words.antt", "crates/low/out/rlib/low.rlib/statements",
-        "HANDLES", "crates.txt",
+    rt = archive.opened()
+    crates = rt.rtlib.crates_below(str(top))
+    kept = rt.Kept(crates)
+    for it in crates:
+        built(it.name).mkdir(parents=True)
+        (built(it.name) / "format").write_text(it.name)
+        kept.is_built(it)
+        if it.name != "high":
+            kept.keep(it, False, kept.key(it))
+    assert archive.missing(top) == ["high"] and (built("high") / "format").exists()
+    for path, lost in (
+        ("crates/middle/src/lib.rt", ["middle", "high"]), ("crates/middle/specs/Words.antt", ["middle", "high"]),
+        ("crates/low/src/lib.rt", list(LOWER)), ("HANDLES", list(LOWER)), ("crates.txt", ["middle", "high"]),
     ):
         file = top / path
         text = file.read_text()
         file.write_text(text.replace("middle: low", "middle: low bytes") if path == "crates.txt" else text + " ")
-        assert not taken(), path
+        assert archive.missing(top) == lost, path
         file.write_text(text)
-        assert taken(), path
     source = top / "crates" / "middle" / "src" / "lib.rt"
     source.write_text("// A comment more.\n" + source.read_text())
-    assert taken()
-    for kept in folder.rglob("statements"):
-        kept.write_text("another")
-    assert not taken()
+    # What is laid is what was kept, with a stamp, and nothing is left of the others.
+    (built("low") / "format").unlink()
+    assert archive.missing(top, is_laid=True) == ["high"]
+    assert (built("low") / "format").read_text() == "low" and not built("high").exists()
+    assert [it.is_built() for it in rt.rtlib.crates_below(str(top))] == [True, True, False]
+    for it in (snapd.folder / "snapd-proofs").glob("proof-low-*/0"):
+        it.write_text("another")
+    assert archive.missing(top, is_laid=True) == list(LOWER)
 
 
 def test_an_archive_that_others_can_write_to_is_refused(snapd, _):
@@ -420,19 +432,15 @@ def test_what_is_missing_is_told_in_one_line(snapd, _):
 
 
 def test_a_kit_that_lacks_a_part_is_told_apart(snapd, _):
-    assert (
-        kit.has(types.SimpleNamespace(a=types.SimpleNamespace(b=1)), "a.b")
-        and not kit.has(types.SimpleNamespace(), "a.b")
-    )
     run = subprocess.run(
         [sys.executable, "-c", "import kit; kit.load('main', 'no.such')"], cwd=TOP / "verification",
         capture_output=True, text=True, timeout=PATIENCE,
     )
-    assert run.returncode == 1 and "has no no.such" in run.stderr and "Traceback" not in run.stderr, run
+    assert run.returncode == 1 and "lacks what -c goes by: " in run.stderr and "Traceback" not in run.stderr, run
 
 
 def test_a_crate_that_is_not_there_is_told_by_its_name(snapd, _):
-    for program in ("quick", "prove", "edits"):
+    for program in ("quick", "test", "edits"):
         run = subprocess.run(
             [sys.executable, TOP / "verification" / f"{program}.py", "nowhere"], capture_output=True, text=True,
             timeout=PATIENCE,

@@ -12,10 +12,10 @@ below has one.
 import functools
 import hashlib
 import re
-from collections import defaultdict
-from dataclasses import dataclass
+from collections import defaultdict, namedtuple
 
-from source import applies, function_of, items_of, without_comments
+import kit
+from source import function_of, items_of, without_comments
 from tree import below, crates_of
 
 # The names that a file imports from a place, as a list or one by itself.
@@ -27,6 +27,8 @@ IMPORTS = re.compile(
 WORDS = re.compile(r"[^\s(){}\[\],;.:&|<>\"]+")
 CALLED = re.compile(r"(?:\.|::)(\w+)(?=\(|::)")
 HERE = ("crate", "super", "self")
+# A definition, a type, or a function's head with its clauses, in a file of a crate.
+Piece = namedtuple("Piece", "crate path text")
 
 
 def summed(*parts):
@@ -48,20 +50,11 @@ def words_of(text):
     return {part for it in WORDS.findall(text) for part in it.split("◌") if part}
 
 
-@dataclass(frozen=True)
-class Piece:
-    """A definition, a type, or a function's head with its clauses, in a file of a crate."""
-
-    crate: str
-    path: str
-    text: str
-
-
 class Digests:
     """The digests of a checkout's edits under one logic."""
 
     def __init__(self, top, logic):
-        self.top, self.logic, self.crates = top, logic, crates_of(top)
+        self.top, self.logic, self.crates, self.edited = top, logic, crates_of(top), kit.load("edited").edited
         self.below = {it: below(self.crates, it) for it in self.crates}
         # By crate and name; by file and name; and the names that each file imports, with their crates.
         self.named, self.in_file, self.imports, self.aliases = defaultdict(list), defaultdict(list), {}, {}
@@ -108,7 +101,7 @@ class Digests:
     def edit(self, crate, path):
         """The digest of an edit of a crate."""
         folder = self.top / "crates" / crate
-        if not applies(folder, path):
+        if not self.edited(path.read_text(), str(folder))[0]:
             return summed(self.logic, "gone", path.name, path.read_bytes())
         source, own = function_of(folder, path)
         # (a trait's method has the clauses of the trait's, too)

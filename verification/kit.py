@@ -3,6 +3,7 @@
 import functools
 import importlib.machinery
 import importlib.util
+import operator
 import os
 import pathlib
 import shutil
@@ -31,17 +32,14 @@ def path():
     return pathlib.Path(os.path.realpath(shutil.which("rt")))
 
 
+@functools.lru_cache(maxsize=None)
 def load(*names):
     """The command `rt` as a module. Ends the program where it lacks one of these parts, which are named with dots."""
     loader = importlib.machinery.SourceFileLoader("rt_of_the_kit", str(path()))
     rt = importlib.util.module_from_spec(importlib.util.spec_from_loader("rt_of_the_kit", loader))
     loader.exec_module(rt)
-    if missing := [it for it in names if not has(rt, it)]:
-        program = pathlib.Path(sys.argv[0]).name
-        sys.exit(f"{identity()} has no {', '.join(missing)}, by which {program} goes: look through it first")
+    try:
+        operator.attrgetter(*names)(rt)
+    except AttributeError as lack:
+        sys.exit(f"{identity()} lacks what {pathlib.Path(sys.argv[0]).name} goes by: {lack}: look through it first")
     return rt
-
-
-def has(rt, name):
-    missing = object()
-    return functools.reduce(lambda it, part: getattr(it, part, missing), name.split("."), rt) is not missing

@@ -1,108 +1,97 @@
-"""Proves crates by the kit's `rt ci`, from a copy of the checkout, and prints its progress.
+"""Proves the crates of a copy by the kit's `rt ci`, tries the edits that it has, and prints the progress.
 
-    python3 proofs.py ci [--anew]
+    python3 proofs.py [--anew] [NAME ..]
 
 is the kit's `rt ci` in this folder, except in four things: tests aren't proved; the crates are in the order of their
-recorded times, with the longest chain first; it prints how long each took; and it uses what this machine has proved
-before (archive.py), except with --anew.
+recorded times, with the longest chain first; it prints how long each took; and what was proved before is taken from our
+archive, but not these crates, with --anew none, and never what came of an edit.
 """
 
 import os
-import pathlib
 import re
 import subprocess
 import sys
 import time
-from dataclasses import dataclass, field
 
+import archive
 import kit
-from archive import Archive
 from record import read_lock
-from tree import TOP, crates_of
+from tree import LOGS, TOP, crates_of
 
-PARTS = ("in_lanes", "main", "Crate.ci", "rtlib.Crate.has_tests", "processors")
+PARTS = ("main", "in_lanes", "seeded", "Crate.ci", "rtlib.Crate.has_tests", "Kept.tried")
 COUNT = re.compile(r"(\d+) passed, (\d+) failed")
-SAID = re.compile(r"rt: (\w+) (proved|NOT PROVED)")
+TOLD = re.compile(r"rt: (\w+) (proved|NOT PROVED|is kept)")
 TOOK = re.compile(r"took (\w+) (\d+)")
-KEPT = re.compile(r"kept (\w+)")
+TRYING = re.compile(r"rt: (\w+: trying its must-fail edits.*)")
 # What a crate takes that the record doesn't have: by each of its lines, and where these aren't known.
 EACH_LINE, UNKNOWN = 0.12, 60
 # How many lines of a failed run are shown again.
 LAST = 12
 
 
-@dataclass
 class Proofs:
-    """What a run of the prover came to."""
+    """What a run of the prover came to, by its lines."""
 
-    passed: int = 0
-    failed: int = 0
-    kept: int = 0
-    # What each crate that this run proved took, in seconds.
-    seconds: dict = field(default_factory=dict)
-    took: float = 0
-    failures: list = field(default_factory=list)
+    def __init__(self, left, lanes):
+        """Begins with the seconds that each crate takes, and how many are proved side by side."""
+        self.left, self.lanes, self.all, self.began = left, lanes, len(left), time.monotonic()
+        # What each crate that this run proved took, in seconds, and how many were taken from the archive.
+        self.lines, self.seconds, self.kept, self.failed, self.failures = [], {}, 0, 0, []
+
+    def take(self, line):
+        """Takes a line, and tells each crate as its proof ends, with how long the others still take."""
+        self.lines.append(line.rstrip())
+        if trying := TRYING.match(line):
+            print(trying[1], flush=True)
+        if took := TOOK.match(line):
+            self.seconds[took[1]] = int(took[2])
+        if not (told := TOLD.match(line)):
+            return
+        name, came = told.groups()
+        self.left.pop(name, None)
+        self.kept += came == "is kept"
+        if came != "is kept":
+            what = f"{self.seconds.get(name, 0)} s" + (" NOT PROVED" if came == "NOT PROVED" else "")
+            minutes = max(1, round(sum(self.left.values()) / self.lanes / 60))
+            left = f", about {minutes} min left" if self.left else ""
+            print(f"[{self.all - len(self.left)} of {self.all}] {name} {what}{left}", flush=True)
+
+    def end(self, status):
+        """Takes how the run ended: one with no count, or with a status of failure that no line tells, has failed. (The
+        kit's last lines tell crates that failed, and edits, which Edits takes.)"""
+        told = [it for line in self.lines if line.startswith("rt: FAILED: ") for it in line.split()[2:]]
+        is_told = self.lines and COUNT.fullmatch(self.lines[-1]) and bool(told) == bool(status)
+        bad = {it[1] for it in map(TOLD.match, self.lines) if it and it[2] == "NOT PROVED"}
+        bad |= {it for it in told if "/" not in it and it != "(run)"}
+        self.failed = len(bad) if is_told else max(len(bad), 1)
+        if self.failed:
+            shown = [it for it in self.lines if re.search(r"NOT PROVED|FAILED|: error", it) and "must-fail" not in it]
+            self.failures = shown[-LAST:] or self.lines[-LAST:]
+
+    def part(self):
+        return max(0, self.all - len(self.left) - self.failed), self.failed, self.failures
 
     def told(self):
         kept = f"{self.kept} of them from this machine's archive of earlier runs"
-        return f"proofs: {self.passed} crates passed in {self.took:.0f} s, {kept}"
+        return f"proofs: {self.part()[0]} crates passed in {time.monotonic() - self.began:.0f} s, {kept}"
 
 
-class Progress:
-    """One line for each crate as its proof ends, with how long it still takes."""
-
-    def __init__(self, names, lanes):
-        lines = read_lock(TOP)
-        self.left, self.lanes = {it: (lines[it].seconds if it in lines else 0) or UNKNOWN for it in names}, lanes
-        self.all, self.done, self.kept, self.seconds, self.bad = len(names), 0, set(), {}, []
-
-    def take(self, line):
-        if took := TOOK.match(line):
-            self.seconds[took[1]] = int(took[2])
-        if kept := KEPT.match(line):
-            self.kept.add(kept[1])
-        said = SAID.match(line)
-        if not said:
-            return
-        name, came = said.groups()
-        self.done += 1
-        self.left.pop(name, None)
-        if came == "NOT PROVED":
-            self.bad.append(name)
-        if name not in self.kept:
-            minutes = max(1, round(sum(self.left.values()) / self.lanes / 60))
-            what = f"{self.seconds.get(name, 0)} s" + (" NOT PROVED" if came == "NOT PROVED" else "")
-            left = f", about {minutes} min left" if self.left else ""
-            print(f"[{self.done} of {self.all}] {name} {what}{left}", flush=True)
-
-
-def prove(copy, log, anew=False):
-    """Proves and builds all crates of this copy. The kit's own lines go into the log."""
-    words = [sys.executable, str(TOP / "verification" / "proofs.py"), "ci", *["--anew"] * anew]
-    began, lines, progress = time.monotonic(), [], Progress(list(crates_of(copy)), kit.load(*PARTS).processors())
-    log.parent.mkdir(parents=True, exist_ok=True)
+def prove(copy, anew=()):
+    """Proves and builds all crates of this copy, and tries its edits. The kit's own lines go into out/proofs.log."""
+    words, recorded = [sys.executable, str(TOP / "verification" / "proofs.py"), *anew], read_lock(TOP)
+    seconds = {it: recorded[it].seconds if it in recorded else 0 for it in crates_of(copy)}
+    proofs = Proofs({it: took or UNKNOWN for it, took in seconds.items()}, kit.load("processors").processors())
     how = {"cwd": copy, "stdin": subprocess.DEVNULL, "stdout": subprocess.PIPE, "stderr": subprocess.STDOUT}
-    with log.open("w") as kept, subprocess.Popen(words, text=True, errors="replace", **how) as run:
+    LOGS.mkdir(exist_ok=True)
+    with (LOGS / "proofs.log").open("w") as log, subprocess.Popen(words, text=True, errors="replace", **how) as run:
         for line in run.stdout:
-            kept.write(line)
-            kept.flush()
-            lines.append(line.rstrip())
-            progress.take(line)
-    came = judged(lines, run.returncode)
-    came.kept, came.seconds, came.took = len(progress.kept), progress.seconds, time.monotonic() - began
-    if came.failed:
-        came.failures.append(f"the whole log: {os.path.relpath(log)}")
-    return came
-
-
-def judged(lines, status):
-    """What a run came to, by its last line and status: one with no count, or with a status of failure, has failed."""
-    count = COUNT.fullmatch(lines[-1]) if lines else None
-    passed, failed = (int(count[1]), int(count[2])) if count else (0, 1)
-    came = Proofs(passed, max(failed, 1) if status else failed)
-    if came.failed:
-        came.failures = [it for it in lines if re.search(r"NOT PROVED|FAILED|: error", it)][-LAST:] or lines[-LAST:]
-    return came
+            print(line, end="", file=log, flush=True)
+            proofs.take(line)
+    proofs.end(run.returncode)
+    if proofs.failed:
+        proofs.failures.append(f"the whole log: {os.path.relpath(log.name)}")
+    print(proofs.told(), flush=True)
+    return proofs
 
 
 def by_seconds(tasks, seconds):
@@ -112,29 +101,28 @@ def by_seconds(tasks, seconds):
 
 
 def main():
-    rt, is_anew, archive = kit.load(*PARTS), "--anew" in sys.argv, Archive(pathlib.Path.cwd())
-    seconds, in_lanes, ci = {name: it.seconds for name, it in read_lock(TOP).items()}, rt.in_lanes, rt.Crate.ci
+    rt, anew, seconds = archive.opened(*PARTS), sys.argv[1:], {name: it.seconds for name, it in read_lock(TOP).items()}
+    in_lanes, ci, seeded, give = rt.in_lanes, rt.Crate.ci, rt.seeded, rt.Kept.give
 
-    def taken_or_proved(crate, flags, tests):
+    def timed(crate, flags, tests):
         began = time.monotonic()
-        if not is_anew and archive.take(crate.name):
-            sys.stdout.write(f"kept {crate.name}\n")
-            return 0
         status = ci(crate, flags, tests)
         # (as one piece: other threads print too)
         sys.stdout.write(f"took {crate.name} {time.monotonic() - began:.0f}\n")
-        if status == 0:
-            archive.keep(crate.name)
         return status
 
-    rt.Crate.ci = taken_or_proved
+    def begun(crate, flags, start=None):
+        """Proves a crate from nothing, over which its edits are tried."""
+        if not (room := seeded(crate, flags, start)):
+            sys.stdout.write(f"rt: {crate.name} NOT PROVED again, before its edits\n")
+        return room
+
+    rt.Crate.ci, rt.seeded = timed, begun
     rt.in_lanes = lambda tasks: in_lanes(by_seconds(tasks, seconds))
     rt.rtlib.Crate.has_tests = lambda crate: False
-    # (a kit that has an archive of its own isn't to take from it: it would leave ours without what it took)
-    status = rt.main(["ci", *["--anew"] * kit.has(rt, "Kept")])
-    archive.thin()
-    sys.stdout.flush()
-    return status
+    rt.Kept.give = lambda kept, crate, tests, key: crate.name not in anew and give(kept, crate, tests, key)
+    rt.Kept.tried = lambda kept, name: None
+    return rt.main(["ci", *["--anew"] * ("--anew" in anew)])
 
 
 if __name__ == "__main__":

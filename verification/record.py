@@ -3,37 +3,27 @@ time.
 
     python3 verification/record.py
 
-prints how much of this checkout is in `proofs.lock` as it is now. `make prove` writes a line for each crate that was
-proved from nothing, by that run or by an earlier one on that machine. Its digest (SHA-256) is of all that the proof
+prints how much of this checkout is in `proofs.lock` as it is now. A line's digest (SHA-256) is of all that the proof
 rests on: each file of the crate's src/, specs/ and proofs/ without its comments, its line of crates.txt, HANDLES, the
-kit's logic, and the digests of the crates below. A line is only a claim of its author: anyone can check it by
-`make prove`, and `make test` checks a sample.
+kit's logic, and the digests of the crates below. It is only a claim of its author: anyone can check it by `make prove`,
+which writes the record, and `make test` checks a sample.
 """
 
 import datetime
-import sys
+from collections import namedtuple
 from dataclasses import dataclass
 
 import kit
 from digests import summed
-from source import proved_text
-from tree import TOP, crates_of, files_of, proved_crates, rows_of
+from tree import TOP, crates_of, proved_crates, rows_of, texts_of
 
 LOCK = "proofs.lock"
 HEAD = """\
 # Each crate that was proved whole, from nothing: the digest of all that the proof rests on, the kit's release, the day,
 # and the seconds that it took one processor. `make prove` writes it.
 """
-
-
-@dataclass(frozen=True)
-class Proved:
-    """A line of the record."""
-
-    digest: str
-    release: str
-    day: str
-    seconds: int
+# A line of the record.
+Proved = namedtuple("Proved", "digest release day seconds")
 
 
 def digests_of(top, logic):
@@ -42,9 +32,8 @@ def digests_of(top, logic):
 
     def digest(name):
         if name not in found:
-            folder = top / "crates" / name
-            own = [part for it in files_of(folder) for part in (str(it.relative_to(folder)), proved_text(it))]
             below = [digest(it) for it in crates[name].uses if it in crates]
+            own = texts_of(top / "crates" / name)
             found[name] = summed(logic, handles, crates[name].line, str(len(below)), *below, *own)
         return found[name]
 
@@ -93,10 +82,9 @@ class Record:
             self.lines[name] = Proved(digest, kit.release(), day, took) if is_new else were[name]
 
     def write(self, top):
-        rows = [f"{name} {it.digest} {it.release} {it.day} {it.seconds}\n" for name, it in sorted(self.lines.items())]
+        rows = (" ".join(map(str, (name, *it))) + "\n" for name, it in sorted(self.lines.items()))
         (top / LOCK).write_text(HEAD + "".join(rows))
 
 
 if __name__ == "__main__":
     print(Record.of(TOP).told())
-    sys.exit(0)

@@ -1,7 +1,7 @@
-"""Finds the functions of a source and the definitions of a file, and what an edit replaces in it."""
+"""Finds the functions of a source and the definitions of a file, and where an edit lies in it."""
 
 import re
-from dataclasses import dataclass
+from collections import namedtuple
 
 HEAD = re.compile(r"^(\s*)(?:pub(?:\([a-z]+\))? )?(?:const )?(?:unsafe )?fn (\w+)")
 IMPL = re.compile(r"^(?:pub )?(?:impl|trait)\b(.*)")
@@ -14,6 +14,8 @@ COMMENT = {
 DEFINED = re.compile(r"^( *)(?:(?:pub|abbrev|unfoldable|record|data|unfolding) )*([A-Za-z_◌][^\s:({]*)", re.M)
 DECLARED = re.compile(r"\b(?:struct|enum|trait|type|union|const|static) (\w+)")
 VARIANTS = re.compile(r"^    (\w+)[ ,({=]", re.M)
+# A function of a source file, by its first and last line, and the head of its impl.
+Function = namedtuple("Function", "path name first last of")
 
 
 def uncommented(text, kind):
@@ -32,17 +34,6 @@ def without_comments(path):
 def proved_text(path):
     """What a proof reads of a file: all but the lines that are comments."""
     return without_comments(path) if path.suffix in COMMENT else path.read_bytes()
-
-
-@dataclass(frozen=True)
-class Function:
-    """A function of a source file, by its first and last line, and the head of its impl."""
-
-    path: str
-    name: str
-    first: int
-    last: int
-    of: str
 
 
 def functions_in(text, path):
@@ -110,44 +101,21 @@ def defined_in(paragraph):
     return {name for indent, name in DEFINED.findall(paragraph) if is_inside or not indent}
 
 
-def replacements(edit):
-    """What an edit replaces: the file, the old text and the new one, in order."""
-    path, old, found = "", "", []
-    for line in edit.read_text().split("\n"):
-        if line.startswith("file: "):
-            path = line.removeprefix("file: ").strip()
-        elif line.startswith("old: "):
-            old = line.removeprefix("old: ")
-        elif line.startswith("new:"):
-            found.append((path, old, line.removeprefix("new:").removeprefix(" ")))
-    return found
-
-
-def applies(folder, edit):
-    """Whether each text that an edit replaces is still in its crate, exactly once."""
-    texts = {}
-    for path, old, new in replacements(edit):
-        if path not in texts and not (folder / path).exists():
-            return False
-        text = texts.get(path) or (folder / path).read_text()
-        if text.count(old) != 1:
-            return False
-        texts[path] = text.replace(old, new)
-    return bool(texts)
-
-
 def function_of(folder, edit):
     """The file that an edit changes, and the text of the function that it lies in, with the head of its impl; where it
     lies in several, or in none, the whole file's."""
-    path = replacements(edit)[0][0]
+    path, replaced = "", []
+    for word, rest in re.findall(r"^(file|old): (.*)$", edit.read_text(), re.M):
+        path = rest.strip() if word == "file" else path
+        replaced += [(path, rest)] if word == "old" else []
+    path = replaced[0][0]
     text, found = (folder / path).read_text(), set()
-    for where, old, _ in replacements(edit):
+    for where, old in replaced:
         line = text[: text.find(old)].count("\n") + 1 if where == path and old in text else 0
         around = [it for it in functions_in(text, path) if it.first < line <= it.last]
         found.add(max(around, key=lambda it: it.first, default=None))
-    whole = without_comments(folder / path)
     if len(found) != 1 or None in found:
-        return path, whole
+        return path, without_comments(folder / path)
     function = found.pop()
     lines = text.split("\n")[function.first - 1 : function.last]
     return path, function.of + "\n" + uncommented("\n".join(lines), ".rt")

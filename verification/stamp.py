@@ -15,10 +15,8 @@ UNKNOWN, ROOM = b"it isn't known how this was built", 100
 
 def commit():
     """The checkout's commit, with a plus where it has changes; where it is no checkout of git, none."""
-    asked = {"cwd": TOP, "capture_output": True, "text": True}
-    head = subprocess.run(["git", "rev-parse", "--short=12", "HEAD"], **asked)
-    changes = subprocess.run(["git", "status", "--porcelain", "--untracked-files=no"], **asked)
-    return head.stdout.strip() + "+" * bool(changes.stdout) if head.returncode == 0 else "no commit"
+    words = ["git", "describe", "--always", "--abbrev=12", "--dirty=+", "--exclude=*"]
+    return subprocess.run(words, cwd=TOP, capture_output=True, text=True).stdout.strip() or "no commit"
 
 
 def stamp(program, state):
@@ -28,14 +26,11 @@ def stamp(program, state):
     program.write_bytes(data.replace(UNKNOWN.ljust(ROOM), line.ljust(ROOM)))
 
 
-def take_program(copy, name):
-    """Takes a program that was proved and built in a copy: `snapd` to bin/, others to their crate's out/.
-    Never the one of an earlier run."""
-    built = copy / "crates" / name / "out" / name
-    to = TOP / "bin" / name if name == "snapd" else TOP / "crates" / name / "out" / name
+def put(built, to, state):
+    """Puts what was built, if it was, in the place of an earlier one, and stamps the program."""
     to.unlink(missing_ok=True)
     if built.is_file():
         to.parent.mkdir(parents=True, exist_ok=True)
         shutil.copy(built, to)
-        if name == "snapd":
-            stamp(to, "proved")
+        if to.name == "snapd":
+            stamp(to, state)

@@ -6,24 +6,17 @@ import re
 import shutil
 import sys
 import tempfile
-from dataclasses import dataclass
+from collections import namedtuple
+
+from source import proved_text
 
 TOP = pathlib.Path(__file__).resolve().parent.parent
 LOGS = TOP / "out"
 # What the prover reads of a crate.
 PARTS = ("src", "specs", "proofs")
-# What isn't copied of a crate: the output of an earlier run, and the edits, which are tried separately.
-LEFT = shutil.ignore_patterns("out", "must-fail")
 TEST = re.compile(r"^\s*#\[test\]", re.M)
-
-
-@dataclass(frozen=True)
-class Crate:
-    """A line of crates.txt: the crate's name with the words that belong to it, and what it uses."""
-
-    name: str
-    line: str
-    uses: tuple
+# A line of crates.txt: the crate's name with the words that belong to it, and what it uses.
+Crate = namedtuple("Crate", "name line uses")
 
 
 def crates_of(top):
@@ -62,17 +55,14 @@ def with_below(crates, names):
     return {it for name in names for it in [*below(crates, name), name]}
 
 
-def files_of(folder):
-    """The files of a crate that the prover reads, in a fixed order."""
-    return sorted(it for part in PARTS for it in (folder / part).rglob("*") if it.is_file())
+def texts_of(folder):
+    """What the prover reads of a crate: each file's name and its text without comments, in a fixed order."""
+    files = sorted(it for part in PARTS for it in (folder / part).rglob("*") if it.is_file())
+    return [part for it in files for part in (str(it.relative_to(folder)), proved_text(it))]
 
 
 def has_tests(folder):
     return any(TEST.search(it.read_text()) for it in (folder / "src").rglob("*.rt"))
-
-
-def is_program(top, name):
-    return (top / "crates" / name / "src" / "main.rt").exists()
 
 
 def proved_crates(top):
@@ -88,23 +78,18 @@ def edits_of(top, name):
     return sorted((top / "crates" / name / "must-fail").glob("*.edit"))
 
 
-def laid(top, copy, names):
-    """Adds these crates to a copy, without their edits, beside those that it has."""
-    crates = crates_of(top)
-    there = {it.name for it in (copy / "crates").iterdir()}
-    for name in set(names) - there:
-        shutil.copytree(top / "crates" / name, copy / "crates" / name, ignore=LEFT)
-    (copy / "crates.txt").write_text("".join(f"{crates[it].line}\n" for it in crates if it in there | set(names)))
-
-
 @contextlib.contextmanager
-def copied(top, names):
-    """A copy of these crates, without their edits, in a temporary folder."""
+def copied(top, names, edits=()):
+    """A copy of these crates in a temporary folder, of their edits only with these, pairs of crate and path."""
     with tempfile.TemporaryDirectory(prefix="snapd-proofs-") as room:
-        copy = pathlib.Path(room) / "main"
+        copy, crates = pathlib.Path(room) / "main", crates_of(top)
         # The prover takes a folder with a .git for the top of a repository.
-        for it in (".git", "crates"):
-            (copy / it).mkdir(parents=True)
+        (copy / ".git").mkdir(parents=True)
         shutil.copy(top / "HANDLES", copy)
-        laid(top, copy, names)
+        (copy / "crates.txt").write_text("".join(f"{it.line}\n" for it in crates.values() if it.name in names))
+        for name in names:
+            left = shutil.ignore_patterns("out", "*.edit")
+            shutil.copytree(top / "crates" / name, copy / "crates" / name, ignore=left)
+        for name, path in edits:
+            shutil.copy(path, copy / "crates" / name / "must-fail")
         yield copy
