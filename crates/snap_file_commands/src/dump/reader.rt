@@ -1,11 +1,11 @@
 //! Reads dumps.
 ghost use Rattle.std.specs.Prelude.{◌≡◌, ◌↔◌, IfOk, IsTrue, string_bytes};
-ghost use Rattle.snap_dump.specs.Document.{AreServable, dump_text};
+ghost use Rattle.snap_file_commands.specs.Document.{AreServable, dump_text};
 
-use crate::fault::{DumpFault, fault_of};
-use crate::parse::parse;
-use crate::text::document;
-use snap_frame::SegmentValue;
+use crate::dump::fault::{DumpFault, fault_of};
+use crate::dump::parse::parse;
+use crate::dump::text::document;
+use snap_scan::SegmentValue;
 use std::alloc::{AllocError, Global};
 
 /// The contents of a dump.

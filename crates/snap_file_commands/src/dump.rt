@@ -3,7 +3,6 @@
 //! [`document`] writes a dump. [`read`] accepts exactly what `document` writes, to the byte, so it
 //! refuses a document that was cut off or changed in one byte. `specs/Document.antt` has its text.
 //! No file and no server is used here.
-#![tactic(auto)]
 
 mod fault;
 mod parse;

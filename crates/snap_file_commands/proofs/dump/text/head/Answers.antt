@@ -1,8 +1,8 @@
 use Rattle.std.proofs.Common.{◌≡◌, ◌++◌, ◌∙◌, List, [], ℕ, ap, ap₂}
 use Rattle.json.specs.Print.{print}
 use Rattle.snap_json.proofs.Growth.{wrote}
-use Rattle.snap_dump.specs.Document.{head_tokens}
-use Rattle.snap_dump.proofs.text.head.Goals as goal
+use Rattle.snap_file_commands.specs.Document.{head_tokens}
+use Rattle.snap_file_commands.proofs.dump.text.head.Goals as goal
 
 pub returns : goal.returns
 returns c =

@@ -8,25 +8,17 @@ use Rattle.json.specs.Token.{Token, begin_array, begin_object, end_array, end_ob
 use Rattle.sha2.specs.Sha256.{sha256}
 use Rattle.snap_history.specs.declared.limits.TheConstants.{MAX_COUNT}
 use Rattle.snap_history.specs.Limits.{IsNumber, IsShort}
-use Rattle.snap_frame.specs.segment_value.SegmentValue.{SegmentValue}
+use Rattle.snap_scan.specs.declared.segment_value.SegmentValue.{SegmentValue}
 use Rattle.snap_json.specs.Documents.{line_of, value_tokens}
 use Rattle.snap_json.specs.Each.{each_from}
 
--- the format's name and version
-abbrev pub format_tokens : List Token
-format_tokens = key (codes "format") ∷ string (codes "snapd dump") ∷ key (codes "version") ∷ number (decimal 1) ∷ []
-
--- the time at which the values were current
-abbrev pub time_tokens : List ℕ → List Token
-time_tokens time = key (codes "time") ∷ string time ∷ []
-
--- the number of segments, and the beginning of their list
-abbrev pub count_tokens : ℕ → List Token
-count_tokens count = key (codes "count") ∷ number (decimal count) ∷ key (codes "segments") ∷ begin_array ∷ []
-
--- the first line
+-- the first line: the format's name and version, the time at which the values were current, the number of segments, and
+-- the beginning of their list
 abbrev pub head_tokens : (time : List ℕ) → (count : ℕ) → List Token
-head_tokens time count = begin_object ∷ (format_tokens ++ (time_tokens time ++ count_tokens count))
+head_tokens time count =
+    begin_object ∷ key (codes "format") ∷ string (codes "snapd dump") ∷ key (codes "version") ∷ number (decimal 1)
+    ∷ key (codes "time") ∷ string time ∷ key (codes "count") ∷ number (decimal count) ∷ key (codes "segments")
+    ∷ begin_array ∷ []
 
 -- the comma that ends the line before segment i's, if that is a segment's too
 abbrev pub comma_before : ℕ → List ℕ

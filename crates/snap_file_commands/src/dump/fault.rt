@@ -32,7 +32,7 @@ pub enum DumpFault {
 
 impl From<AllocError> for DumpFault {
     ghost use Rattle.std.specs.Prelude.{◌≡◌};
-    ghost use Rattle.snap_dump.specs.declared.fault.DumpFault.TheVariants.{NoMemory};
+    ghost use Rattle.snap_file_commands.specs.declared.dump.fault.DumpFault.TheVariants.{NoMemory};
 
     ghost from_gives = { λ _ fault. fault ≡ NoMemory };
 

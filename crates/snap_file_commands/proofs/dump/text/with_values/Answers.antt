@@ -1,7 +1,7 @@
 use Rattle.std.proofs.Common.{◌≡◌, rules}
 use Rattle.snap_json.proofs.Growth.{each_next}
-use Rattle.snap_dump.specs.Document.{row}
-use Rattle.snap_dump.proofs.text.with_values.Goals as goal
+use Rattle.snap_file_commands.specs.Document.{row}
+use Rattle.snap_file_commands.proofs.dump.text.with_values.Goals as goal
 
 pub loop-index-preserved : goal.loop-index-preserved
 loop-index-preserved c =

@@ -2,13 +2,13 @@
 ghost use Rattle.std.specs.Prelude.{◌≡◌, ◌++◌, ◌∷◌, [], IfOk, OnOk};
 ghost use Rattle.json.specs.Print.{print};
 ghost use Rattle.snap_json.specs.Each.{each_from};
-ghost use Rattle.snap_dump.specs.Document.{comma_before, count_tokens, dump_text, format_tokens};
-ghost use Rattle.snap_dump.specs.Document.{head_tokens, last_line, row, time_tokens};
+ghost use Rattle.snap_file_commands.specs.Document.{comma_before, dump_text};
+ghost use Rattle.snap_file_commands.specs.Document.{head_tokens, last_line, row};
 
 use json::Writer;
 use sha2::{Digest, Sha256};
-use snap_frame::SegmentValue;
 use snap_json::append_value;
+use snap_scan::SegmentValue;
 use std::alloc::{AllocError, Global};
 
 /// The version that is written.
@@ -30,43 +30,17 @@ fn head(alloc: Global, time: &str, count: usize) -> Result<Vec<u8>, AllocError>
 {
     let mut writer = Writer::new(Vec::new(alloc));
     writer.begin_object()?;
-    put_format(&mut writer)?;
-    put_time(&mut writer, time)?;
-    put_count(&mut writer, count)?;
-    Ok(writer.into_inner())
-}
-
-/// Writes the name and version of the format.
-fn put_format(writer: &mut Writer) -> Result<(), AllocError>
-    ensures tokens { OnOk result (writer.new.tokens ≡ writer.old.tokens ++ format_tokens) }
-    ensures before { writer.new.before ≡ writer.old.before }
-{
     writer.key("format")?;
     writer.string("snapd dump")?;
     writer.key("version")?;
-    writer.u64(VERSION)
-}
-
-/// Writes the time.
-fn put_time(writer: &mut Writer, time: &str) -> Result<(), AllocError>
-    ensures tokens { OnOk result (writer.new.tokens
-        ≡ writer.old.tokens ++ time_tokens time.now) }
-    ensures before { writer.new.before ≡ writer.old.before }
-{
+    writer.u64(VERSION)?;
     writer.key("time")?;
-    writer.string(time)
-}
-
-/// Writes the count, and begins the list of segments.
-fn put_count(writer: &mut Writer, count: usize) -> Result<(), AllocError>
-    ensures tokens { OnOk result (writer.new.tokens
-        ≡ writer.old.tokens ++ count_tokens count) }
-    ensures before { writer.new.before ≡ writer.old.before }
-{
+    writer.string(time)?;
     writer.key("count")?;
     writer.u64(count as u64)?;
     writer.key("segments")?;
-    writer.begin_array()
+    writer.begin_array()?;
+    Ok(writer.into_inner())
 }
 
 /// Appends a line for each segment, and the line feed of the last one.
