@@ -4,7 +4,6 @@ pub mod Operands
 pub mod Crashes
 pub mod Values
 pub mod Plays
-pub mod Lines
 pub mod Steps
 pub mod Halts
 pub mod Runs
