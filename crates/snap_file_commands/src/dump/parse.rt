@@ -108,8 +108,8 @@ fn number_after(reader: &mut Reader<'_>, name: &str) -> Option<u64> {
 
 /// The token after the next key of this name.
 fn after_key<'a>(reader: &mut Reader<'a>, name: &str) -> Option<Token<'a>> {
-    while let Some(token) = reader.next() {
-        match token {
+    for _ in 0..u64::MAX {
+        match reader.next()? {
             Token::Key(key) if key == name => return reader.next(),
             _ => {}
         }
