@@ -2,7 +2,6 @@ pub mod Zip
 pub mod Parts
 pub mod Operands
 pub mod Crashes
-pub mod Values
 pub mod Plays
 pub mod Steps
 pub mod Halts
