@@ -1,5 +1,5 @@
 //! Sends the request of a call and prints the reply.
-ghost use Rattle.std.specs.Prelude.{◌≡◌, ◌^◌, ◌<◌, ◌≤◌, ℕ, List, IfSome, MatchOption, if◌then◌else◌, length};
+ghost use Rattle.std.specs.Prelude.{◌≡◌, ◌^◌, ◌<◌, ◌≤◌, ℕ, List, IfSome, MatchOption, length};
 ghost use Rattle.snap_client.specs.Again.{TriesIn};
 ghost use Rattle.snap_frame.specs.Messages.{IsAskable, max_payload, payload};
 ghost use Rattle.snap_order.specs.Limits.{MAX_COUNT, MAX_TRIES};
@@ -253,19 +253,14 @@ fn status_of(question: &CallRequest, reply: &Reply) -> Status
     ensures { result ≡ answer_status question.now reply.now }
 {
     match (question, reply) {
-        (CallRequest::Health, Reply::Status(statuses)) => fence_status(is_any_fenced(statuses)),
+        (CallRequest::Health, Reply::Status(statuses)) => {
+            if is_any_fenced(statuses) {
+                Status::Refused
+            } else {
+                Status::Done
+            }
+        }
         _ => Status::Done,
-    }
-}
-
-/// The status of a health call.
-fn fence_status(is_fenced: bool) -> Status
-    ensures { result ≡ if is_fenced then status.Refused else status.Done }
-{
-    if is_fenced {
-        Status::Refused
-    } else {
-        Status::Done
     }
 }
 
