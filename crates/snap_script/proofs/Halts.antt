@@ -1,9 +1,9 @@
 -- The bytes that were taken, with the next one, and how a script ends at it.
-use Rattle.std.proofs.Common.{◌≡◌, ◌≢◌, ℕ, ◌+◌, ◌<◌, ◌≤◌, inl, Option, List, [], ◌∷◌, ◌++◌}
+use Rattle.std.proofs.Common.{◌≡◌, ◌≢◌, ℕ, ◌<◌, ◌≤◌, inl, Option, List, [], ◌∷◌, ◌++◌}
 use Rattle.std.proofs.Common.{length, refl, sym, ap, ◌∙◌, append_assoc, append-nil, length-append, arith}
 use Rattle.std.proofs.lemmas.List.Elements.{All-push}
 use Rattle.snap_script.proofs.Steps.{prints}
-use Rattle.snap_script.specs.LineBuffer.{HasDone, HasTaken, Halts}
+use Rattle.snap_script.specs.LineBuffer.{HasDone, HasTaken}
 use Rattle.snap_script.specs.Script.{ended, Ends, IsAt}
 use Rattle.snap_script.specs.declared.line_buffer.LineBuffer.{LineBuffer}
 use Rattle.snap_script.specs.declared.run.ScriptEnd.TheVariants.{TooLong, NoMemory}

@@ -1,6 +1,6 @@
 -- A script from its first read to its end.
-use Rattle.std.proofs.Common.{◌≡◌, ℕ, inr, Option, List, [], ◌++◌, refl, ap, ◌∙◌, append-nil, arith}
-use Rattle.std.specs.Io.KnownBytes.{Consumes, IsAtEnd, Keeps}
+use Rattle.std.proofs.Common.{◌≡◌, ℕ, inr, Option, List, [], ◌++◌, refl, append-nil, arith}
+use Rattle.std.specs.Io.KnownBytes.{Consumes, Keeps}
 use Rattle.std.proofs.KnownBytes.{Appends-nil, Consumes-kept, Consumes-nil, Consumes-trans}
 use Rattle.std.specs.declared.io.Error.{Error}
 use Rattle.snap_script.proofs.Halts.{at_line}
