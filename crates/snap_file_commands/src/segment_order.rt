@@ -60,13 +60,12 @@ pub fn order_files(alloc: Global, places: &[SegmentPlace]) -> Result<Vec<usize>,
     let mut order = Vec::with_capacity(alloc, places.len())?;
     let mut missing = None;
     for index in 0..count {
-        match file_of(places, index) {
-            Some(file) => {
-                if order.push(file).is_err() {
-                    return Err(FolderFault::NoMemory);
-                }
-            }
-            None => missing = missing.or(Some(index)),
+        let Some(file) = file_of(places, index) else {
+            missing = missing.or(Some(index));
+            continue;
+        };
+        if order.push(file).is_err() {
+            return Err(FolderFault::NoMemory);
         }
     }
     if order.len() != places.len() {
