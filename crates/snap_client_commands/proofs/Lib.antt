@@ -1,3 +1,2 @@
 pub mod InPlace
 pub mod Tried
-pub mod WatchSets

@@ -17,9 +17,8 @@ use Rattle.snap_order.specs.declared.order.CallRequest.TheVariants as question
 use Rattle.snap_order.specs.declared.order.Source.{Source}
 use Rattle.snap_order.specs.declared.order.Source.TheVariants as source
 use Rattle.snap_order.specs.declared.status.Exit.{Exit}
-use Rattle.snap_stream.specs.Streams.{Had, refused_line}
-use Rattle.snap_stream.specs.refusal.Refusal.TheVariants as refusal
-use Rattle.snap_client_commands.specs.Ends.{Asks, EndsAsked, GivesUp, IsRefused, SaysRefused, WantsMemory}
+use Rattle.snap_stream.specs.Streams.{Had}
+use Rattle.snap_client_commands.specs.Ends.{Asks, EndsAsked, HasFailed, IsRefused}
 use Rattle.snap_client_commands.specs.declared.put.NoValue.{NoValue}
 use Rattle.snap_client_commands.specs.declared.put.NoValue.TheVariants.{TooLong, Failed, NoMemory}
 
@@ -42,10 +41,9 @@ MayLack s known (Failed error) = s ≡ source.Input
 MayLack s known NoMemory = Unit {0}
 
 -- how the call ends for this reason
-abbrev pub SaysLack : NoValue → Exit → (errs errs' : Option (List ℕ)) → Type 0
-SaysLack TooLong ended errs errs' = SaysRefused (refused_line refusal.TooLong) ended errs errs'
-SaysLack (Failed error) ended errs errs' = GivesUp ended errs errs'
-SaysLack NoMemory ended errs errs' = WantsMemory ended errs errs'
+abbrev pub EndsLacking : NoValue → Exit → Type 0
+EndsLacking (Failed error) ended = HasFailed ended
+EndsLacking lack ended = IsRefused ended
 
 -- the status has this number of the segment
 abbrev pub TellsNumber : List SegmentStatus → (segment number : ℕ) → Type 0
@@ -57,46 +55,46 @@ TellsNumber statuses i k =
 -- call.
 abbrev pub GoesOn : {F R C : Type 0} → (tries : Option ℕ) → (F → Option (R × C) → F → Type 0)
     → (R → Option (List ℕ)) → (C → Option (List ℕ)) → (segment : ℕ) → (v : List ℕ)
-    → Result Reply ClientFault → F → Exit → F → (out out' errs errs' : Option (List ℕ)) → Type 0
+    → Result Reply ClientFault → F → Exit → F → (out out' : Option (List ℕ)) → Type 0
 GoesOn tries connects remaining contents i v (Ok (reply.Status statuses)) mid ended new
-    out out' errs errs' =
+    out out' =
     ((k : ℕ) × TellsNumber statuses.items i k × Asks Lines tries connects remaining contents
-    (question.Request (Update i (k + 1) v)) mid ended new out out' errs errs')
-    ⊎ ((length statuses.items ≤ i) × (new ≡ mid) × IsRefused ended errs errs' × Keeps out out')
-GoesOn tries connects remaining contents i v told mid ended new out out' errs errs' =
-    (new ≡ mid) × EndsAsked Lines (question.Request Status) told ended out out' errs errs'
+    (question.Request (Update i (k + 1) v)) mid ended new out out')
+    ⊎ ((length statuses.items ≤ i) × (new ≡ mid) × IsRefused ended × Keeps out out')
+GoesOn tries connects remaining contents i v told mid ended new out out' =
+    (new ≡ mid) × EndsAsked Lines (question.Request Status) told ended out out'
 
 -- the value is stored after the number that is given, or after the one that the server returns in
 -- this call
 abbrev pub Stores : {F R C : Type 0} → (tries : Option ℕ) → (F → Option (R × C) → F → Type 0)
     → (R → Option (List ℕ)) → (C → Option (List ℕ)) → (after : Option ℕ) → (segment : ℕ)
-    → (v : List ℕ) → F → Exit → F → (out out' errs errs' : Option (List ℕ)) → Type 0
-Stores tries connects remaining contents (Some k) i v old ended new out out' errs errs' =
+    → (v : List ℕ) → F → Exit → F → (out out' : Option (List ℕ)) → Type 0
+Stores tries connects remaining contents (Some k) i v old ended new out out' =
     Asks Lines tries connects remaining contents (question.Request (Update i (k + 1) v)) old ended new
-    out out' errs errs'
-Stores {F} tries connects remaining contents None i v old ended new out out' errs errs' =
+    out out'
+Stores {F} tries connects remaining contents None i v old ended new out out' =
     (told : Result Reply ClientFault) × (mid : F)
     × TriesIn tries connects remaining contents Status old told mid
-    × GoesOn tries connects remaining contents i v told mid ended new out out' errs errs'
+    × GoesOn tries connects remaining contents i v told mid ended new out out'
 
 -- How a put runs and ends, if standard input has the `known` bytes. Without a value no connection is made.
 abbrev pub Puts : {F R C : Type 0} → (tries : Option ℕ) → (F → Option (R × C) → F → Type 0)
     → (R → Option (List ℕ)) → (C → Option (List ℕ)) → PutOptions → (known : Option (List ℕ))
-    → F → Exit → F → (out out' errs errs' : Option (List ℕ)) → Type 0
-Puts tries connects remaining contents p known old ended new out out' errs errs' =
-    ((lack : NoValue) × MayLack p.value known lack × SaysLack lack ended errs errs' × (new ≡ old) × Keeps out out')
+    → F → Exit → F → (out out' : Option (List ℕ)) → Type 0
+Puts tries connects remaining contents p known old ended new out out' =
+    ((lack : NoValue) × MayLack p.value known lack × EndsLacking lack ended × (new ≡ old) × Keeps out out')
     ⊎ ((v : List ℕ) × HasValue p.value known v × Stores tries connects remaining contents p.after
-    p.segment v old ended new out out' errs errs')
+    p.segment v old ended new out out')
 
 -- how a call with this request and output format runs and ends
 abbrev pub Does : {F R C : Type 0} → OutputFormat → (tries : Option ℕ) → (F → Option (R × C) → F → Type 0)
     → (R → Option (List ℕ)) → (C → Option (List ℕ)) → CallRequest → (known : Option (List ℕ))
-    → F → Exit → F → (out out' errs errs' : Option (List ℕ)) → Type 0
-Does layout tries connects remaining contents asked known old ended new out out' errs errs' =
+    → F → Exit → F → (out out' : Option (List ℕ)) → Type 0
+Does layout tries connects remaining contents asked known old ended new out out' =
     ((p : PutOptions) × (asked ≡ question.Put p)
-    × Puts tries connects remaining contents p known old ended new out out' errs errs')
+    × Puts tries connects remaining contents p known old ended new out out')
     ⊎ (((p : PutOptions) → asked ≡ question.Put p → ⊥)
-    × Asks layout tries connects remaining contents asked old ended new out out' errs errs')
+    × Asks layout tries connects remaining contents asked old ended new out out')
 
 -- the call is a put of standard input
 abbrev pub ReadsInput : CallRequest → Type 0

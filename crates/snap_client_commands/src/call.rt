@@ -1,14 +1,13 @@
 //! Sends the request of a call and prints the reply.
-ghost use Rattle.std.specs.Prelude.{◌≡◌, ◌^◌, ◌<◌, ◌≤◌, ℕ, List, IfSome, MatchOption, if◌then◌else◌, length};
+ghost use Rattle.std.specs.Prelude.{◌≡◌, ◌^◌, ◌<◌, ◌≤◌, ℕ, List, IfSome, MatchOption, length};
 ghost use Rattle.snap_client.specs.Again.{TriesIn};
 ghost use Rattle.snap_frame.specs.Messages.{IsAskable, max_payload, payload};
 ghost use Rattle.snap_order.specs.Limits.{MAX_COUNT, MAX_TRIES};
 ghost use Rattle.snap_order.specs.Order.{IsCallable, IsWithin, request_of};
 ghost use Rattle.snap_order.specs.declared.status.Status.TheVariants as status;
-ghost use Rattle.snap_stream.specs.Streams.{refused_line};
-ghost use Rattle.snap_client_commands.specs.Ends.{Asks, EndsAsked, EndsGot, EndsRead, GivesUp, IsOnlyValue};
-ghost use Rattle.snap_client_commands.specs.Ends.{IsRead, IsRefused, Prints, PrintsInPlace, SaysRefused};
-ghost use Rattle.snap_client_commands.specs.Ends.{WantsMemory, answer_status, tries_of};
+ghost use Rattle.snap_client_commands.specs.Ends.{Asks, EndsAsked, EndsGot, EndsRead, HasFailed, IsOnlyValue};
+ghost use Rattle.snap_client_commands.specs.Ends.{IsRead, IsRefused, Prints, PrintsInPlace, answer_status};
+ghost use Rattle.snap_client_commands.specs.Ends.{tries_of};
 ghost use Rattle.snap_client_commands.specs.Puts.{Does, ReadsInput};
 ghost use Rattle.snap_client_commands.specs.Text.{stored_line};
 
@@ -60,8 +59,7 @@ pub fn ask<
     // Each request was sent on at most that many connections, and the last answer decides the end.
     ensures does { Does order.now.layout (tries_of order.now) F.step R.remaining C.contents
         order.now.question (I.remaining input.old) connect.old result connect.new
-        (W.contents writer.old) (W.contents writer.new) (E.contents errors.old)
-        (E.contents errors.new) }
+        (W.contents writer.old) (W.contents writer.new) }
     ensures unread { (ReadsInput order.now.question → ⊥) → input.new ≡ input.old }
 {
     match &order.question {
@@ -92,8 +90,7 @@ pub(crate) fn ask_once<
     requires within { IsWithin question.now }
     requires callable { F.IsAlwaysCallable connect.old }
     ensures { Asks order.now.layout (tries_of order.now) F.step R.remaining C.contents question.now connect.old result
-        connect.new (W.contents writer.old) (W.contents writer.new) (E.contents errors.old)
-        (E.contents errors.new) }
+        connect.new (W.contents writer.old) (W.contents writer.new) }
 {
     let answer = answer_from(alloc, question, tries_of(order), connect);
     end(
@@ -190,7 +187,7 @@ pub(crate) fn end<W: Write, E: Write>(
     errors: &mut E,
 ) -> Exit
     ensures { EndsAsked layout question.now answer result (W.contents writer.old)
-        (W.contents writer.new) (E.contents errors.old) (E.contents errors.new) }
+        (W.contents writer.new) }
 {
     match answer {
         Ok(Reply::Refused { why, detail }) => refuse(why, detail, errors),
@@ -213,7 +210,7 @@ fn print_read<W: Write, E: Write>(
 ) -> Exit
     requires { IsRead reply.now }
     ensures { EndsRead layout question.now reply.now result (W.contents writer.old)
-        (W.contents writer.new) (E.contents errors.old) (E.contents errors.new) }
+        (W.contents writer.new) }
 {
     match (question, reply) {
         (CallRequest::Get { segment }, Reply::Part(values)) => {
@@ -232,8 +229,7 @@ fn print_value<W: Write, E: Write>(
     writer: &mut W,
     errors: &mut E,
 ) -> Exit
-    ensures { EndsGot segment values.now result (W.contents writer.old) (W.contents writer.new)
-        (E.contents errors.old) (E.contents errors.new) }
+    ensures { EndsGot segment values.now result (W.contents writer.old) (W.contents writer.new) }
 {
     let Some(value) = only_value(segment, values) else {
         return give_up(alloc, address, ClientFault::BadReply, errors);
@@ -257,19 +253,14 @@ fn status_of(question: &CallRequest, reply: &Reply) -> Status
     ensures { result ≡ answer_status question.now reply.now }
 {
     match (question, reply) {
-        (CallRequest::Health, Reply::Status(statuses)) => fence_status(is_any_fenced(statuses)),
+        (CallRequest::Health, Reply::Status(statuses)) => {
+            if is_any_fenced(statuses) {
+                Status::Refused
+            } else {
+                Status::Done
+            }
+        }
         _ => Status::Done,
-    }
-}
-
-/// The status of a health call.
-fn fence_status(is_fenced: bool) -> Status
-    ensures { result ≡ if is_fenced then status.Refused else status.Done }
-{
-    if is_fenced {
-        Status::Refused
-    } else {
-        Status::Done
     }
 }
 
@@ -281,8 +272,7 @@ fn say_stored<W: Write, E: Write>(
     errors: &mut E,
 ) -> Exit
     ensures { PrintsInPlace status.Done (stored_line number) result
-        (W.contents writer.old) (W.contents writer.new)
-        (E.contents errors.old) (E.contents errors.new) }
+        (W.contents writer.old) (W.contents writer.new) }
 {
     let line = stored_line(number);
     let Err(error) = write_whole(writer, line.as_str().as_bytes()) else {
@@ -313,9 +303,8 @@ fn print<W: Write, E: Write>(
     errors: &mut E,
 ) -> Exit
     requires { IsRead reply.now }
-    ensures { Prints (answer_status question.now reply.now) layout question.now reply.now
-        result (W.contents writer.old) (W.contents writer.new) (E.contents errors.old)
-        (E.contents errors.new) }
+    ensures { Prints (answer_status question.now reply.now) layout reply.now
+        result (W.contents writer.old) (W.contents writer.new) }
 {
     let Ok(text) = answer_of(alloc, question, layout, reply) else {
         return stop(errors);
@@ -333,7 +322,7 @@ fn print_whole<W: Write, E: Write>(
     errors: &mut E,
 ) -> Exit
     ensures { PrintsInPlace status text.now result (W.contents writer.old)
-        (W.contents writer.new) (E.contents errors.old) (E.contents errors.new) }
+        (W.contents writer.new) }
 {
     let Err(error) = write_whole(writer, text) else {
         return Exit {
@@ -350,7 +339,7 @@ fn print_whole<W: Write, E: Write>(
 
 /// Complains that the server refused the request, with the refusal's detail. It takes no memory.
 pub(crate) fn refuse<E: Write>(why: Refusal, detail: u64, errors: &mut E) -> Exit
-    ensures { IsRefused result (E.contents errors.old) (E.contents errors.new) }
+    ensures { IsRefused result }
 {
     let line = detailed_line(why, detail);
     let is_told = match write_whole(errors, line.as_str().as_bytes()) {
@@ -365,15 +354,14 @@ pub(crate) fn refuse<E: Write>(why: Refusal, detail: u64, errors: &mut E) -> Exi
 
 /// Complains that memory ran out. It takes none.
 pub(crate) fn stop<E: Write>(errors: &mut E) -> Exit
-    ensures { WantsMemory result (E.contents errors.old) (E.contents errors.new) }
+    ensures { IsRefused result }
 {
     refuse_here(Refusal::NoMemory, errors)
 }
 
 /// Complains that the call was refused before the server was asked. It takes no memory.
 pub(crate) fn refuse_here<E: Write>(why: Refusal, errors: &mut E) -> Exit
-    ensures { SaysRefused (refused_line why) result (E.contents errors.old)
-        (E.contents errors.new) }
+    ensures { IsRefused result }
 {
     Exit {
         status: Status::Refused,
@@ -388,7 +376,7 @@ pub(crate) fn give_up<E: Write>(
     fault: ClientFault,
     errors: &mut E,
 ) -> Exit
-    ensures { GivesUp result (E.contents errors.old) (E.contents errors.new) }
+    ensures { HasFailed result }
 {
     match remedy_of(fault) {
         Some(remedy) => fail(alloc, &format_args!("{address}: {fault}: {remedy}"), errors),
@@ -398,7 +386,7 @@ pub(crate) fn give_up<E: Write>(
 
 /// Complains that something failed.
 pub(crate) fn fail<T: Display, E: Write>(alloc: Global, text: &T, errors: &mut E) -> Exit
-    ensures { GivesUp result (E.contents errors.old) (E.contents errors.new) }
+    ensures { HasFailed result }
 {
     let is_told = complain(alloc, errors, text);
     Exit {

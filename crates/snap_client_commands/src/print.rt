@@ -4,8 +4,8 @@ ghost use Rattle.snap_stream.specs.Hex.{hex_text};
 ghost use Rattle.snap_json.specs.Each.{each_from};
 ghost use Rattle.snap_order.specs.declared.order.OutputFormat.TheVariants.{Lines};
 ghost use Rattle.snap_client_commands.specs.Ends.{IsRead};
-ghost use Rattle.snap_client_commands.specs.Text.{Shows, ShowsEach, is_any_fenced, named_line, segment_text};
-ghost use Rattle.snap_client_commands.specs.Text.{status_line, value_line, value_text};
+ghost use Rattle.snap_client_commands.specs.Text.{Shows, is_any_fenced, named_line, segment_text};
+ghost use Rattle.snap_client_commands.specs.Text.{value_line, value_text};
 
 use itoa::Buffer;
 use snap_frame::{NamedValue, Reply, SegmentStatus, SegmentValue};
@@ -22,7 +22,7 @@ pub(crate) fn answer_of(
     reply: &Reply,
 ) -> Result<Vec<u8>, AllocError>
     requires { IsRead reply.now }
-    ensures { IfOk result (λ text. Shows layout question.now reply.now text.items) }
+    ensures { IfOk result (λ text. Shows layout reply.now text.items) }
 {
     match layout {
         OutputFormat::Json => document_of(alloc, question, reply),
@@ -51,7 +51,7 @@ fn lines_of(
     reply: &Reply,
 ) -> Result<Vec<u8>, AllocError>
     requires { IsRead reply.now }
-    ensures { IfOk result (λ text. Shows layout question.now reply.now text.items) }
+    ensures { IfOk result (λ text. Shows layout reply.now text.items) }
 {
     match (question, reply) {
         (CallRequest::Health, Reply::Status(statuses)) => health_of(alloc, statuses),
@@ -80,7 +80,7 @@ pub(crate) fn is_any_fenced(statuses: &[SegmentStatus]) -> bool
 /// The lines of the reply to a read.
 fn text_of(alloc: Global, layout: OutputFormat, reply: &Reply) -> Result<Vec<u8>, AllocError>
     requires { IsRead reply.now }
-    ensures { IfOk result (λ text. layout ≡ Lines → ShowsEach reply.now text.items) }
+    ensures { IfOk result (λ text. Shows layout reply.now text.items) }
 {
     let mut out = Vec::new(alloc);
     match reply {
@@ -140,12 +140,11 @@ fn put_part(
 }
 
 /// Appends a line for each segment's status.
-fn put_statuses(out: &mut Vec<u8>, statuses: &[SegmentStatus]) -> Result<(), AllocError>
-    ensures { OnOk result (out.new.items
-        ≡ out.old.items ++ each_from status_line 0 statuses.now) }
-{
+fn put_statuses(out: &mut Vec<u8>, statuses: &[SegmentStatus]) -> Result<(), AllocError> {
     for (index, status) in statuses.iter().enumerate() {
-        put_status(out, index, status)?;
+        put_segment(out, index, status.number)?;
+        put_fence(out, status.is_fenced)?;
+        out.extend_from_slice(b"\n")?;
     }
     Ok(())
 }
@@ -181,7 +180,7 @@ fn put_value(
 }
 
 /// Appends a value: as quoted text if it is printable and the output format shows text, else in hexadecimal digits.
-fn put_shown(
+pub(crate) fn put_shown(
     alloc: Global,
     out: &mut Vec<u8>,
     layout: OutputFormat,
@@ -200,20 +199,17 @@ fn put_shown(
     put_hex(out, value)
 }
 
-/// Appends the line of one segment's status.
-fn put_status(out: &mut Vec<u8>, index: usize, status: &SegmentStatus) -> Result<(), AllocError>
-    ensures { OnOk result (out.new.items ≡ out.old.items ++ status_line index status.now) }
-{
-    put_segment(out, index, status.number)?;
-    if status.is_fenced {
-        out.extend_from_slice(b" fenced 1\n")
+/// Appends whether a segment is fenced.
+pub(crate) fn put_fence(out: &mut Vec<u8>, is_fenced: bool) -> Result<(), AllocError> {
+    if is_fenced {
+        out.extend_from_slice(b" fenced 1")
     } else {
-        out.extend_from_slice(b" fenced 0\n")
+        out.extend_from_slice(b" fenced 0")
     }
 }
 
 /// Appends a segment's index and number.
-fn put_segment(out: &mut Vec<u8>, index: usize, number: u64) -> Result<(), AllocError>
+pub(crate) fn put_segment(out: &mut Vec<u8>, index: usize, number: u64) -> Result<(), AllocError>
     ensures { OnOk result (out.new.items ≡ out.old.items ++ segment_text index number) }
 {
     let mut digits = Buffer::new();

@@ -7,8 +7,8 @@ ghost use Rattle.snap_order.specs.declared.order.OutputFormat.TheVariants.{Lines
 ghost use Rattle.snap_order.specs.declared.order.CallRequest.TheVariants as question;
 ghost use Rattle.snap_order.specs.declared.order.Source.TheVariants as sources;
 ghost use Rattle.snap_order.specs.request.Request.TheVariants.{Update};
-ghost use Rattle.snap_client_commands.specs.Ends.{Asks, GivesUp, tries_of};
-ghost use Rattle.snap_client_commands.specs.Puts.{GoesOn, HasValue, MayLack, Puts, ReadsInput, SaysLack};
+ghost use Rattle.snap_client_commands.specs.Ends.{Asks, HasFailed, tries_of};
+ghost use Rattle.snap_client_commands.specs.Puts.{EndsLacking, GoesOn, HasValue, MayLack, Puts, ReadsInput};
 ghost use Rattle.snap_client_commands.specs.Puts.{Stores, TellsNumber};
 ghost use Rattle.snap_client_commands.specs.declared.put.NoValue.TheVariants.{NoMemory};
 
@@ -57,7 +57,7 @@ pub(crate) fn store<
     requires callable { F.IsAlwaysCallable connect.old }
     ensures puts { Puts (tries_of order.now) F.step R.remaining C.contents put.now
         (I.remaining input.old) connect.old result connect.new (W.contents writer.old)
-        (W.contents writer.new) (E.contents errors.old) (E.contents errors.new) }
+        (W.contents writer.new) }
     ensures unread { (ReadsInput (question.Put put.now) → ⊥) → input.new ≡ input.old }
 {
     match value_of(alloc, &put.value, input) {
@@ -110,7 +110,7 @@ fn copy_of(alloc: Global, bytes: &[u8]) -> Result<Bytes, NoValue>
 
 /// Complains that there is no value, and says why.
 fn say_lack<E: Write>(alloc: Global, lack: NoValue, errors: &mut E) -> Exit
-    ensures { SaysLack lack result (E.contents errors.old) (E.contents errors.new) }
+    ensures { EndsLacking lack result }
 {
     match lack {
         NoValue::TooLong => refuse_here(Refusal::TooLong, errors),
@@ -135,7 +135,7 @@ fn store_value<R: Read + Drop, C: Write + Drop, F: FnMut() -> Option<(R, C)>, W:
     requires callable { F.IsAlwaysCallable connect.old }
     ensures { Stores (tries_of order.now) F.step R.remaining C.contents put.now.after
         put.now.segment value connect.old result connect.new (W.contents writer.old)
-        (W.contents writer.new) (E.contents errors.old) (E.contents errors.new) }
+        (W.contents writer.new) }
 {
     match put.after {
         Some(number) => update(
@@ -166,8 +166,7 @@ fn store_next<R: Read + Drop, C: Write + Drop, F: FnMut() -> Option<(R, C)>, W: 
     requires fits { length value ≤ MAX_UPDATE_VALUE }
     requires callable { F.IsAlwaysCallable connect.old }
     ensures { Stores (tries_of order.now) F.step R.remaining C.contents None segment value
-        connect.old result connect.new (W.contents writer.old) (W.contents writer.new)
-        (E.contents errors.old) (E.contents errors.new) }
+        connect.old result connect.new (W.contents writer.old) (W.contents writer.new) }
 {
     let told = answer_to(alloc, &Request::Status, tries_of(order), connect);
     go_on(alloc, order, segment, value, told, connect, writer, errors)
@@ -190,8 +189,7 @@ fn go_on<R: Read + Drop, C: Write + Drop, F: FnMut() -> Option<(R, C)>, W: Write
     requires fits { length value ≤ MAX_UPDATE_VALUE }
     requires callable { F.IsAlwaysCallable connect.old }
     ensures { GoesOn (tries_of order.now) F.step R.remaining C.contents segment value told
-        connect.old result connect.new (W.contents writer.old) (W.contents writer.new)
-        (E.contents errors.old) (E.contents errors.new) }
+        connect.old result connect.new (W.contents writer.old) (W.contents writer.new) }
 {
     match told {
         Ok(Reply::Status(statuses)) => match number_of(&statuses, segment) {
@@ -244,8 +242,7 @@ fn update<R: Read + Drop, C: Write + Drop, F: FnMut() -> Option<(R, C)>, W: Writ
     requires callable { F.IsAlwaysCallable connect.old }
     ensures { Asks Lines (tries_of order.now) F.step R.remaining C.contents
         (question.Request (Update segment (number + 1) value)) connect.old result connect.new
-        (W.contents writer.old) (W.contents writer.new) (E.contents errors.old)
-        (E.contents errors.new) }
+        (W.contents writer.old) (W.contents writer.new) }
 {
     let question = CallRequest::Request(Request::Update {
         segment,
@@ -281,7 +278,7 @@ fn give_up_behind<E: Write>(
     number: u64,
     errors: &mut E,
 ) -> Exit
-    ensures { GivesUp result (E.contents errors.old) (E.contents errors.new) }
+    ensures { HasFailed result }
 {
     let text = format_args!(
         "{address}: {fault}: send it again with --after {number}, since an update is stored once"

@@ -27,8 +27,7 @@ pub fn fetch<R: Read + Drop, C: Write + Drop, F: FnMut() -> Option<(R, C)>, E: W
     requires callable { F.IsAlwaysCallable connect.old }
 
     // One scan was sent on at most that many connections, and these are the values of its answer.
-    ensures { Fetches tries F.step R.remaining C.contents connect.old result connect.new
-        (E.contents errors.old) (E.contents errors.new) }
+    ensures { Fetches tries F.step R.remaining C.contents connect.old result connect.new }
 {
     let answer = answer_to(alloc, &Request::Scan, tries, connect);
     values_of(alloc, address, answer, errors)
@@ -41,7 +40,7 @@ fn values_of<E: Write>(
     answer: Result<Reply, ClientFault>,
     errors: &mut E,
 ) -> Result<Vec<SegmentValue>, Exit>
-    ensures { EndsFetch answer result (E.contents errors.old) (E.contents errors.new) }
+    ensures { EndsFetch answer result }
 {
     match answer {
         Ok(Reply::Snapshot(values)) => Ok(values),

@@ -3,6 +3,7 @@ pub mod Effects
 pub mod Migration
 pub mod Foundation
 pub mod Contents
+pub mod Document
 pub mod SegmentName
 pub mod SegmentOrder
 pub use Rattle.snap_history.specs.declared.limits

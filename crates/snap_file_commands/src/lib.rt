@@ -1,10 +1,11 @@
-//! The commands on files, over any device, reader and writer; the order and names of a folder's files.
+//! The commands on files, over any device, reader and writer; dumps; the order and names of a folder's files.
 //!
 //! [`act`] runs a command on one file (`specs/Commands.antt`): `format`, `put`, `get` or `check`. [`found`] makes one
 //! file for `init`, or keeps it if it is whole (`specs/Foundation.antt`). [`act_pair`] is `migrate`: it converts a file
 //! of the old format to a new file (`specs/Migration.antt`). [`held_value`] reads one file for `dump`
-//! (`specs/Contents.antt`), and [`load`] makes one file of a dump. `specs/Effects.antt` says which ends leave a device
-//! as it was. [`finish`] prints on standard error why a command ended early, and returns its status.
+//! (`specs/Contents.antt`), and [`load`] makes one file of a dump; [`dump`] writes and reads its text.
+//! `specs/Effects.antt` says which ends leave a device as it was. [`finish`] prints on standard error why a command
+//! ended early, and returns its status.
 //!
 //! [`order_files`] sorts a folder's files by their headers, whatever their names, or returns what is wrong with them
 //! (`specs/SegmentOrder.antt`). [`sign_of_loss`] finds whether missing files of a folder were lost. [`file_name`] is
@@ -14,6 +15,7 @@
 
 mod commands;
 mod contents;
+pub mod dump;
 mod fault;
 mod foundation;
 mod loads;

@@ -15,51 +15,23 @@ pub(crate) fn of_wrong(
     order: &FileOrder<'_>,
     len: u64,
 ) -> Result<String, AllocError> {
-    match len {
-        0 => of_empty(alloc, order),
-        OLD_FILE_LEN => old_format_remedy(alloc, order.file()),
-        FILE_LEN => of_whole(alloc, order),
-        _ => of_length(alloc, len),
+    match (len, *order) {
+        // It has no byte, and so nothing to lose.
+        (0, _) => empty_remedy(alloc, words_of_format(alloc, order)?.as_str()),
+        (OLD_FILE_LEN, _) => old_format_remedy(alloc, order.file()),
+        (FILE_LEN, FileOrder::Put { file, index, count } | FileOrder::Get { file, index, count }) =>
+            {
+                format!(in alloc;
+                    "it isn't the file of segment {index} of {count}: see snapd check {file}"
+                )
+            }
+        _ => format!(in alloc; "it has {len} bytes, and a segment file has {FILE_LEN}"),
     }
-}
-
-/// For a file without a byte, and so with nothing to lose.
-fn of_empty(alloc: Global, order: &FileOrder<'_>) -> Result<String, AllocError> {
-    let words = words_of_format(alloc, order)?;
-    empty_remedy(alloc, words.as_str())
-}
-
-/// For a file that has the length of a segment's: it is that of another segment.
-fn of_whole(alloc: Global, order: &FileOrder<'_>) -> Result<String, AllocError> {
-    match *order {
-        FileOrder::Put { file, index, count } | FileOrder::Get { file, index, count } => {
-            of_another(alloc, file, index, count)
-        }
-        FileOrder::Format { .. } | FileOrder::Check { .. } | FileOrder::Slot { .. } => {
-            of_length(alloc, FILE_LEN)
-        }
-    }
-}
-
-/// For a file that isn't this segment's.
-fn of_another(alloc: Global, file: &str, index: u8, count: u8) -> Result<String, AllocError> {
-    format!(in alloc; "it isn't the file of segment {index} of {count}: see snapd check {file}")
-}
-
-/// For a file that has the length of no format.
-fn of_length(alloc: Global, len: u64) -> Result<String, AllocError> {
-    format!(in alloc; "it has {len} bytes, and a segment file has {FILE_LEN}")
 }
 
 /// For a file whose header's gate is closed. Its slots may still hold a value, which a format erases.
 pub(crate) fn of_unformatted(alloc: Global, order: &FileOrder<'_>) -> Result<String, AllocError> {
-    let words = words_of_format(alloc, order)?;
-    unformatted_remedy(alloc, words.as_str())
-}
-
-/// For a file whose slots have no answer.
-pub(crate) fn of_damaged(alloc: Global, file: &str) -> Result<String, AllocError> {
-    format!(in alloc; "its slots give no answer: see snapd check {file}")
+    unformatted_remedy(alloc, words_of_format(alloc, order)?.as_str())
 }
 
 /// For a file that is a segment's already.

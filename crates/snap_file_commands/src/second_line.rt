@@ -20,7 +20,9 @@ pub(crate) fn line_behind<C: SystemReason>(
         Refusal::DeviceFailed => failed_text(alloc, cause),
         Refusal::WrongFile => remedy::of_wrong(alloc, order, len),
         Refusal::Unformatted => remedy::of_unformatted(alloc, order),
-        Refusal::Damaged => remedy::of_damaged(alloc, file),
+        Refusal::Damaged => {
+            format!(in alloc; "its slots give no answer: see snapd check {file}")
+        }
         Refusal::AlreadyFormatted => remedy::of_formatted(alloc, file),
         _ => return Some(String::new(alloc)),
     };
@@ -47,10 +49,9 @@ pub(crate) fn line_behind_role<C: SystemReason>(
 fn failed_text<C: SystemReason>(alloc: Global, cause: &C) -> Result<String, AllocError> {
     match cause.text(alloc) {
         Some(said) => format!(in alloc; "{said}: look after its disk, and try again"),
-        None => String::from_str(
-            alloc,
-            "a call of its device failed: look after its disk, and try again",
-        ),
+        None => {
+            format!(in alloc; "a call of its device failed: look after its disk, and try again")
+        }
     }
 }
 

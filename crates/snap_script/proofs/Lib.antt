@@ -2,9 +2,7 @@ pub mod Zip
 pub mod Parts
 pub mod Operands
 pub mod Crashes
-pub mod Values
 pub mod Plays
-pub mod Lines
 pub mod Steps
 pub mod Halts
 pub mod Runs

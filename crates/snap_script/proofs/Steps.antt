@@ -1,24 +1,21 @@
 -- A script, line by line.
-use Rattle.std.proofs.Common.{◌≡◌, ◌≢◌, ℕ, ◌+◌, ◌-◌, ◌^◌, ◌<◌, min, Option, Some, None, List, [], ◌∷◌, ◌++◌, length}
-use Rattle.std.proofs.Common.{take, refl, ap, length-append, arith}
+use Rattle.std.proofs.Common.{◌≡◌, ◌≢◌, ℕ, ◌+◌, ◌<◌, Option, Some, None, List, [], ◌∷◌, ◌++◌, length}
+use Rattle.std.proofs.Common.{take, refl, ap, arith}
 use Rattle.std.specs.Io.KnownBytes.{Appends}
 use Rattle.std.proofs.KnownBytes.{Appends-nil, Appends-trans}
 use Rattle.std.proofs.Math.Seq.{take-append-add}
 use Rattle.std.proofs.lemmas.List.Elements.{All-push}
 use Rattle.snap_script.specs.Interpreter.{HaltsAt, Played}
 use Rattle.snap_script.specs.LineBuffer.{HasDone}
-use Rattle.snap_script.specs.Script.{full_lines, IsShort, IsNextNumber, MayPrint, Prints}
-use Rattle.snap_script.specs.Script.{IsUnreadable, PrintsPart}
+use Rattle.snap_script.specs.Script.{full_lines, IsLine, IsUnreadable, MayPrint, Prints, PrintsPart}
 use Rattle.snap_script.specs.declared.fault.LineFault.{LineFault}
 use Rattle.snap_script.specs.declared.interpreter.InterpreterFault.TheVariants.{Fault}
 use Rattle.snap_world.specs.declared.world.World.{World}
 
 -- nothing was done
-pub done_none : {old : Option (List ℕ)} {world : Option World} {number : ℕ} → world ≡ None
-    → number ≡ 0 → HasDone [] old old world number
-done_none {old} none zero = record {
-  short = λ k d l. absurd (omega arith);
-  count = zero;
+pub done_none : {old : Option (List ℕ)} {world : Option World} → world ≡ None → HasDone [] old old world
+done_none {old} none = record {
+  lines = λ k d l. absurd (omega arith);
   text = [];
   played = rw none refl;
   wrote = Appends-nil old;
@@ -61,26 +58,17 @@ pub some_list : (line : List ℕ) → 0 < length line → line ≢ []
 some_list line some e = omega (arith, ap length e)
 
 -- after the lines that were done
-module _ {done : List (List ℕ)} {old now : Option (List ℕ)} {world : Option World} {number : ℕ}
-    (h : HasDone done old now world number) where
-  pub next_number : (next : ℕ) → next ≡ min (number + 1) (2 ^ 64 - 1) → IsNextNumber done next
-  next_number next e = omega (arith, h.count, e)
-
+module _ {done : List (List ℕ)} {old now : Option (List ℕ)} {world : Option World}
+    (h : HasDone done old now world) where
   pub prints : Prints old now (full_lines done)
   prints = (h.text, may_print (full_lines done) h.text world h.played, h.wrote)
 
   -- at a line
   module _ (line : List ℕ) where
-    counted : (next : ℕ) → next ≡ min (number + 1) (2 ^ 64 - 1)
-        → next ≡ min (length (done ++ line ∷ [])) (2 ^ 64 - 1)
-    counted next e = omega (arith, h.count, e, length-append done (line ∷ []))
-
     -- an empty line is skipped
-    pub done_empty : (next : ℕ) → next ≡ min (number + 1) (2 ^ 64 - 1) → length line ≡ 0
-        → IsShort line → HasDone (done ++ line ∷ []) old now world next
-    done_empty next e none short = record {
-      short = All-push IsShort done line h.short short;
-      count = counted next e;
+    pub done_empty : length line ≡ 0 → IsLine line → HasDone (done ++ line ∷ []) old now world
+    done_empty none is = record {
+      lines = All-push IsLine done line h.lines is;
       text = h.text;
       played = rw (empty_list line none, full_lines-push_empty done) h.played;
       wrote = h.wrote;
@@ -94,11 +82,10 @@ module _ {done : List (List ℕ)} {old now : Option (List ℕ)} {world : Option 
       played = rw (full_lines-push done line (some_list line some))
           (on (full_lines done) h.text h.played)
 
-      pub done_on : (next : ℕ) (after : Option (List ℕ)) → next ≡ min (number + 1) (2 ^ 64 - 1)
-          → IsShort line → Appends now after out → HasDone (done ++ line ∷ []) old after new next
-      done_on next after e short wrote = record {
-        short = All-push IsShort done line h.short short;
-        count = counted next e;
+      pub done_on : (after : Option (List ℕ)) → IsLine line → Appends now after out
+          → HasDone (done ++ line ∷ []) old after new
+      done_on after is wrote = record {
+        lines = All-push IsLine done line h.lines is;
         text = h.text ++ out;
         played = played;
         wrote = Appends-trans old now after h.text out h.wrote wrote;

@@ -4,4 +4,3 @@ pub mod Text
 pub mod Script
 pub mod Interpreter
 pub mod LineBuffer
-pub mod Ends

@@ -1,10 +1,9 @@
 -- The output of a script, for each end.
-use Rattle.std.specs.Prelude.{◌≡◌, ◌≢◌, ◌<◌, ◌≤◌, ◌⊎◌, ℕ, ◌+◌, ◌-◌, ◌^◌, min, List, [], ◌∷◌, ◌++◌}
-use Rattle.std.specs.Prelude.{length, take, All, Option}
+use Rattle.std.specs.Prelude.{◌≡◌, ◌≢◌, ◌<◌, ◌≤◌, ◌⊎◌, ℕ, List, [], ◌∷◌, ◌++◌, length, take, All, Option}
 use Rattle.std.specs.List.{AllZip}
-use Rattle.std.specs.Io.KnownBytes.{Appends, Consumes}
-use Rattle.snap_stream.specs.Streams.{Had}
-use Rattle.snap_script.specs.Words.{lines_of}
+use Rattle.std.specs.Io.KnownBytes.{Appends, Consumes, IsAtEnd}
+use Rattle.snap_order.specs.declared.status.Status.{Status}
+use Rattle.snap_order.specs.declared.status.Status.TheVariants as status
 use Rattle.snap_script.specs.Line.{IsWorldLine, IsEventLine}
 use Rattle.snap_script.specs.Text.{world_text, line_text, replies_text}
 use Rattle.snap_script.specs.declared.run.ScriptEnd.{ScriptEnd}
@@ -60,69 +59,73 @@ abbrev pub PrintsPart : Option (List ℕ) → Option (List ℕ) → List (List �
 PrintsPart old new lines =
     (text : List ℕ) × MayPrint lines text × (m : ℕ) × Appends old new (take m text)
 
--- the line isn't too long: its bytes are counted without LF
-abbrev pub IsShort : List ℕ → Type 0
-IsShort line = length line ≤ MAX_LINE
+-- a line has no LF
+abbrev pub IsPlain : List ℕ → Type 0
+IsPlain line = All (λ b. b ≢ 10) line
 
--- the text's lines are those done, none of them too long, and then others
-pub record IsAt (text : List ℕ) (done after : List (List ℕ)) : Type 0 where
-  pub whole : lines_of text ≡ done ++ after
-  pub short : All IsShort done
+-- and isn't too long
+abbrev pub IsLine : List ℕ → Type 0
+IsLine line = IsPlain line × (length line ≤ MAX_LINE)
 
--- the number of the line after these, counted from 1, which stops at `u64::MAX`
-abbrev pub IsNextNumber : List (List ℕ) → ℕ → Type 0
-IsNextNumber done number = number ≡ min (length done + 1) (2 ^ 64 - 1)
+-- these lines, each with the LF that ends it
+abbrev pub ended : List (List ℕ) → List ℕ
+ended [] = []
+ended (line ∷ lines) = line ++ (10 ∷ ended lines)
+
+-- the bytes are those of these lines, then a line or a beginning of one, and what follows that
+pub record IsAt (taken : List ℕ) (done : List (List ℕ)) (line after : List ℕ) : Type 0 where
+  pub whole : taken ≡ ended done ++ (line ++ after)
+  pub lines : All IsLine done
+  pub plain : IsPlain line
+
+-- the line before these bytes is whole: LF follows it, or nothing, where the reader has no more
+abbrev pub IsEnded : (after : List ℕ) (left : Option (List ℕ)) → Type 0
+IsEnded [] left = IsAtEnd left
+IsEnded (b ∷ after) left = b ≡ 10
 
 -- the line after these can't be read: it makes no world, or is no event
 abbrev pub IsUnreadable : List (List ℕ) → List ℕ → Type 0
 IsUnreadable [] line = (n s : ℕ) → IsWorldLine line n s → ⊥
 IsUnreadable (first ∷ lines) line = (e : Event) → IsEventLine line e → ⊥
 
--- why the line after those that were done ends the script: it can't be read, though it isn't too
--- long, or it is too long, or memory ran out in it
-abbrev pub Stops : (done : List (List ℕ)) (line : List ℕ) → ScriptEnd → Type 0
-Stops done line (BadLine number fault) =
-    (line ≢ []) × IsShort line × IsNextNumber done number
-    × IsUnreadable (full_lines done) line
-Stops done line (TooLong number) = (MAX_LINE < length line) × IsNextNumber done number
-Stops done line NoMemory = line ≢ []
-Stops done line end = ⊥
+-- How a script ends at this line, once those before it were done. What is `after` it was read, and what is `left`
+-- wasn't.
+abbrev pub EndsAt : (done : List (List ℕ)) (line after : List ℕ) (left : Option (List ℕ)) → ScriptEnd → Type 0
+-- it was the last line
+EndsAt done line after left Done = (after ≡ []) × IsAtEnd left × IsLine line
+EndsAt done line after left (BadLine number fault) =
+    (line ≢ []) × IsLine line × IsEnded after left × IsUnreadable (full_lines done) line
+EndsAt done line after left (TooLong number) = MAX_LINE < length line
+-- memory ran out in the line, or before the first one
+EndsAt done line after left NoMemory = (line ≢ []) ⊎ (done ≡ [])
+EndsAt done line after left (ReadFailed error) = after ≡ []
+-- the writer failed in the line's text
+EndsAt done line after left (WriteFailed error) = IsLine line × IsEnded after left
 
--- these lines of the text were done, and the next one ends the script
-abbrev pub StopsAfter : (text : List ℕ) (done : List (List ℕ)) → ScriptEnd → Type 0
-StopsAfter text done end =
-    (line : List ℕ) × (after : List (List ℕ)) × IsAt text done (line ∷ after) × Stops done line end
+-- the output: the text of the lines before this one, and of this one, if it was done, or a beginning if the writer
+-- failed
+abbrev pub EndPrints : (old new : Option (List ℕ)) (done : List (List ℕ)) (line : List ℕ) → ScriptEnd → Type 0
+EndPrints old new done line Done = Prints old new (full_lines (done ++ line ∷ []))
+EndPrints old new done line (WriteFailed error) = PrintsPart old new (full_lines (done ++ line ∷ []))
+EndPrints old new done line end = Prints old new (full_lines done)
 
--- How a script ends after these lines were done. `taken` was read, and `rest` wasn't.
-abbrev pub EndsAfter : (taken rest : List ℕ) (done : List (List ℕ)) → ScriptEnd → Type 0
--- every line was done
-EndsAfter taken rest done Done = IsAt taken done [] × (rest ≡ [])
--- memory ran out before the first line, or in some line
-EndsAfter taken rest done NoMemory = (done ≡ []) ⊎ StopsAfter (taken ++ rest) done NoMemory
--- the reader failed, and all lines of what was read were done but the last one, which has no LF
-EndsAfter taken rest done (ReadFailed error) = (last : List ℕ) × IsAt taken done (last ∷ [])
--- the writer failed in the text of these lines
-EndsAfter taken rest done (WriteFailed error) =
-    (after : List (List ℕ)) × IsAt (taken ++ rest) done after
-EndsAfter taken rest done end = StopsAfter (taken ++ rest) done end
-
--- the output of these lines: their text, or a beginning of it if the writer failed
-abbrev pub EndPrints : (old new : Option (List ℕ)) (lines : List (List ℕ)) → ScriptEnd → Type 0
-EndPrints old new lines (WriteFailed error) = PrintsPart old new lines
-EndPrints old new lines end = Prints old new lines
-
--- and what a writer that held the old bytes then holds
-abbrev pub Ends : (taken rest : List ℕ) (old new : Option (List ℕ)) → ScriptEnd → Type 0
-Ends taken rest old new end =
-    (done : List (List ℕ)) × EndsAfter taken rest done end
-    × EndPrints old new (full_lines done) end
+-- a script ends so after these bytes were read; a writer that held the old bytes holds the new ones
+pub record Ends (taken : List ℕ) (left old new : Option (List ℕ)) (end : ScriptEnd) : Type 0 where
+  pub done : List (List ℕ)
+  pub line : List ℕ
+  pub after : List ℕ
+  pub at : IsAt taken done line after
+  pub ends : EndsAt done line after left end
+  pub prints : EndPrints old new done line end
 
 -- the input and output of a script, and how it ends
-pub record Runs (read_old read_new written_old written_new : Option (List ℕ))
-    (end : ScriptEnd) : Type 0 where
-  -- the bytes that were read, and those that the reader still has
-  pub taken : List ℕ
-  pub rest : List ℕ
-  pub read : Consumes read_old read_new taken
-  pub has : Had read_new rest
-  pub ends : Ends taken rest written_old written_new end
+abbrev pub Runs : (read_old read_new written_old written_new : Option (List ℕ)) → ScriptEnd → Type 0
+Runs read_old read_new written_old written_new end =
+    (taken : List ℕ) × Consumes read_old read_new taken × Ends taken read_new written_old written_new end
+
+abbrev pub status_of : ScriptEnd → Status
+status_of Done = status.Done
+status_of (BadLine number fault) = status.Misused
+status_of (TooLong number) = status.Misused
+status_of NoMemory = status.Refused
+status_of end = status.Failed

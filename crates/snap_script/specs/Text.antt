@@ -1,5 +1,5 @@
 -- The printed text.
-use Rattle.std.specs.Prelude.{ℕ, List, [], ◌∷◌, ◌++◌, map, codes}
+use Rattle.std.specs.Prelude.{ℕ, List, [], ◌∷◌, ◌++◌, flat_map, codes}
 use Rattle.std.specs.Fmt.{decimal}
 use Rattle.snap_stream.specs.Hex.{hex_text}
 use Rattle.snap_world.specs.declared.event.PartEntry.{PartEntry}
@@ -19,14 +19,13 @@ kind_text (Write write.Open) = codes "open"
 kind_text Sync = codes "sync"
 kind_text Read = codes "read"
 
--- each text after a space
-abbrev pub spaced : List (List ℕ) → List ℕ
-spaced [] = []
-spaced (text ∷ texts) = codes " " ++ text ++ spaced texts
+-- a value, after a space
+abbrev pub value_text : List ℕ → List ℕ
+value_text bytes = codes " " ++ hex_text bytes
 
--- a segment and its value
+-- a segment and its value, after a space
 abbrev pub entry_text : PartEntry → List ℕ
-entry_text e = decimal e.segment ++ codes "=" ++ hex_text e.value.items
+entry_text e = codes " " ++ (decimal e.segment ++ (codes "=" ++ hex_text e.value.items))
 
 -- the printed form of a reply
 abbrev pub reply_text : Reply → List ℕ
@@ -37,8 +36,8 @@ reply_text DeviceFailed = codes "device failed"
 reply_text Shown = codes "shown"
 reply_text (Stored k) = codes "stored " ++ decimal k
 reply_text ScanBegun = codes "scanning"
-reply_text (Memory values) = codes "memory" ++ spaced (map (λ v. hex_text v.items) values.items)
-reply_text (Part entries) = codes "part" ++ spaced (map entry_text entries.items)
+reply_text (Memory values) = codes "memory" ++ flat_map (λ v. value_text v.items) values.items
+reply_text (Part entries) = codes "part" ++ flat_map entry_text entries.items
 reply_text Crashed = codes "crashed"
 reply_text Restarting = codes "restarting"
 reply_text NotNow = codes "not now"

@@ -1,4 +1,4 @@
--- The lines of a script, the words of a line, and the value of a word.
+-- The words of a line, and the value of a word.
 use Rattle.std.specs.Prelude.{◌≡◌, ℕ, ◌+◌, ◌*◌, ◌≤◌, ◌==◌, List, [], ◌∷◌, length, codes, Option, Some, None, Ok}
 use Rattle.std.specs.List.{slice_split}
 use Rattle.std.specs.Str.Parse.{IsNumeral, digits_value}
@@ -16,10 +16,6 @@ Finds (Some x) P = P x
 -- the parts of a text between these bytes: one more than there are such bytes
 abbrev pub parts_at : ℕ → List ℕ → List (List ℕ)
 parts_at c text = slice_split (λ b. b == c) text
-
--- the lines of a text, which LF separates
-abbrev pub lines_of : List ℕ → List (List ℕ)
-lines_of text = parts_at 10 text
 
 -- the words of a line, which single spaces separate
 abbrev pub words_of : List ℕ → List (List ℕ)

@@ -1,7 +1,6 @@
 //! The command `script`, over any reader and writers.
 ghost use Rattle.std.specs.Prelude.{◌≡◌};
-ghost use Rattle.snap_script.specs.Ends.{EndSays, status_of};
-ghost use Rattle.snap_script.specs.Script.{Runs};
+ghost use Rattle.snap_script.specs.Script.{Runs, status_of};
 
 use crate::{ScriptEnd, script};
 use snap_order::{Exit, Status};
@@ -14,9 +13,7 @@ impl ScriptEnd {
     /// Prints on `errors` why the script ended early, as a line that begins `snapd: `, and returns the
     /// program's exit. If memory ran out, this takes none.
     pub fn report<E: Write>(&self, alloc: Global, errors: &mut E) -> Exit
-        ensures status { result.status ≡ status_of self.now }
-        ensures says { EndSays self.now result.is_told (E.contents errors.old)
-            (E.contents errors.new) }
+        ensures { result.status ≡ status_of self.now }
     {
         match self {
             ScriptEnd::Done => Exit {
@@ -49,7 +46,6 @@ pub fn play<X: Wait, R: Read, W: Write, E: Write>(
     errors: &mut E,
 ) -> Exit
     ensures { (end : ScriptEnd) × (result.status ≡ status_of end)
-        × EndSays end result.is_told (E.contents errors.old) (E.contents errors.new)
         × Runs (R.remaining reader.old) (R.remaining reader.new)
         (W.contents writer.old) (W.contents writer.new) end }
 {

@@ -1,9 +1,9 @@
 //! The next line of a script, whose bytes arrive one after the other.
 ghost use Rattle.std.specs.Prelude.{◌≡◌, ◌∷◌, ◌++◌, ℕ, List, [], Option, OnOk, IfErr};
-ghost use Rattle.std.specs.Io.KnownBytes.{Appends};
+ghost use Rattle.std.specs.Io.KnownBytes.{Appends, IsAtEnd};
 ghost use Rattle.snap_stream.specs.Streams.{AppendsBeginning};
-ghost use Rattle.snap_script.specs.LineBuffer.{HasDone, HasTaken, Halts, IsHalted};
-ghost use Rattle.snap_script.specs.Script.{Ends, IsShort};
+ghost use Rattle.snap_script.specs.LineBuffer.{HasDone, HasTaken, Halts};
+ghost use Rattle.snap_script.specs.Script.{Ends, IsLine};
 
 use crate::interpreter::{Interpreter, InterpreterFault};
 use crate::run::{MAX_LINE, ScriptEnd};
@@ -38,9 +38,9 @@ impl LineBuffer {
         ensures ok { OnOk result ((taken : List ℕ) (old : Option (List ℕ))
             → HasTaken taken old (W.contents writer.old) self.old
             → HasTaken (taken ++ piece.now) old (W.contents writer.new) self.new) }
-        ensures err { IfErr result (λ end. (taken rest : List ℕ) (old : Option (List ℕ))
+        ensures err { IfErr result (λ end. (taken : List ℕ) (left old : Option (List ℕ))
             → HasTaken taken old (W.contents writer.old) self.old
-            → IsHalted ((taken ++ piece.now) ++ rest) old (W.contents writer.new) end) }
+            → Ends (taken ++ piece.now) left old (W.contents writer.new) end) }
     {
         for byte in piece {
             match self.take_byte(*byte, writer) {
@@ -56,9 +56,9 @@ impl LineBuffer {
         ensures ok { OnOk result ((taken : List ℕ) (old : Option (List ℕ))
             → HasTaken taken old (W.contents writer.old) self.old
             → HasTaken (taken ++ byte ∷ []) old (W.contents writer.new) self.new) }
-        ensures err { IfErr result (λ end. (taken rest : List ℕ) (old : Option (List ℕ))
+        ensures err { IfErr result (λ end. (taken rest : List ℕ) (left old : Option (List ℕ))
             → HasTaken taken old (W.contents writer.old) self.old
-            → IsHalted (taken ++ byte ∷ rest) old (W.contents writer.new) end) }
+            → Ends (taken ++ byte ∷ rest) left old (W.contents writer.new) end) }
     {
         if byte == b'\n' {
             return self.do_line(writer);
@@ -77,13 +77,13 @@ impl LineBuffer {
     fn do_line<W: Write>(&mut self, writer: &mut W) -> Result<(), ScriptEnd>
         ensures empty { OnOk result (self.new.line.items ≡ []) }
         ensures ok { OnOk result ((done : List (List ℕ)) (old : Option (List ℕ))
-            → IsShort self.old.line.items
-            → HasDone done old (W.contents writer.old) self.old.interpreter.world self.old.number
+            → IsLine self.old.line.items
+            → HasDone done old (W.contents writer.old) self.old.interpreter.world
             → HasDone (done ++ self.old.line.items ∷ []) old (W.contents writer.new)
-            self.new.interpreter.world self.new.number) }
+            self.new.interpreter.world) }
         ensures err { IfErr result (λ end. (done : List (List ℕ)) (old : Option (List ℕ))
-            → IsShort self.old.line.items
-            → HasDone done old (W.contents writer.old) self.old.interpreter.world self.old.number
+            → IsLine self.old.line.items
+            → HasDone done old (W.contents writer.old) self.old.interpreter.world
             → Halts done self.old.line.items old (W.contents writer.new) end) }
     {
         self.number = self.number.saturating_add(1);
@@ -105,9 +105,9 @@ impl LineBuffer {
 
     /// Does the last line, which no LF ends: the reader has no more bytes.
     pub(crate) fn finish<W: Write>(&mut self, writer: &mut W) -> ScriptEnd
-        ensures { (taken : List ℕ) (old : Option (List ℕ))
+        ensures { (taken : List ℕ) (left old : Option (List ℕ)) → IsAtEnd left
             → HasTaken taken old (W.contents writer.old) self.old
-            → Ends taken [] old (W.contents writer.new) result }
+            → Ends taken left old (W.contents writer.new) result }
     {
         match self.do_line(writer) {
             Ok(()) => ScriptEnd::Done,

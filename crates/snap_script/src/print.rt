@@ -1,9 +1,7 @@
 //! Prints replies.
-ghost use Rattle.std.specs.Prelude.{◌≡◌, ◌++◌, map, codes, OnOk};
+ghost use Rattle.std.specs.Prelude.{◌≡◌, ◌++◌, flat_map, codes, OnOk};
 ghost use Rattle.std.specs.Fmt.{decimal};
-ghost use Rattle.snap_script.specs.Text.{kind_text, line_text, reply_text};
-ghost use Rattle.snap_stream.specs.Hex.{hex_text};
-ghost use Rattle.snap_script.specs.Text.{entry_text, spaced, world_text};
+ghost use Rattle.snap_script.specs.Text.{entry_text, kind_text, line_text, reply_text, value_text, world_text};
 
 use itoa::Buffer;
 use snap_stream::put_hex;
@@ -82,24 +80,30 @@ fn put_kind(out: &mut Vec<u8>, kind: Kind) -> Result<(), AllocError>
 /// Appends the line of a memory.
 fn put_memory(out: &mut Vec<u8>, values: &[Vec<u8>]) -> Result<(), AllocError>
     ensures { OnOk result (out.new.items ≡ out.old.items
-        ++ line_text (codes "memory" ++ spaced (map (λ v. hex_text v.items) values.now))) }
+        ++ line_text (codes "memory" ++ flat_map (λ v. value_text v.items) values.now)) }
 {
     put(out, b"memory")?;
     for value in values {
-        put(out, b" ")?;
-        put_hex(out, value)?;
+        put_value(out, value)?;
     }
     put(out, b"\n")
+}
+
+/// Appends a value.
+fn put_value(out: &mut Vec<u8>, value: &[u8]) -> Result<(), AllocError>
+    ensures { OnOk result (out.new.items ≡ out.old.items ++ value_text value.now) }
+{
+    put(out, b" ")?;
+    put_hex(out, value)
 }
 
 /// Appends the line of a part: segments with their values.
 fn put_part(out: &mut Vec<u8>, entries: &[PartEntry]) -> Result<(), AllocError>
     ensures { OnOk result (out.new.items ≡ out.old.items
-        ++ line_text (codes "part" ++ spaced (map entry_text entries.now))) }
+        ++ line_text (codes "part" ++ flat_map entry_text entries.now)) }
 {
     put(out, b"part")?;
     for entry in entries {
-        put(out, b" ")?;
         put_entry(out, entry)?;
     }
     put(out, b"\n")
@@ -110,6 +114,7 @@ fn put_entry(out: &mut Vec<u8>, entry: &PartEntry) -> Result<(), AllocError>
     ensures { OnOk result (out.new.items ≡ out.old.items ++ entry_text entry.now) }
 {
     let mut digits = Buffer::new();
+    put(out, b" ")?;
     put(out, digits.format(entry.segment).as_bytes())?;
     put(out, b"=")?;
     put_hex(out, &entry.value)

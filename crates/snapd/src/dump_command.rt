@@ -11,7 +11,7 @@ use crate::tries::Patience;
 use jiff::Timestamp;
 use snap_devices::{FileDisk, FileFault, Lock};
 use snap_disk::Disk;
-use snap_dump::{DumpFault, document, read};
+use snap_file_commands::dump::{DumpFault, document, read};
 use snap_file_commands::{CommandFault, held_value};
 use snap_frame::SegmentValue;
 use snap_order::{DumpOptions, DumpSource, FileOrder, Status};

@@ -3,10 +3,10 @@
 //! The files are made in a folder beside it, which is renamed once all of them are synced. So the
 //! folder exists whole or not at all.
 ghost use Rattle.std.specs.Prelude.{◌≡◌, ◌<◌, ◌≤◌, All, IfOk, length};
-ghost use Rattle.snap_dump.specs.Limits.{IsNumber, IsShort};
+ghost use Rattle.snap_frame.specs.Limits.{IsNumber, IsShort};
 ghost use Rattle.snap_order.specs.Limits.{MAX_COUNT};
 ghost use Rattle.snap_order.specs.Order.{IsLoadable, IsOneTo};
-ghost use Rattle.snap_dump.specs.Document.{AreServable, IsKeepable};
+ghost use Rattle.snap_file_commands.specs.Document.{AreServable, IsKeepable};
 
 use crate::complaint::{fail_at, say, stop, stop_without_memory};
 use crate::files::{FirstFault, take_file};
@@ -14,7 +14,7 @@ use crate::folder::segment_path;
 use crate::loading_folder::{LoadRefusal, LoadingFolder};
 use snap_devices::FileFault;
 use snap_disk::Disk;
-use snap_dump::{Dump, DumpFault, MAX_DUMP_LEN, read};
+use snap_file_commands::dump::{Dump, DumpFault, MAX_DUMP_LEN, read};
 use snap_file_commands::{CommandFault, LoadedFile, finish};
 use snap_frame::SegmentValue;
 use snap_order::{FileOrder, LoadOptions, Status};

@@ -1,18 +1,60 @@
 //! One poll of a server.
-ghost use Rattle.std.specs.Prelude.{◌≡◌, ◌<◌, IfSome};
-ghost use Rattle.std.specs.List.{list_all};
-ghost use Rattle.snap_client.specs.Calls.{Calls};
-ghost use Rattle.snap_client_commands.specs.Looks.{GivesAnswered, GoesOn, Looks, is_as_told, is_settled};
-ghost use Rattle.snap_client_commands.specs.Looks.{values_request, wanted};
+ghost use Rattle.std.specs.Prelude.{◌<◌, All, IfSome};
 
-use crate::watch::fault::WatchFault;
 use crate::watch::row::Row;
-use crate::watch::rows::{refenced, rows_of_all, rows_of_some};
+use bytes::Bytes;
 use snap_client::{Client, ClientFault};
-use snap_frame::{Reply, SegmentStatus};
-use snap_scan::SegmentSet;
-use std::alloc::Global;
+use snap_frame::{Reply, SegmentSet, SegmentStatus};
+use snap_stream::Refusal;
+use std::alloc::{AllocError, Global};
 use std::io::{Read, Write};
+
+/// The reason why a poll returned no rows.
+#[derive(Clone, Copy, Debug, PartialEq, Eq)]
+pub enum WatchFault {
+    /// The server refused a request.
+    Refused { why: Refusal, detail: u64 },
+    /// The server gave no valid answer, and the connection can't be used again; or memory ran out.
+    Lost(ClientFault),
+}
+
+impl WatchFault {
+    /// Why there are no rows in this reply.
+    fn of(reply: Reply) -> WatchFault {
+        match reply {
+            Reply::Refused { why, detail } => WatchFault::Refused { why, detail },
+            _ => WatchFault::Lost(ClientFault::BadReply),
+        }
+    }
+}
+
+impl From<ClientFault> for WatchFault {
+    fn from(fault: ClientFault) -> WatchFault {
+        WatchFault::Lost(fault)
+    }
+}
+
+impl From<AllocError> for WatchFault {
+    fn from(_error: AllocError) -> WatchFault {
+        WatchFault::Lost(ClientFault::NoMemory)
+    }
+}
+
+/// The set of these segments, each less than 16. `None` if there are none, which means all segments
+/// of the server.
+pub fn set_of(segments: &[u8]) -> Option<SegmentSet>
+    requires { All (λ s. s < 16) segments.now }
+    ensures { IfSome result (λ set. 0 < set.bits) }
+{
+    let mut bits = 0u16;
+    for segment in segments {
+        bits |= 1u16 << *segment;
+    }
+    if bits == 0 {
+        return None;
+    }
+    Some(SegmentSet { bits })
+}
 
 /// Polls a server on its connection, and returns the rows of the watched segments in order: of all
 /// segments if `watched` is `None`. `shown` are the rows that the last poll returned, or none.
@@ -27,70 +69,47 @@ pub fn look<R: Read, W: Write>(
     watched: Option<SegmentSet>,
     shown: &[Row],
 ) -> Result<Vec<Row>, WatchFault>
-    requires some { IfSome watched (λ set. 0 < set.bits) }
-    ensures { Looks R.remaining W.contents watched shown.now client.old result client.new }
+    requires { IfSome watched (λ set. 0 < set.bits) }
 {
-    let told = client.status();
-    go_on(alloc, client, watched, shown, told)
-}
-
-/// Continues with the answer to the request for the numbers.
-fn go_on<R: Read, W: Write>(
-    alloc: Global,
-    client: &mut Client<R, W>,
-    watched: Option<SegmentSet>,
-    shown: &[Row],
-    told: Result<Reply, ClientFault>,
-) -> Result<Vec<Row>, WatchFault>
-    requires some { IfSome watched (λ set. 0 < set.bits) }
-    ensures { GoesOn R.remaining W.contents watched shown.now told client.old result client.new }
-{
-    match told {
-        Ok(Reply::Status(statuses)) => {
-            if is_settled(watched, shown, &statuses) {
-                return Ok(refenced(alloc, shown, &statuses)?);
-            }
-            let answer = ask_values(client, watched);
-            rows_by(alloc, &statuses, answer)
+    let statuses = match client.status()? {
+        Reply::Status(statuses) => statuses,
+        reply => return Err(WatchFault::of(reply)),
+    };
+    let mut rows = Vec::new(alloc);
+    if is_settled(watched, shown, &statuses) {
+        for row in shown {
+            put_row(&mut rows, &statuses, row.segment, row.number, &row.value)?;
         }
-        Ok(Reply::Refused { why, detail }) => Err(WatchFault::Refused { why, detail }),
-        Ok(_) => Err(WatchFault::Lost(ClientFault::BadReply)),
-        Err(fault) => Err(WatchFault::Lost(fault)),
+        return Ok(rows);
     }
+    match ask_values(client, watched)? {
+        Reply::Snapshot(values) => {
+            for (segment, value) in values.iter().enumerate() {
+                put_row(&mut rows, &statuses, segment, value.number, &value.value)?;
+            }
+        }
+        Reply::Part(values) => {
+            for value in &values {
+                let segment = usize::from(value.segment);
+                put_row(&mut rows, &statuses, segment, value.number, &value.value)?;
+            }
+        }
+        reply => return Err(WatchFault::of(reply)),
+    }
+    Ok(rows)
 }
 
-/// Whether every watched segment has a row, with the number in `statuses`.
-fn is_settled(watched: Option<SegmentSet>, shown: &[Row], statuses: &[SegmentStatus]) -> bool
-    ensures { result ≡ is_settled watched shown.now statuses.now }
-{
-    shown.len() == wanted(watched, statuses) && are_as_told(statuses, shown)
-}
-
-/// Whether each row has the number in `statuses`.
-fn are_as_told(statuses: &[SegmentStatus], rows: &[Row]) -> bool
-    ensures { result ≡ list_all (is_as_told statuses.now) rows.now }
-{
-    rows.iter().all(|row| is_as_told(statuses, row))
-}
-
-/// The number of watched segments.
-fn wanted(watched: Option<SegmentSet>, statuses: &[SegmentStatus]) -> usize
-    ensures { result ≡ wanted watched statuses.now }
-{
-    match watched {
+/// Whether no number has changed: every watched segment has a row, with the number in `statuses`.
+fn is_settled(watched: Option<SegmentSet>, shown: &[Row], statuses: &[SegmentStatus]) -> bool {
+    let count = match watched {
         Some(set) => set.len(),
         None => statuses.len(),
-    }
-}
-
-/// Whether the row has its segment's number in `statuses`.
-fn is_as_told(statuses: &[SegmentStatus], row: &Row) -> bool
-    ensures { result ≡ is_as_told statuses.now row.now }
-{
-    match statuses.get(row.segment) {
-        Some(status) => status.number == row.number,
-        None => false,
-    }
+    };
+    shown.len() == count
+        && shown.iter().all(|row| match statuses.get(row.segment) {
+            Some(status) => status.number == row.number,
+            None => false,
+        })
 }
 
 /// Requests the values of the watched segments.
@@ -98,8 +117,7 @@ fn ask_values<R: Read, W: Write>(
     client: &mut Client<R, W>,
     watched: Option<SegmentSet>,
 ) -> Result<Reply, ClientFault>
-    requires some { IfSome watched (λ set. 0 < set.bits) }
-    ensures { Calls R.remaining W.contents (values_request watched) client.old result client.new }
+    requires { IfSome watched (λ set. 0 < set.bits) }
 {
     match watched {
         Some(set) => client.scan_some(set),
@@ -107,19 +125,23 @@ fn ask_values<R: Read, W: Write>(
     }
 }
 
-/// The rows of an answer to the request for the values.
-fn rows_by(
-    alloc: Global,
+/// Appends the row of a segment, with its fence in `statuses`.
+fn put_row(
+    rows: &mut Vec<Row>,
     statuses: &[SegmentStatus],
-    answer: Result<Reply, ClientFault>,
-) -> Result<Vec<Row>, WatchFault>
-    ensures { GivesAnswered statuses.now answer result }
-{
-    match answer {
-        Ok(Reply::Snapshot(values)) => Ok(rows_of_all(alloc, &values, statuses)?),
-        Ok(Reply::Part(values)) => Ok(rows_of_some(alloc, &values, statuses)?),
-        Ok(Reply::Refused { why, detail }) => Err(WatchFault::Refused { why, detail }),
-        Ok(_) => Err(WatchFault::Lost(ClientFault::BadReply)),
-        Err(fault) => Err(WatchFault::Lost(fault)),
-    }
+    segment: usize,
+    number: u64,
+    value: &Bytes,
+) -> Result<(), AllocError> {
+    let is_fenced = match statuses.get(segment) {
+        Some(status) => status.is_fenced,
+        None => false,
+    };
+    rows.push(Row {
+        segment,
+        number,
+        is_fenced,
+        value: value.clone()?,
+    })?;
+    Ok(())
 }

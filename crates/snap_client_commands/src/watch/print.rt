@@ -1,12 +1,20 @@
 //! The text of the rows that changed.
 
-use crate::watch::form::Form;
-use crate::watch::member::append_object;
+use crate::print::{put_fence, put_segment, put_shown};
 use crate::watch::row::{Row, is_shown};
-use itoa::Buffer;
-use snap_json::quote;
-use snap_stream::put_hex;
+use base64::engine::general_purpose::STANDARD;
+use json::Writer;
+use snap_order::OutputFormat;
 use std::alloc::{AllocError, Global};
+
+/// The format in which a board's rows are printed, one a line.
+#[derive(Clone, Copy, Debug, PartialEq, Eq)]
+pub enum Form {
+    /// As `segment I number K ..`, with each value as quoted text if it is printable.
+    Lines,
+    /// As one JSON object each.
+    Objects,
+}
 
 /// The text of the changes between the rows that were shown and these: a line for each row whose
 /// segment wasn't shown with that number and that fence, in order.
@@ -19,50 +27,44 @@ pub fn changes(
     let mut text = Vec::new(alloc);
     for row in rows {
         if !is_shown(shown, row) {
-            text = append_row(alloc, text, form, row)?;
+            match form {
+                Form::Lines => put_line(alloc, &mut text, row)?,
+                Form::Objects => text = append_object(alloc, text, row)?,
+            }
+            text.push(b'\n')?;
         }
     }
     Ok(text)
 }
 
-/// Appends a row in this form.
-fn append_row(
-    alloc: Global,
-    mut text: Vec<u8>,
-    form: Form,
-    row: &Row,
-) -> Result<Vec<u8>, AllocError> {
-    match form {
-        Form::Lines => {
-            put_line(alloc, &mut text, row)?;
-            Ok(text)
-        }
-        Form::Objects => append_object(alloc, text, row),
-    }
-}
-
-/// Appends a row as a line.
+/// Appends a row as a line, without its line feed.
 fn put_line(alloc: Global, out: &mut Vec<u8>, row: &Row) -> Result<(), AllocError> {
-    let mut digits = Buffer::new();
-    out.extend_from_slice(b"segment ")?;
-    out.extend_from_slice(digits.format(row.segment).as_bytes())?;
-    out.extend_from_slice(b" number ")?;
-    out.extend_from_slice(digits.format(row.number).as_bytes())?;
-    out.extend_from_slice(if row.is_fenced {
-        b" fenced 1"
-    } else {
-        b" fenced 0"
-    })?;
-    put_value(alloc, out, row.value.as_slice())?;
-    out.extend_from_slice(b"\n")
+    put_segment(out, row.segment, row.number)?;
+    put_fence(out, row.is_fenced)?;
+    put_shown(alloc, out, OutputFormat::Text, row.value.as_slice())
 }
 
-/// Appends a value: as quoted text if it is printable, and else in hexadecimal digits.
-fn put_value(alloc: Global, out: &mut Vec<u8>, value: &[u8]) -> Result<(), AllocError> {
-    if let Some(text) = quote(alloc, value)? {
-        out.extend_from_slice(b" text ")?;
-        return out.extend_from_slice(text.as_slice());
+/// Appends a row as an object. Its value is text if it is UTF-8, and else in base64.
+fn append_object(alloc: Global, text: Vec<u8>, row: &Row) -> Result<Vec<u8>, AllocError> {
+    let mut writer = Writer::new(text);
+    writer.begin_object()?;
+    writer.key("segment")?;
+    writer.u64(row.segment as u64)?;
+    writer.key("number")?;
+    writer.u64(row.number)?;
+    writer.key("fenced")?;
+    writer.boolean(row.is_fenced)?;
+    match str::from_utf8(row.value.as_slice()) {
+        Ok(text) => {
+            writer.key("text")?;
+            writer.string(text)?;
+        }
+        Err(_) => {
+            let text = STANDARD.encode(alloc, row.value.as_slice())?;
+            writer.key("base64")?;
+            writer.string(text.as_str())?;
+        }
     }
-    out.extend_from_slice(b" value ")?;
-    put_hex(out, value)
+    writer.end_object()?;
+    Ok(writer.into_inner())
 }

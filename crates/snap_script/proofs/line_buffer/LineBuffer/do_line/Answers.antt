@@ -1,7 +1,6 @@
-use Rattle.std.proofs.Common.{◌<◌, length, arith}
+use Rattle.std.proofs.Common.{◌<◌, length, arith, inl}
 use Rattle.std.proofs.lemmas.Bool.Decides.{nat_tests}
-use Rattle.snap_script.proofs.Steps.{done_empty, done_on, empty_list, next_number, prints, prints_part, some_list}
-use Rattle.snap_script.proofs.Steps.{unreadable}
+use Rattle.snap_script.proofs.Steps.{done_empty, done_on, empty_list, prints, prints_part, some_list, unreadable}
 use Rattle.snap_script.specs.Script.{full_lines}
 use Rattle.snap_script.proofs.line_buffer.LineBuffer.do_line.Goals as goal
 
@@ -10,37 +9,41 @@ returns-then-is_empty-clause-empty g c =
     empty_list c.args.self.now.line.items (grind (arith, nat_tests))
 
 pub returns-then-is_empty-clause-ok : goal.returns-then-is_empty-clause-ok
-returns-then-is_empty-clause-ok g c = λ done old short h.
-    done_empty h c.args.self.now.line.items _ c.saturating_add-self.ensures
-    (grind (arith, nat_tests)) short
+returns-then-is_empty-clause-ok g c = λ done old is h.
+    done_empty h c.args.self.now.line.items (grind (arith, nat_tests)) is
 
 pub returns-in-Ok-write_flushed-clause-ok : goal.returns-in-Ok-write_flushed-clause-ok
-returns-in-Ok-write_flushed-clause-ok g c = λ done old short h.
+returns-in-Ok-write_flushed-clause-ok g c = λ done old is h.
     let some : 0 < length c.args.self.now.line.items = grind (arith, nat_tests) in
     done_on h c.args.self.now.line.items some c.line.new.self.world c.line.new.self.text.items
-    (rw c.deref.ensures.value at c.in-Ok.ensures.ok) _ _ c.saturating_add-self.ensures short
+    (rw c.deref.ensures.value at c.in-Ok.ensures.ok) _ is
     (rw c.deref-2.ensures.value at c.in-Ok-write_flushed.ensures.whole)
 
 pub returns-in-Err-clause-err : goal.returns-in-Err-clause-err
-returns-in-Err-clause-err g c = λ done old short h.
+returns-in-Err-clause-err g c = λ done old is h.
     let some : 0 < length c.args.self.now.line.items = grind (arith, nat_tests) in
     let part = rw c.deref-2.ensures.value at c.in-Err.ensures.beginning in (
-      short,
+      (λ after left whole. (is, whole)),
       prints_part h c.args.self.now.line.items some c.line.new.self.world
           c.line.new.self.text.items (rw c.deref.ensures.value at c.in-Ok.ensures.ok) _ part.0
           part.1,
     )
 
 pub returns-in-Err-Fault-clause-err : goal.returns-in-Err-Fault-clause-err
-returns-in-Err-Fault-clause-err g c = λ done old short h.
+returns-in-Err-Fault-clause-err g c = λ done old is h.
     let line = c.args.self.now.line.items in
     let some : 0 < length line = grind (arith, nat_tests) in
     let halts = rw (c.in-Err-Fault.field-0-is, c.deref.ensures.value) at c.in-Err-Fault.ensures.err in (
-      (
+      (λ after left whole. (
         some_list line some,
-        short,
-        next_number h _ c.saturating_add-self.ensures,
+        is,
+        whole,
         unreadable (full_lines done) h.text _ line c.in-Err-Fault.fault h.played halts,
-      ),
+      )),
       prints h,
     )
+
+pub returns-in-Err-NoMemory-clause-err : goal.returns-in-Err-NoMemory-clause-err
+returns-in-Err-NoMemory-clause-err g c = λ done old is h.
+    let some : 0 < length c.args.self.now.line.items = grind (arith, nat_tests) in
+    ((λ after left whole. inl (some_list c.args.self.now.line.items some)), prints h)

@@ -1,26 +1,26 @@
-use Rattle.std.proofs.Common.{◌≡◌, [], ◌∷◌, ◌++◌, refl, sym, ◌∙◌, ap, append-nil}
-use Rattle.snap_script.proofs.Halts.{halts_ends}
+use Rattle.std.proofs.Common.{[], refl, append-nil}
+use Rattle.snap_script.proofs.Halts.{at_line}
 use Rattle.snap_script.proofs.Steps.{prints}
-use Rattle.snap_script.specs.Words.{lines_of}
 use Rattle.snap_script.proofs.line_buffer.LineBuffer.finish.Goals as goal
 
 pub returns-in-Ok : goal.returns-in-Ok
-returns-in-Ok g c = λ taken old t.
-    let h = c.in-Ok.ensures.ok t.done old t.fits t.has_done in
-    let line = c.args.self.now.line.items in (
-      t.done ++ line ∷ [],
-      (record { whole = t.whole ∙ sym (append-nil (t.done ++ line ∷ [])); short = h.short }, refl),
-      prints h,
-    )
-
-pub returns-in-Err : goal.returns-in-Err
-returns-in-Err g c = λ taken old t. halts_ends taken [] old _ c.in-Err.end record {
+returns-in-Ok g c = λ taken left old end t. record {
   done = t.done;
   line = c.args.self.now.line.items;
-  later = [];
-  at = record {
-    whole = ap lines_of (append-nil taken) ∙ t.whole;
-    short = t.has_done.short;
-  };
-  halts = c.in-Err.ensures.err t.done old t.fits t.has_done;
+  after = [];
+  at = rw (append-nil taken) at (at_line t []);
+  ends = (refl, end, t.is_line);
+  prints = prints (c.in-Ok.ensures.ok t.done old t.is_line t.has_done);
 }
+
+pub returns-in-Err : goal.returns-in-Err
+returns-in-Err g c = λ taken left old end t.
+    let halts = c.in-Err.ensures.err t.done old t.is_line t.has_done in
+    record {
+      done = t.done;
+      line = c.args.self.now.line.items;
+      after = [];
+      at = rw (append-nil taken) at (at_line t []);
+      ends = halts.0 [] left end;
+      prints = halts.1;
+    }

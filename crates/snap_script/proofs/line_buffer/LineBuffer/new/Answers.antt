@@ -6,6 +6,6 @@ pub returns : goal.returns
 returns c = λ old. record {
   done = [];
   whole = rw c.new-2.ensures.items refl;
-  fits = rw c.new-2.ensures.items (omega arith);
-  has_done = done_none c.new.ensures refl;
+  is_line = rw c.new-2.ensures.items ((λ k d l. absurd (omega arith)), omega arith);
+  has_done = done_none c.new.ensures;
 }

@@ -1,11 +1,11 @@
-use Rattle.std.proofs.Common.{◌≡◌, ℕ, ◌<◌, ◌≤◌, false, Option, List, [], ◌∷◌, ◌++◌, Result, Ok, Err, length, refl}
+use Rattle.std.proofs.Common.{◌≡◌, ◌≢◌, ℕ, ◌<◌, ◌≤◌, Option, List, [], ◌∷◌, ◌++◌, Result, Ok, Err, length, refl}
 use Rattle.std.proofs.Common.{arith}
-use Rattle.std.specs.Prelude.{◌==◌, OnOk}
+use Rattle.std.specs.Prelude.{OnOk}
 use Rattle.std.proofs.lemmas.Bool.Decides.{nat_tests}
 use Rattle.std.proofs.lemmas.Result.{IfErr-weaker}
-use Rattle.snap_script.proofs.Halts.{line_halts, no_memory, taken_byte, taken_line, too_long}
+use Rattle.snap_script.proofs.Halts.{at_line, no_memory, taken_byte, taken_line, too_long}
 use Rattle.snap_script.specs.LineBuffer.{HasDone}
-use Rattle.snap_script.specs.Script.{IsShort}
+use Rattle.snap_script.specs.Script.{IsLine}
 use Rattle.snap_script.specs.declared.run.TheConstants.{MAX_LINE}
 use Rattle.snap_script.proofs.line_buffer.LineBuffer.take_byte.Goals as goal
 
@@ -17,33 +17,40 @@ on_both (Err e) a b f = tt
 pub returns-then-byte-eq10-clause-ok : goal.returns-then-byte-eq10-clause-ok
 returns-then-byte-eq10-clause-ok g c =
     on_both {A = c.do_line.new.self.line.items ≡ []} {B = (done : List (List ℕ)) (old : Option (List ℕ))
-    → IsShort c.args.self.now.line.items
+    → IsLine c.args.self.now.line.items
     → HasDone done old (g.W.Write.contents c.args.writer.now) c.args.self.now.interpreter.world
-    c.args.self.now.number
     → HasDone (done ++ c.args.self.now.line.items ∷ []) old
-    (g.W.Write.contents c.do_line.new.writer) c.do_line.new.self.interpreter.world
-    c.do_line.new.self.number} c.do_line.result c.do_line.ensures.empty c.do_line.ensures.ok
+    (g.W.Write.contents c.do_line.new.writer) c.do_line.new.self.interpreter.world}
+    c.do_line.result c.do_line.ensures.empty c.do_line.ensures.ok
     (λ none ok taken old t. rw c.if-byte-eq10.true
-    (taken_line t _ _ none (ok t.done old t.fits t.has_done)))
+    (taken_line t _ _ none (ok t.done old t.is_line t.has_done)))
 
 pub returns-then-byte-eq10-clause-err : goal.returns-then-byte-eq10-clause-err
 returns-then-byte-eq10-clause-err g c =
-    IfErr-weaker c.do_line.result _ _ (λ end err taken rest old t. rw c.if-byte-eq10.true
-    (line_halts t rest _ end (err t.done old t.fits t.has_done))) c.do_line.ensures.err
+    IfErr-weaker c.do_line.result _ _ (λ end err taken rest left old t.
+    let halts = err t.done old t.is_line t.has_done in
+    rw c.if-byte-eq10.true record {
+      done = t.done;
+      line = c.args.self.now.line.items;
+      after = 10 ∷ rest;
+      at = at_line t (10 ∷ rest);
+      ends = halts.0 (10 ∷ rest) left refl;
+      prints = halts.1;
+    }) c.do_line.ensures.err
 
 pub returns-then-len-ge-MAX_LINE-clause-err : goal.returns-then-len-ge-MAX_LINE-clause-err
-returns-then-len-ge-MAX_LINE-clause-err g c = λ taken rest old t.
-    let no_end : (c.args.byte == 10) ≡ false = grind (arith, nat_tests) in
+returns-then-len-ge-MAX_LINE-clause-err g c = λ taken rest left old t.
+    let no_end : c.args.byte ≢ 10 = grind (arith, nat_tests) in
     let long : MAX_LINE ≤ length c.args.self.now.line.items = grind (arith, nat_tests) in
-    too_long t c.args.byte no_end rest _ long c.saturating_add-number.ensures
+    too_long t c.args.byte no_end rest left _ long
 
 pub returns-in-Ok-clause-ok : goal.returns-in-Ok-clause-ok
 returns-in-Ok-clause-ok g c = λ taken old t.
-    let no_end : (c.args.byte == 10) ≡ false = grind (arith, nat_tests) in
+    let no_end : c.args.byte ≢ 10 = grind (arith, nat_tests) in
     let room : length c.args.self.now.line.items < MAX_LINE = grind (arith, nat_tests) in
-    taken_byte t c.args.byte no_end _ c.in-Ok.ensures.items refl refl room
+    taken_byte t c.args.byte no_end _ c.in-Ok.ensures.items refl room
 
 pub returns-in-Err-clause-err : goal.returns-in-Err-clause-err
-returns-in-Err-clause-err g c = λ taken rest old t.
-    let no_end : (c.args.byte == 10) ≡ false = grind (arith, nat_tests) in
-    no_memory t c.args.byte no_end rest
+returns-in-Err-clause-err g c = λ taken rest left old t.
+    let no_end : c.args.byte ≢ 10 = grind (arith, nat_tests) in
+    no_memory t c.args.byte no_end rest left

@@ -1,6 +1,0 @@
-use Rattle.std.proofs.Common.{◌≡◌, All, length}
-use Rattle.snap_dump.specs.Document.{IsKeepable}
-use Rattle.snap_dump.proofs.parse.read_values.Given as goal
-
-abbrev pub invariant-loop-index : goal.invariant-loop-index
-invariant-loop-index l = (length l.values.items ≡ l.index) × All IsKeepable l.values.items

@@ -1,2 +1,0 @@
-pub mod Document
-pub use Rattle.snap_history.specs.Limits
