@@ -107,21 +107,28 @@ pub fn writes(order: &FileOrder<'_>) -> bool {
 /// Opens the files of a migration by [`open_pair`]. Prints the reason if that fails.
 pub fn take_pair<'a>(
     rt: &'a HostRuntime,
-    order: &MigrateOptions<'a>,
-    told: &Causes<'a, FirstFault>,
+    order: &MigrateOptions<'_>,
+    old: &'a str,
+    new: &'a str,
+    told_old: &'a FirstFault,
+    told_new: &'a FirstFault,
 ) -> Result<(FileDisk<'a, HostRuntime>, FileDisk<'a, HostRuntime>), Status>
     ensures { IfOk result (λ pair. IsUncalled pair.0 × IsUncalled pair.1) }
 {
-    match open_pair(rt, order.old, order.new, told.old, told.new) {
+    match open_pair(rt, old, new, told_old, told_new) {
         Ok(pair) => Ok(pair),
         Err(PairFault::Path { file, fault }) => Err(fail_at(rt, file, &fault)),
         Err(PairFault::WrongFile(which)) => {
             let why = Refusal::WrongFile;
             let refused = MigrationFault::OfFile { which, why };
-            let ended = refused.report(rt.alloc(), order, told, &mut rt.stderr());
+            let causes = Causes {
+                old: told_old,
+                new: told_new,
+            };
+            let ended = refused.report(rt.alloc(), order, &causes, &mut rt.stderr());
             Err(ended.status)
         }
-        Err(PairFault::SameFile) => Err(fail_twice(rt, order.old, order.new)),
+        Err(PairFault::SameFile) => Err(fail_twice(rt, old, new)),
     }
 }
 

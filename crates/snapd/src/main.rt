@@ -170,23 +170,23 @@ fn run(rt: &HostRuntime, order: &FileOrder<'_>) -> Result<Status, Status>
 }
 
 /// Runs the command `migrate`.
-fn run_migration(rt: &HostRuntime, order: &MigrateOptions<'_>) -> Result<Status, Status>
+fn run_migration<'a>(rt: &'a HostRuntime, order: &MigrateOptions<'a>) -> Result<Status, Status>
     requires { IsPlace order.now.index order.now.count }
 {
     let (told_old, told_new) = (FirstFault::new(), FirstFault::new());
+    let (old_path, new_path) = (order.old, order.new);
+    let (old, new) = take_pair(rt, order, old_path, new_path, &told_old, &told_new)?;
+    let (_old, _new, end) = act_pair(rt.alloc(), order, old, new, &mut rt.stdout());
     let causes = Causes {
         old: &told_old,
         new: &told_new,
     };
-    let (old, new) = take_pair(rt, order, &causes)?;
-    let (_old, _new, end) = act_pair(rt.alloc(), order, old, new, &mut rt.stdout());
     match end {
         Ok(status) => Ok(status),
-        Err(failure) => Err(
-            failure
-                .report(rt.alloc(), order, &causes, &mut rt.stderr())
-                .status,
-        ),
+        Err(failure) => {
+            let ended = failure.report(rt.alloc(), order, &causes, &mut rt.stderr());
+            Err(ended.status)
+        }
     }
 }
 
