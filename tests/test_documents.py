@@ -171,14 +171,13 @@ IN_NO_ROW = {
         ("snap_serve/src/bind.rt", "new"), ("snap_server/src/acceptor.rt", "new"),
         ("snap_server/src/connection_limit.rt", "new"), ("snap_server/src/sessions.rt", "places"),
         ("snap_server/src/socket.rt", "new"),
-        ("snapd/src/files.rt", "new place"), ("snapd/src/run_log.rt", "new"), ("snapd/src/store_log.rt", "new"),
-        ("snapd/src/update_watch.rt", "new"),
+        ("snapd/src/files.rt", "new place"),
     ),
     "it does nothing, or hands on": (
         ("snap_serve/src/update_observer.rt", "begun ended told"), ("snap_serve/src/observer.rt", "look stop"),
         ("snap_serve/src/counted.rt", "close"),
         ("snap_server/src/gate.rt", "enter leave"), ("snap_server/src/socket.rt", "flush"),
-        ("snap_server/src/stream.rt", "flush"), ("snapd/src/link.rt", "flush"),
+        ("snap_server/src/stream.rt", "flush"),
     ),
 }
 

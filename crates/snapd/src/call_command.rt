@@ -1,20 +1,17 @@
 //! Calls a server over TCP or a Unix socket.
-ghost use Rattle.std.specs.Prelude.{◌≤◌};
-ghost use Rattle.snap_order.specs.Limits.{MAX_TRIES};
-ghost use Rattle.snap_order.specs.Order.{IsCallable};
+ghost use Rattle.snap_order.specs.Order.{IsCallable, IsDumpable};
 
 use crate::complaint::say;
-use crate::link::Link;
 use crate::remedy::remedy_of;
 use crate::time_limit::{Course, TimeLimit};
 use crate::tries::{Patience, Tries};
 use snap_client_commands::ask;
 use snap_frame::SegmentValue;
-use snap_order::{CallOptions, Status, socket_path};
+use snap_order::{CallOptions, DumpOptions, Status, socket_path};
 use std::io::{self, ErrorKind};
-use std::net::{Net, OpenStream, SocketAddr, TcpStream, ToSocketAddrs};
+use std::net::{Net, SocketAddr, TcpStream, ToSocketAddrs};
+use std::os::fd::OwnedFd;
 use std::os::unix::net::UnixStream;
-use std::rt::Clock;
 use std::sync::atomic::Ordering;
 use std::thread;
 use std::time::Duration;
@@ -22,7 +19,7 @@ use std::time::Duration;
 /// Runs the command `call`, and returns the exit status. An address that the system doesn't take fails before any
 /// connection is made. Two more lines on standard error say why the system made no connection, and that the time of the
 /// call was over.
-pub fn call<N: Net + Clock>(net: &N, rt: &HostRuntime, order: &CallOptions<'_>) -> Status
+pub fn call(rt: &HostRuntime, order: &CallOptions<'_>) -> Status
     requires { IsCallable order.now }
 {
     let address = order.address;
@@ -30,46 +27,47 @@ pub fn call<N: Net + Clock>(net: &N, rt: &HostRuntime, order: &CallOptions<'_>) 
         wait: order.wait,
         timeout: order.timeout,
     };
-    if !is_worth_a_try(net, rt, address, patience) {
+    if !is_worth_a_try(rt, address, order.wait.is_some()) {
         return Status::Failed;
     }
     let course = Course::new();
-    let mut tries = Tries::new(net, address, patience, &course);
+    let mut tries = Tries::new(rt, address, patience, &course);
     let mut connect = || tries.next();
-    let status = ask(
+    let (mut reader, mut writer, mut errors) = (rt.stdin(), rt.stdout(), rt.stderr());
+    let ended = ask(
         rt.alloc(),
         order,
         &mut connect,
-        &mut rt.stdin(),
-        &mut rt.stdout(),
-        &mut rt.stderr(),
-    )
-    .status;
-    say_why(rt, address, patience, status, &course);
-    status
+        &mut reader,
+        &mut writer,
+        &mut errors,
+    );
+    say_why(rt, address, patience, ended.status, &course);
+    ended.status
 }
 
 /// The values of the server at this address, by one scan. An error is the exit status, as of a call
 /// with these tries and this patience.
-pub fn fetch<N: Net + Clock>(
-    net: &N,
+pub fn fetch(
     rt: &HostRuntime,
     address: &str,
-    tries: u8,
-    patience: Patience,
+    order: &DumpOptions<'_>,
 ) -> Result<Vec<SegmentValue>, Status>
-    requires some { 1 ≤ tries }
-    requires few { tries ≤ MAX_TRIES }
+    requires { IsDumpable order.now }
 {
-    if !is_worth_a_try(net, rt, address, patience) {
+    let patience = Patience {
+        wait: order.wait,
+        timeout: order.timeout,
+    };
+    if !is_worth_a_try(rt, address, order.wait.is_some()) {
         return Err(Status::Failed);
     }
     let course = Course::new();
-    let mut tried = Tries::new(net, address, patience, &course);
-    let mut connect = || tried.next();
-    let most = match patience.wait {
+    let mut tries = Tries::new(rt, address, patience, &course);
+    let mut connect = || tries.next();
+    let most = match order.wait {
         Some(_) => None,
-        None => Some(tries),
+        None => Some(order.tries),
     };
     match snap_client_commands::fetch(rt.alloc(), address, most, &mut connect, &mut rt.stderr()) {
         Ok(values) => Ok(values),
@@ -111,9 +109,9 @@ fn say_late(rt: &HostRuntime, address: &str, seconds: Option<u32>, option: &str)
 /// Whether to connect to the address: the system takes it, or may take it later and the call waits.
 /// In that case the name is looked up again before each connection. Prints the reason if it returns
 /// `false`.
-fn is_worth_a_try<N: Net>(net: &N, rt: &HostRuntime, address: &str, patience: Patience) -> bool {
-    match look_up(net, address) {
-        Err(error) if patience.wait.is_none() || error.kind() == ErrorKind::InvalidInput => {
+pub fn is_worth_a_try(rt: &HostRuntime, address: &str, is_waiting: bool) -> bool {
+    match look_up(rt, address) {
+        Err(error) if !is_waiting || error.kind() == ErrorKind::InvalidInput => {
             say(rt, &format_args!("{address}: {error}"));
             false
         }
@@ -121,35 +119,28 @@ fn is_worth_a_try<N: Net>(net: &N, rt: &HostRuntime, address: &str, patience: Pa
     }
 }
 
-/// Whether the system takes the address. Prints the reason if it doesn't.
-pub fn is_known<N: Net>(net: &N, rt: &HostRuntime, address: &str) -> bool {
-    let at_once = Patience {
-        wait: None,
-        timeout: None,
-    };
-    is_worth_a_try(net, rt, address, at_once)
-}
-
 /// Looks the address up. A Unix socket's needs no look-up.
-fn look_up<N: Net>(net: &N, address: &str) -> io::Result<()> {
+fn look_up(rt: &HostRuntime, address: &str) -> io::Result<()> {
     if socket_path(address).is_none() {
-        let _ = address.to_socket_addrs(net)?;
+        let _ = address.to_socket_addrs(rt)?;
     }
     Ok(())
 }
 
-/// Connects before the time is over. What is written over TCP is sent without delay.
-pub fn link_within<N: Net + Clock>(
-    net: &N,
+/// Connects before the time is over. What is written over TCP is sent without delay. The connection
+/// may be a Unix socket's too: nothing is called on it that differs.
+pub fn link_within(
+    rt: &HostRuntime,
     address: &str,
-    limit: &TimeLimit<'_, '_, N>,
-) -> io::Result<Link<N::Stream>> {
+    limit: &TimeLimit<'_>,
+) -> io::Result<TcpStream> {
     if let Some(path) = socket_path(address) {
-        return Ok(Link::Unix(connect_unix_within(net, path, limit)?));
+        let stream = connect_unix_within(rt, path, limit)?;
+        return Ok(TcpStream::from(OwnedFd::from(stream)));
     }
-    let stream = connect_within(net, address, limit)?;
+    let stream = connect_within(rt, address, limit)?;
     stream.set_nodelay(true)?;
-    Ok(Link::Tcp(stream))
+    Ok(stream)
 }
 
 /// The pause before another try if a server's queue is full, in milliseconds.
@@ -157,27 +148,27 @@ const QUEUE_REST: u64 = 10;
 
 /// Connects to the Unix socket at this path before the time is over. Without a limit the system
 /// waits while the queue is full.
-fn connect_unix_within<N: Net + Clock>(
-    net: &N,
+fn connect_unix_within(
+    rt: &HostRuntime,
     path: &str,
-    limit: &TimeLimit<'_, '_, N>,
+    limit: &TimeLimit<'_>,
 ) -> io::Result<UnixStream> {
     if limit.left()?.is_none() {
-        return UnixStream::connect(net, path);
+        return UnixStream::connect(rt, path);
     }
     for _ in 0..u64::MAX {
-        if let Some(stream) = connect_unix(net, path)? {
+        if let Some(stream) = connect_unix(rt, path)? {
             return Ok(stream);
         }
-        thread::sleep(net, Duration::from_millis(QUEUE_REST));
+        thread::sleep(rt, Duration::from_millis(QUEUE_REST));
         limit.left()?;
     }
     Err(io::Error::from(ErrorKind::TimedOut))
 }
 
 /// Connects to the Unix socket at this path. `None` if its queue is full.
-fn connect_unix<N: Net>(net: &N, path: &str) -> io::Result<Option<UnixStream>> {
-    match mio::net::UnixStream::connect(net, path) {
+fn connect_unix(rt: &HostRuntime, path: &str) -> io::Result<Option<UnixStream>> {
+    match mio::net::UnixStream::connect(rt, path) {
         Ok(stream) => {
             let stream = UnixStream::from(stream);
             stream.set_nonblocking(false)?;
@@ -190,16 +181,12 @@ fn connect_unix<N: Net>(net: &N, path: &str) -> io::Result<Option<UnixStream>> {
 
 /// Connects to the first of the name's addresses that accepts before the time is over. Each
 /// remaining address gets an equal share of the remaining time.
-fn connect_within<N: Net + Clock>(
-    net: &N,
-    address: &str,
-    limit: &TimeLimit<'_, '_, N>,
-) -> io::Result<N::Stream> {
+fn connect_within(rt: &HostRuntime, address: &str, limit: &TimeLimit<'_>) -> io::Result<TcpStream> {
     let mut last = io::Error::from(ErrorKind::AddrNotAvailable);
-    let found = address.to_socket_addrs(net)?;
+    let found = address.to_socket_addrs(rt)?;
     let mut untried = u32::try_from(found.len()).unwrap_or(1);
     for place in found {
-        match connect_to(net, place, share_of(limit.left()?, untried)) {
+        match connect_to(rt, place, share_of(limit.left()?, untried)) {
             Ok(stream) => return Ok(stream),
             Err(error) => last = error,
         }
@@ -215,13 +202,13 @@ fn share_of(left: Option<Duration>, among: u32) -> Option<Duration> {
 }
 
 /// Connects within this time, if there is a limit.
-fn connect_to<N: Net>(
-    net: &N,
+fn connect_to(
+    rt: &HostRuntime,
     address: SocketAddr,
     most: Option<Duration>,
-) -> io::Result<N::Stream> {
+) -> io::Result<TcpStream> {
     match most {
-        Some(most) => TcpStream::connect_timeout(net, &address, most),
-        None => net.connect(address),
+        Some(most) => TcpStream::connect_timeout(rt, &address, most),
+        None => rt.connect(address),
     }
 }

@@ -1,4 +1,5 @@
 //! Messages on standard error about files and folders that can't be used.
+ghost use Rattle.std.specs.Prelude.{◌≡◌, IfOk, Ok};
 
 use crate::file_system::remedy_of;
 use crate::folder::FolderReadFault;
@@ -6,13 +7,26 @@ use snap_devices::FileFault;
 use snap_disk::Refusal;
 use snap_file_commands::CommandFault;
 use snap_order::Status;
-use snap_stream::complain;
+use snap_stream::{complain, write_whole};
+use std::alloc::AllocError;
 use std::fmt::Display;
 use std::io::{self, ErrorKind};
 
 /// Prints this text on standard error.
 pub fn say<T: Display>(rt: &HostRuntime, text: &T) {
     let _ = complain(rt.alloc(), &mut rt.stderr(), text);
+}
+
+/// Prints why the command failed.
+pub fn fail<T: Display>(rt: &HostRuntime, why: &T) -> Status {
+    say(rt, why);
+    Status::Failed
+}
+
+/// Prints why the command is refused.
+pub fn refuse<T: Display>(rt: &HostRuntime, why: &T) -> Status {
+    say(rt, why);
+    Status::Refused
 }
 
 /// Prints why the file at this path couldn't be opened, with advice if there is any.
@@ -51,11 +65,10 @@ pub fn fail_at_file(rt: &HostRuntime, file: &str, fault: &FileFault) -> Status {
 
 /// Prints that two paths of one command name one file.
 pub fn fail_twice(rt: &HostRuntime, first: &str, second: &str) -> Status {
-    say(
+    fail(
         rt,
         &format_args!("{second}: it is the same file as {first}: each file is named once"),
-    );
-    Status::Failed
+    )
 }
 
 /// Prints why the files of a folder can't be used. If the reason is in the files themselves, the
@@ -63,10 +76,7 @@ pub fn fail_twice(rt: &HostRuntime, first: &str, second: &str) -> Status {
 pub fn fail_in(rt: &HostRuntime, trouble: &FolderReadFault<'_>) -> Status {
     match trouble {
         FolderReadFault::Path { file, fault } => fail_at(rt, file, fault),
-        FolderReadFault::Refused(why) => {
-            say(rt, why);
-            Status::Refused
-        }
+        FolderReadFault::Refused(why) => refuse(rt, why),
         FolderReadFault::NoMemory => stop_without_memory(rt),
     }
 }
@@ -83,6 +93,24 @@ pub fn fail_at_folder(rt: &HostRuntime, folder: &str, reason: io::Error) -> Stat
 /// Prints why the program stops.
 pub fn stop(rt: &HostRuntime, failure: &CommandFault) -> Status {
     failure.report(rt.alloc(), &mut rt.stderr()).status
+}
+
+/// Writes these bytes to standard output. Prints the reason if that fails.
+pub fn print_whole(rt: &HostRuntime, bytes: &[u8]) -> Result<(), Status> {
+    match write_whole(&mut rt.stdout(), bytes) {
+        Ok(()) => Ok(()),
+        Err(error) => Err(stop(rt, &CommandFault::Output(error))),
+    }
+}
+
+/// The value, or the exit status after a message that memory ran out.
+pub fn or_stop<T>(rt: &HostRuntime, made: Result<T, AllocError>) -> Result<T, Status>
+    ensures { IfOk result (λ value. made ≡ Ok value) }
+{
+    match made {
+        Ok(value) => Ok(value),
+        Err(AllocError) => Err(stop_without_memory(rt)),
+    }
 }
 
 /// Prints that memory ran out.

@@ -12,16 +12,13 @@ use std::io::{self, ErrorKind};
 
 /// Checks the folder's files and its file system, and prints a line for each. The status is
 /// [`Status::Refused`] if something has to be repaired before the folder can be served.
-pub fn examine(rt: &HostRuntime, order: &DoctorOptions<'_>) -> Status {
-    let files = match segment_files(rt, order.folder) {
-        Ok(files) => files,
-        Err(status) => return status,
-    };
+pub fn examine(rt: &HostRuntime, order: &DoctorOptions<'_>) -> Result<Status, Status> {
+    let files = segment_files(rt, order.folder)?;
     match report(rt, order, &files) {
-        Ok(true) => Status::Done,
-        Ok(false) => Status::Refused,
-        Err(reason) if reason.kind() == ErrorKind::OutOfMemory => stop_without_memory(rt),
-        Err(reason) => stop(rt, &CommandFault::Output(reason)),
+        Ok(true) => Ok(Status::Done),
+        Ok(false) => Ok(Status::Refused),
+        Err(reason) if reason.kind() == ErrorKind::OutOfMemory => Err(stop_without_memory(rt)),
+        Err(reason) => Err(stop(rt, &CommandFault::Output(reason))),
     }
 }
 

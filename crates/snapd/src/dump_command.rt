@@ -4,10 +4,9 @@ ghost use Rattle.snap_order.specs.Limits.{MAX_COUNT};
 ghost use Rattle.snap_order.specs.Order.{IsDumpable};
 
 use crate::call_command::fetch;
-use crate::complaint::{fail_at, fail_in, say, stop, stop_without_memory};
+use crate::complaint::{fail, fail_at, fail_in, or_stop, print_whole, stop_without_memory};
 use crate::files::{FirstFault, first_faults};
 use crate::folder::{FolderReadFault, files_in_order, segment_files};
-use crate::tries::Patience;
 use jiff::Timestamp;
 use snap_devices::{FileDisk, FileFault, Lock};
 use snap_disk::Disk;
@@ -15,7 +14,6 @@ use snap_file_commands::dump::{DumpFault, document, read};
 use snap_file_commands::{CommandFault, held_value};
 use snap_frame::SegmentValue;
 use snap_order::{DumpOptions, DumpSource, FileOrder, Status};
-use snap_stream::write_whole;
 use std::alloc::Global;
 use std::fmt::InlineText;
 
@@ -24,24 +22,19 @@ const ROOM: usize = 32;
 
 /// Prints a dump, or nothing if it fails. Its time is taken before its values are requested, so it
 /// has every update that was acknowledged before that time.
-pub fn dump(rt: &HostRuntime, order: &DumpOptions<'_>) -> Status
+pub fn dump(rt: &HostRuntime, order: &DumpOptions<'_>) -> Result<Status, Status>
     requires { IsDumpable order.now }
 {
     let time = match Timestamp::now(rt) {
         Ok(now) => time_text(now),
-        Err(error) => {
-            say(rt, &format_args!("the clock: {error}"));
-            return Status::Failed;
-        }
+        Err(error) => return Err(fail(rt, &format_args!("the clock: {error}"))),
     };
     let values = match order.holder {
-        DumpSource::Server { address } => server_values(rt, address, order),
-        DumpSource::Folder { folder } => folder_values(rt, rt.alloc(), folder),
+        DumpSource::Server { address } => fetch(rt, address, order)?,
+        DumpSource::Folder { folder } => folder_values(rt, rt.alloc(), folder)?,
     };
-    match values {
-        Ok(values) => print_dump(rt, time.as_str(), &values),
-        Err(status) => status,
-    }
+    print_dump(rt, time.as_str(), &values)?;
+    Ok(Status::Done)
 }
 
 /// A time in RFC 3339 format, in UTC and cut to seconds.
@@ -51,38 +44,13 @@ fn time_text(now: Timestamp) -> InlineText<ROOM> {
 
 /// Prints the dump of these values, if it can be read back. So a copy that no load would accept is
 /// noticed when it is made, not when it is needed.
-fn print_dump(rt: &HostRuntime, time: &str, values: &[SegmentValue]) -> Status {
-    let Ok(text) = document(rt.alloc(), time, values) else {
-        return stop_without_memory(rt);
-    };
+fn print_dump(rt: &HostRuntime, time: &str, values: &[SegmentValue]) -> Result<(), Status> {
+    let text = or_stop(rt, document(rt.alloc(), time, values))?;
     match read(rt.alloc(), text.as_slice()) {
-        Ok(_) => {}
-        Err(DumpFault::NoMemory) => return stop_without_memory(rt),
-        Err(fault) => {
-            let line = format_args!("the dump can't be read back: {fault}");
-            say(rt, &line);
-            return Status::Failed;
-        }
+        Ok(_) => print_whole(rt, text.as_slice()),
+        Err(DumpFault::NoMemory) => Err(stop_without_memory(rt)),
+        Err(fault) => Err(fail(rt, &format_args!("the dump can't be read back: {fault}"))),
     }
-    match write_whole(&mut rt.stdout(), text.as_slice()) {
-        Ok(()) => Status::Done,
-        Err(error) => stop(rt, &CommandFault::Output(error)),
-    }
-}
-
-/// The values of a server, by one scan.
-fn server_values(
-    rt: &HostRuntime,
-    address: &str,
-    order: &DumpOptions<'_>,
-) -> Result<Vec<SegmentValue>, Status>
-    requires { IsDumpable order.now }
-{
-    let patience = Patience {
-        wait: order.wait,
-        timeout: order.timeout,
-    };
-    fetch(rt, rt, address, order.tries, patience)
 }
 
 /// The values of a folder's files. All files stay locked until the last one is read, so the values
@@ -104,9 +72,7 @@ fn folder_values(
 fn read_files(rt: &HostRuntime, alloc: Global, files: &[&str]) -> Result<Vec<SegmentValue>, Status>
     requires { length files.now ≤ MAX_COUNT }
 {
-    let Ok(told) = first_faults(alloc, files.len()) else {
-        return Err(stop_without_memory(rt));
-    };
+    let told = or_stop(rt, first_faults(alloc, files.len()))?;
     let count = files.len() as u8;
     let mut locked = Vec::new(alloc);
     let mut values = Vec::new(alloc);
@@ -153,8 +119,7 @@ fn read_file<'f>(
 fn fail_at_locked(rt: &HostRuntime, file: &str, fault: &FileFault) -> Status {
     if let FileFault::InUse(_) = fault {
         let line = format_args!("{file}: {fault}: where that is a server, ask it: snapd dump ADDR");
-        say(rt, &line);
-        return Status::Failed;
+        return fail(rt, &line);
     }
     fail_at(rt, file, fault)
 }

@@ -142,11 +142,8 @@ fn nearest<'p>(rt: &HostRuntime, path: &'p str) -> Option<(&'p str, Metadata)> {
 
 /// The folder of this path. `None` for the root and the empty path.
 fn folder_of(path: &str) -> Option<&str> {
-    match Path::new(path).parent() {
-        Some(folder) if !folder.as_str().is_empty() => Some(folder.as_str()),
-        Some(_) => Some("."),
-        None => None,
-    }
+    let folder = Path::new(path).parent()?.as_str();
+    Some(if folder.is_empty() { "." } else { folder })
 }
 
 /// The missing part of a path that doesn't exist, with advice.

@@ -3,6 +3,7 @@ ghost use Rattle.std.specs.Prelude.{◌≡◌, length, IfOk};
 ghost use Rattle.snap_devices.specs.FileDisk.{IsUncalled};
 
 use crate::complaint::{fail_at, fail_twice, fail_without};
+use crate::surroundings::limit_of;
 use snap_devices::{CallFault, FileDisk, FileFault, Lock};
 use snap_disk::{Disk, Refusal};
 use snap_file_commands::{Causes, CommandFault, MigrationFault, words_of_format};
@@ -11,12 +12,7 @@ use snap_segment::{OLD_FILE_LEN, Which};
 use snap_slot::FILE_LEN;
 use snap_stream::SystemReason;
 use std::alloc::{AllocError, Global};
-use std::fs::File;
-use std::io;
-use std::os::fd::AsFd;
-use std::rt::{Clock, Files};
 use std::sync::OnceLock;
-use thiserror::Error;
 
 /// The reason why a call on an open file failed first. The file's device sets it; it outlives the
 /// device.
@@ -44,10 +40,7 @@ impl SystemReason for FirstFault {
     ghost may_give = { λ _ _. Unit {0} };
 
     fn text(&self, alloc: Global) -> Option<String> {
-        match self.fault.get()?.to_string(alloc) {
-            Ok(text) => Some(text),
-            Err(_) => None,
-        }
+        self.fault.get()?.to_string(alloc).ok()
     }
 }
 
@@ -88,12 +81,12 @@ pub fn take_file<'a>(
 /// Opens the order's file as a device. `format` makes the file if it doesn't exist. A command that
 /// writes gets an exclusive lock. `file` is the order's path, and `told` gets the reason why a call
 /// on the file fails.
-fn open_file<'a, R: Files<File = File> + Clock>(
-    rt: &'a R,
+fn open_file<'a>(
+    rt: &'a HostRuntime,
     order: &FileOrder<'_>,
     file: &'a str,
     told: &'a FirstFault,
-) -> Result<FileDisk<'a, R>, FileFault>
+) -> Result<FileDisk<'a, HostRuntime>, FileFault>
     ensures { IfOk result IsUncalled }
 {
     let disk = match *order {
@@ -153,13 +146,13 @@ enum PairFault<'a> {
 /// Opens the files of a migration as devices: first the old one, which others may still read, and
 /// then the new one, which is made if it doesn't exist. If both have a wrong length, the old one is
 /// reported. `told_old` and `told_new` get the reason why a call on each fails.
-fn open_pair<'a, R: Files<File = File> + Clock>(
-    rt: &'a R,
+fn open_pair<'a>(
+    rt: &'a HostRuntime,
     old: &'a str,
     new: &'a str,
     told_old: &'a FirstFault,
     told_new: &'a FirstFault,
-) -> Result<(FileDisk<'a, R>, FileDisk<'a, R>), PairFault<'a>>
+) -> Result<(FileDisk<'a, HostRuntime>, FileDisk<'a, HostRuntime>), PairFault<'a>>
     ensures { IfOk result (λ pair. IsUncalled pair.0 × IsUncalled pair.1) }
 {
     let file = old;
@@ -185,43 +178,5 @@ const FILE_LENGTHS: i32 = 1;
 /// The most bytes of a file that this process may write, if that is less than a segment file has.
 /// Beyond it the system would kill the server with all its segments.
 pub fn too_short_files() -> Option<u64> {
-    let mut limit = libc::types::rlimit {
-        rlim_cur: 0,
-        rlim_max: 0,
-    };
-    if libc::getrlimit(FILE_LENGTHS, &mut limit) == 0 && limit.rlim_cur < FILE_LEN {
-        return Some(limit.rlim_cur);
-    }
-    None
-}
-
-/// A standard stream that isn't open, with the system's reason.
-#[derive(Debug, Drop, Error)]
-pub enum ClosedStream {
-    #[error("standard input: {0}")]
-    Input(io::Error),
-    #[error("standard output: {0}")]
-    Output(io::Error),
-    #[error("standard error: {0}")]
-    Errors(io::Error),
-}
-
-/// Checks that standard input, output and error are all open.
-///
-/// An opened file gets the lowest free descriptor. If one of the three were closed, a segment file
-/// would get its number, and the program's output would be written into the segment.
-pub fn check_streams<I: AsFd, O: AsFd, E: AsFd>(
-    reader: &I,
-    writer: &O,
-    errors: &E,
-) -> Result<(), ClosedStream> {
-    is_open(reader).map_err(ClosedStream::Input)?;
-    is_open(writer).map_err(ClosedStream::Output)?;
-    is_open(errors).map_err(ClosedStream::Errors)
-}
-
-/// A closed descriptor can't be duplicated.
-fn is_open<F: AsFd>(stream: &F) -> io::Result<()> {
-    let _copy = stream.as_fd().try_clone_to_owned()?;
-    Ok(())
+    limit_of(FILE_LENGTHS).filter(|limit| *limit < FILE_LEN)
 }

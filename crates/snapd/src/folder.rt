@@ -188,7 +188,7 @@ fn taken<'f>(
 }
 
 /// The contents of a segment's file.
-#[derive(Clone, Copy, Debug)]
+#[derive(Clone, Copy)]
 pub struct SegmentContents {
     /// Its place, by its header.
     pub place: SegmentPlace,
@@ -204,7 +204,14 @@ pub fn contents_of<'f>(
     file: &'f str,
 ) -> Result<SegmentContents, FolderReadFault<'f>> {
     let findings = findings_of(rt, alloc, folder, file)?;
-    contents_by(folder, file, &findings)
+    match findings.header {
+        Header::Open { index, count } => Ok(SegmentContents {
+            place: SegmentPlace { index, count },
+            number: findings.answer.map(|found| found.number),
+        }),
+        Header::Closed => Err(refused(FileRefusal::Unformatted { folder, file })),
+        Header::Wrong => Err(refused(FileRefusal::NoSegment { folder, file })),
+    }
 }
 
 /// Checks the file at this path, if it has a segment file's length. Others may read it at the same
@@ -224,22 +231,6 @@ pub fn findings_of<'f>(
         Ok(findings) => Ok(findings),
         Err(Refusal::DeviceFailed) => Err(failure_of(alloc, file, &told)),
         Err(_) => Err(refused(no_segment(folder, file, disk.len()))),
-    }
-}
-
-/// The contents of a file whose check found this.
-fn contents_by<'f>(
-    folder: &'f str,
-    file: &'f str,
-    findings: &Findings,
-) -> Result<SegmentContents, FolderReadFault<'f>> {
-    match findings.header {
-        Header::Open { index, count } => Ok(SegmentContents {
-            place: SegmentPlace { index, count },
-            number: findings.answer.map(|found| found.number),
-        }),
-        Header::Closed => Err(refused(FileRefusal::Unformatted { folder, file })),
-        Header::Wrong => Err(refused(FileRefusal::NoSegment { folder, file })),
     }
 }
 

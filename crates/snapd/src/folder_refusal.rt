@@ -58,7 +58,11 @@ impl Display for FolderRefusal<'_> {
                 file,
                 count,
                 wanted,
-            } => write_another_count(f, file.as_str(), *count, *wanted),
+            } => write!(
+                f,
+                "{file}: it is of {count} segments, and --count is {wanted}: give --count {count}, or move it out of \
+                    there; a folder of more is made of a dump, by snapd load"
+            ),
             FolderRefusal::File(why) => why.fmt(f),
             FolderRefusal::OtherCount(pair) => pair.write_counts(f),
             FolderRefusal::Twice(pair) => pair.write_index(f),
@@ -67,38 +71,13 @@ impl Display for FolderRefusal<'_> {
                 file,
                 index,
                 count,
-            } => write_missing(f, folder, file.as_str(), *index, *count),
+            } => write!(
+                f,
+                "{folder}: segment {index} of {count} is missing: bring its file back, or make a new and empty one \
+                    with snapd format {file} --index {index} --count {count}"
+            ),
         }
     }
-}
-
-/// Writes that a file has another count.
-fn write_another_count<W: Write>(
-    f: &mut Formatter<W>,
-    file: &str,
-    count: u8,
-    wanted: u8,
-) -> fmt::Result {
-    write!(
-        f,
-        "{file}: it is of {count} segments, and --count is {wanted}: give --count {count}, or move it out of there; a \
-            folder of more is made of a dump, by snapd load"
-    )
-}
-
-/// Writes that a segment has no file.
-fn write_missing<W: Write>(
-    f: &mut Formatter<W>,
-    folder: &str,
-    file: &str,
-    index: u8,
-    count: u8,
-) -> fmt::Result {
-    write!(
-        f,
-        "{folder}: segment {index} of {count} is missing: bring its file back, or make a new and empty one with snapd \
-            format {file} --index {index} --count {count}"
-    )
 }
 
 /// The reason why a file isn't a segment's.

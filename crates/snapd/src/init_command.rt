@@ -3,7 +3,7 @@ ghost use Rattle.std.specs.Prelude.{◌<◌, ◌≤◌};
 ghost use Rattle.snap_order.specs.Limits.{MAX_COUNT};
 ghost use Rattle.snap_order.specs.Order.{IsOneTo};
 
-use crate::complaint::{fail_at_folder, fail_in, say, stop_without_memory};
+use crate::complaint::{fail_at_folder, fail_in, or_stop, refuse};
 use crate::files::{FirstFault, take_file};
 use crate::folder::{
     FolderReadFault, check_names, findings_of, index_of_name, make_folder, path_at, segment_files,
@@ -23,20 +23,17 @@ use std::path::Path;
 /// It stops at the first file that can be neither made nor left, with its status. It makes none if
 /// a file has the name of a segment `count` or above, has another count or is in use; nor if a file
 /// was lost, except with `--missing-empty`.
-pub fn init(rt: &HostRuntime, order: &InitOptions<'_>) -> Status
+pub fn init(rt: &HostRuntime, order: &InitOptions<'_>) -> Result<Status, Status>
     requires { IsOneTo MAX_COUNT order.now.count }
 {
     let folder = order.folder;
     if let Err(reason) = make_folder(rt, folder) {
-        return fail_at_folder(rt, folder, reason);
+        return Err(fail_at_folder(rt, folder, reason));
     }
-    let files = match segment_files(rt, folder) {
-        Ok(files) => files,
-        Err(status) => return status,
-    };
+    let files = segment_files(rt, folder)?;
     let survey = match survey_of(rt, rt.alloc(), folder, order.count, &files) {
         Ok(survey) => survey,
-        Err(trouble) => return fail_in(rt, &trouble),
+        Err(trouble) => return Err(fail_in(rt, &trouble)),
     };
     if !order.is_missing_empty {
         if let Some(at) = sign_of_loss(survey.lacking.len(), &survey.numbers) {
@@ -47,8 +44,7 @@ pub fn init(rt: &HostRuntime, order: &InitOptions<'_>) -> Status
                 sign: path_at(folder, &files, at),
                 number: survey.numbers[at],
             };
-            say(rt, &loss);
-            return Status::Refused;
+            return Err(refuse(rt, &loss));
         }
     }
     found_all(rt, order, &survey.kept)
@@ -254,44 +250,43 @@ impl Display for Loss<'_> {
 }
 
 /// Makes the files of the segments in order, or leaves those that are kept.
-fn found_all(rt: &HostRuntime, order: &InitOptions<'_>, kept: &[Option<&str>]) -> Status
+fn found_all(
+    rt: &HostRuntime,
+    order: &InitOptions<'_>,
+    kept: &[Option<&str>],
+) -> Result<Status, Status>
     requires { order.now.count ≤ MAX_COUNT }
 {
     for index in 0..order.count {
-        let status = found_one(rt, order, file_in(kept, index), index);
+        let status = match file_in(kept, index) {
+            Some(file) => found_at(rt, file, index, order.count)?,
+            None => found_new(rt, order, index)?,
+        };
         if status != Status::Done {
-            return status;
+            return Err(status);
         }
     }
-    Status::Done
+    Ok(Status::Done)
 }
 
-/// Makes the file of a segment, or leaves the one that is kept.
-fn found_one(rt: &HostRuntime, order: &InitOptions<'_>, kept: Option<&str>, index: u8) -> Status
+/// Makes the file of a segment that has none.
+fn found_new(rt: &HostRuntime, order: &InitOptions<'_>, index: u8) -> Result<Status, Status>
     requires below { index < order.now.count }
     requires few { order.now.count ≤ MAX_COUNT }
 {
-    if let Some(file) = kept {
-        return found_at(rt, file, index, order.count);
-    }
-    match segment_path(rt.alloc(), order.folder, index) {
-        Ok(file) => found_at(rt, file.as_str(), index, order.count),
-        Err(_) => stop_without_memory(rt),
-    }
+    let file = or_stop(rt, segment_path(rt.alloc(), order.folder, index))?;
+    found_at(rt, file.as_str(), index, order.count)
 }
 
 /// Makes the file of a segment, or leaves it if it is whole, and prints which.
-fn found_at(rt: &HostRuntime, file: &str, index: u8, count: u8) -> Status
+fn found_at(rt: &HostRuntime, file: &str, index: u8, count: u8) -> Result<Status, Status>
     requires below { index < count }
     requires few { count ≤ MAX_COUNT }
 {
     let told = FirstFault::new();
     let order = FileOrder::Format { file, index, count };
-    let disk = match take_file(rt, &order, file, &told) {
-        Ok(disk) => disk,
-        Err(status) => return status,
-    };
+    let disk = take_file(rt, &order, file, &told)?;
     let len = disk.len();
     let (_disk, end) = found(rt.alloc(), disk, index, count, &mut rt.stdout());
-    finish(rt.alloc(), &order, len, end, &told, &mut rt.stderr()).status
+    Ok(finish(rt.alloc(), &order, len, end, &told, &mut rt.stderr()).status)
 }

@@ -8,38 +8,36 @@ ghost use Rattle.snap_order.specs.Limits.{MAX_COUNT};
 ghost use Rattle.snap_order.specs.Order.{IsLoadable, IsOneTo};
 ghost use Rattle.snap_file_commands.specs.Document.{AreServable, IsKeepable};
 
-use crate::complaint::{fail_at, say, stop, stop_without_memory};
+use crate::complaint::{fail_at, or_stop, print_whole, refuse, stop_without_memory};
 use crate::files::{FirstFault, take_file};
 use crate::folder::segment_path;
-use crate::loading_folder::{LoadRefusal, LoadingFolder};
+use crate::loading_folder::LoadingFolder;
 use snap_devices::FileFault;
 use snap_disk::Disk;
 use snap_file_commands::dump::{Dump, DumpFault, MAX_DUMP_LEN, read};
-use snap_file_commands::{CommandFault, LoadedFile, finish};
+use snap_file_commands::{LoadedFile, finish};
 use snap_frame::SegmentValue;
 use snap_order::{FileOrder, LoadOptions, Status};
-use snap_stream::{read_up_to, write_whole};
+use snap_stream::read_up_to;
 use std::fs::File;
 use std::io::Read;
 
 /// Reads the dump, and then makes the folder. An invalid dump is refused before anything is made.
-pub fn load(rt: &HostRuntime, order: &LoadOptions<'_>) -> Status
+pub fn load(rt: &HostRuntime, order: &LoadOptions<'_>) -> Result<Status, Status>
     requires { IsLoadable order.now }
 {
-    let dump = match read_dump(rt, order.dump) {
-        Ok(dump) => dump,
-        Err(status) => return status,
-    };
+    let path = order.dump;
+    let dump = read_dump(rt, path)?;
     let found = dump.values.len() as u8;
     let count = order.count.unwrap_or(found);
     if count < found {
-        let dump = order.dump;
-        return refuse(rt, &LoadRefusal::TooFew { dump, found, count });
+        let line = format_args!(
+            "{path}: it has {found} segments, and --count is {count}: give {found} or more"
+        );
+        return Err(refuse(rt, &line));
     }
-    match make_folder(rt, order.folder, count, &dump.values) {
-        Ok(()) => Status::Done,
-        Err(status) => status,
-    }
+    make_folder(rt, order.folder, count, &dump.values)?;
+    Ok(Status::Done)
 }
 
 /// Reads the dump in the file at this path, or on standard input.
@@ -60,9 +58,7 @@ fn read_from<R: Read>(rt: &HostRuntime, name: &str, reader: &mut R) -> Result<Du
     ensures { IfOk result (λ dump. AreServable dump.values.items) }
 {
     // One byte more than a dump may have shows that it is too long.
-    let Ok(mut text) = vec![in rt.alloc(); 0u8; MAX_DUMP_LEN + 1] else {
-        return Err(stop_without_memory(rt));
-    };
+    let mut text = or_stop(rt, vec![in rt.alloc(); 0u8; MAX_DUMP_LEN + 1])?;
     let len = match read_up_to(reader, &mut text) {
         Ok(len) => len,
         Err(reason) => return Err(fail_at(rt, name, &FileFault::System(reason))),
@@ -78,17 +74,10 @@ fn read_from<R: Read>(rt: &HostRuntime, name: &str, reader: &mut R) -> Result<Du
 
 /// Prints why a text isn't a dump.
 fn refuse_dump(rt: &HostRuntime, name: &str, fault: DumpFault) -> Status {
-    if fault == DumpFault::NoMemory {
-        return stop_without_memory(rt);
+    match fault {
+        DumpFault::NoMemory => stop_without_memory(rt),
+        _ => refuse(rt, &format_args!("{name}: {fault}")),
     }
-    say(rt, &format_args!("{name}: {fault}"));
-    Status::Refused
-}
-
-/// Prints why nothing is made.
-fn refuse(rt: &HostRuntime, why: &LoadRefusal<'_>) -> Status {
-    say(rt, why);
-    Status::Refused
 }
 
 /// Makes the folder with `count` segments, the first of which have these values.
@@ -104,14 +93,9 @@ fn make_folder(
     let loading = LoadingFolder::take(rt, folder)?;
     make_files(rt, loading.path(), count, values)?;
     // The line is made first, so that if memory runs out the folder isn't renamed.
-    let Ok(line) = format!(in rt.alloc(); "ready {folder}\n") else {
-        return Err(stop_without_memory(rt));
-    };
+    let line = or_stop(rt, format!(in rt.alloc(); "ready {folder}\n"))?;
     loading.put_in_place(rt)?;
-    match write_whole(&mut rt.stdout(), line.as_bytes()) {
-        Ok(()) => Ok(()),
-        Err(error) => Err(stop(rt, &CommandFault::Output(error))),
-    }
+    print_whole(rt, line.as_bytes())
 }
 
 /// Makes the files of `count` segments, one after the other.
@@ -125,10 +109,8 @@ fn make_files(
     requires values { All IsKeepable values.now }
 {
     for index in 0..count {
-        let Ok(file) = segment_path(rt.alloc(), folder, index) else {
-            return Err(stop_without_memory(rt));
-        };
-        let status = make_file(rt, file.as_str(), index, count, values);
+        let file = or_stop(rt, segment_path(rt.alloc(), folder, index))?;
+        let status = make_file(rt, file.as_str(), index, count, values)?;
         if status != Status::Done {
             return Err(status);
         }
@@ -137,17 +119,20 @@ fn make_files(
 }
 
 /// Makes the file of a segment, with its value if there is one.
-fn make_file(rt: &HostRuntime, file: &str, index: u8, count: u8, values: &[SegmentValue]) -> Status
+fn make_file(
+    rt: &HostRuntime,
+    file: &str,
+    index: u8,
+    count: u8,
+    values: &[SegmentValue],
+) -> Result<Status, Status>
     requires below { index < count }
     requires few { count ≤ MAX_COUNT }
     requires values { All IsKeepable values.now }
 {
     let told = FirstFault::new();
     let order = FileOrder::Format { file, index, count };
-    let mut disk = match take_file(rt, &order, file, &told) {
-        Ok(disk) => disk,
-        Err(status) => return status,
-    };
+    let mut disk = take_file(rt, &order, file, &told)?;
     let (number, value) = value_at(values, index);
     let of = LoadedFile {
         index,
@@ -157,7 +142,7 @@ fn make_file(rt: &HostRuntime, file: &str, index: u8, count: u8, values: &[Segme
     };
     let end = snap_file_commands::load(rt.alloc(), &of, &mut disk, &mut rt.stdout());
     let len = disk.len();
-    finish(rt.alloc(), &order, len, end, &told, &mut rt.stderr()).status
+    Ok(finish(rt.alloc(), &order, len, end, &told, &mut rt.stderr()).status)
 }
 
 /// The number and value of this segment, or number 0 and the empty value after the last one.

@@ -1,6 +1,6 @@
 //! The folder in which `load` makes its files, before it is renamed.
 
-use crate::complaint::{fail_at, fail_at_folder, say, stop_without_memory};
+use crate::complaint::{fail, fail_at, fail_at_folder, or_stop, refuse, stop_without_memory};
 use crate::folder::{index_of_name, make_folder};
 use snap_devices::{FileFault, sync_folder_of};
 use snap_file_commands::MAX_COUNT;
@@ -9,48 +9,6 @@ use std::fs::{self, DirEntry, File, Metadata, TryLockError};
 use std::io::{self, ErrorKind};
 use std::os::unix::fs::{MetadataExt, fchown};
 use std::path::Path;
-use thiserror::Error;
-
-/// The reason why no folder is made of a dump. Each message names a file or a folder, and says what
-/// to do.
-#[derive(Debug, Drop, Error)]
-pub enum LoadRefusal<'f> {
-    #[error("{dump}: it has {found} segments, and --count is {count}: give {found} or more")]
-    TooFew {
-        dump: &'f str,
-        found: u8,
-        count: u8,
-    },
-    #[error("{folder}: it is not empty: give the path of a folder that isn't there yet")]
-    Taken {
-        folder: &'f str,
-    },
-    #[error("{folder}: it has no name of its own: give the path that the new folder is to have")]
-    NoName {
-        folder: &'f str,
-    },
-    #[error("{loading}/{name}: it is not what a load leaves: move it out of there")]
-    Foreign {
-        loading: &'f str,
-        name: String,
-    },
-    #[error("{loading}: it has a file whose name is no text: move it out of there")]
-    OddName {
-        loading: &'f str,
-    },
-    #[error("{loading}: another load is at work there: wait for it, or give another folder")]
-    InUse {
-        loading: &'f str,
-    },
-    #[error("{folder}: user {owner}, group {group} and mode {mode:04o} can't be given to the folder that takes its \
-        place: load as that user or as root, or give the path of a folder that isn't there yet")]
-    NotGiven {
-        folder: &'f str,
-        owner: u32,
-        group: u32,
-        mode: u32,
-    },
-}
 
 /// A folder in the making. Its lock excludes every other load while this value exists.
 #[derive(Drop)]
@@ -71,17 +29,15 @@ impl LoadingFolder {
     pub fn take(rt: &HostRuntime, wanted: &str) -> Result<LoadingFolder, Status> {
         let place = Path::new(wanted);
         let Some(name) = place.file_name() else {
-            return Err(refuse(rt, &LoadRefusal::NoName { folder: wanted }));
+            let line = format_args!(
+                "{wanted}: it has no name of its own: give the path that the new folder is to have"
+            );
+            return Err(refuse(rt, &line));
         };
         // Without a `/` or a `/.` after its name.
-        let Ok(folder) = place.with_file_name(rt.alloc(), name) else {
-            return Err(stop_without_memory(rt));
-        };
-        let folder = folder.into_string();
+        let folder = or_stop(rt, place.with_file_name(rt.alloc(), name))?.into_string();
         check_free(rt, folder.as_str())?;
-        let Ok(path) = format!(in rt.alloc(); "{folder}.loading") else {
-            return Err(stop_without_memory(rt));
-        };
+        let path = or_stop(rt, format!(in rt.alloc(); "{folder}.loading"))?;
         let lock = make_for(rt, folder.as_str(), path.as_str())?;
         Ok(LoadingFolder {
             folder,
@@ -100,25 +56,17 @@ impl LoadingFolder {
         let (folder, path) = (self.folder.as_str(), self.path.as_str());
         if let Err(reason) = fs::rename(rt, path, folder) {
             let line = format_args!("{folder}: {reason}: all files are made, in {path}");
-            say(rt, &line);
-            return Err(Status::Failed);
+            return Err(fail(rt, &line));
         }
         if let Err(reason) = sync_folder_of(rt, folder) {
             let line = format_args!(
                 "{folder}: {reason}: it is there whole, but a power cut may take its name: look after its disk, and \
                     load the dump elsewhere"
             );
-            say(rt, &line);
-            return Err(Status::Failed);
+            return Err(fail(rt, &line));
         }
         Ok(())
     }
-}
-
-/// Prints why nothing is made.
-fn refuse(rt: &HostRuntime, why: &LoadRefusal<'_>) -> Status {
-    say(rt, why);
-    Status::Refused
 }
 
 /// Makes the folder at this path, which is to replace the wanted one. Returns its lock.
@@ -160,7 +108,7 @@ fn carry_over(rt: &HostRuntime, wanted: &str, loading: &File) -> Result<(), Stat
     let _ = loading.set_permissions(found.permissions());
     match loading.metadata() {
         Ok(given) if is_like(&given, &found) => Ok(()),
-        Ok(_) => Err(refuse(rt, &not_given(wanted, &found))),
+        Ok(_) => Err(refuse_to_give(rt, wanted, &found)),
         Err(reason) => Err(fail_at_folder(rt, wanted, reason)),
     }
 }
@@ -170,14 +118,14 @@ fn is_like(given: &Metadata, found: &Metadata) -> bool {
     given.uid() == found.uid() && given.gid() == found.gid() && given.mode() == found.mode()
 }
 
-/// The refusal for these owner, group and mode.
-fn not_given<'f>(folder: &'f str, found: &Metadata) -> LoadRefusal<'f> {
-    LoadRefusal::NotGiven {
-        folder,
-        owner: found.uid(),
-        group: found.gid(),
-        mode: found.mode() & 0o7777,
-    }
+/// Prints which owner, group and mode can't be given.
+fn refuse_to_give(rt: &HostRuntime, folder: &str, found: &Metadata) -> Status {
+    let (owner, group, mode) = (found.uid(), found.gid(), found.mode() & 0o7777);
+    let line = format_args!(
+        "{folder}: user {owner}, group {group} and mode {mode:04o} can't be given to the folder that takes its place: \
+            load as that user or as root, or give the path of a folder that isn't there yet"
+    );
+    refuse(rt, &line)
 }
 
 /// Checks that the folder is missing or empty. Prints a message if it isn't.
@@ -185,7 +133,12 @@ fn check_free(rt: &HostRuntime, folder: &str) -> Result<(), Status> {
     match fs::read_dir(rt, folder) {
         Ok(mut names) => match names.next() {
             None => Ok(()),
-            Some(_) => Err(refuse(rt, &LoadRefusal::Taken { folder })),
+            Some(_) => Err(refuse(
+                rt,
+                &format_args!(
+                    "{folder}: it is not empty: give the path of a folder that isn't there yet"
+                ),
+            )),
         },
         Err(reason) if reason.kind() == ErrorKind::NotFound => Ok(()),
         Err(reason) => Err(fail_at_folder(rt, folder, reason)),
@@ -196,7 +149,12 @@ fn check_free(rt: &HostRuntime, folder: &str) -> Result<(), Status> {
 fn lock_folder(rt: &HostRuntime, path: &str) -> Result<File, Status> {
     match try_lock_folder(rt, path) {
         Ok(Some(lock)) => Ok(lock),
-        Ok(None) => Err(refuse(rt, &LoadRefusal::InUse { loading: path })),
+        Ok(None) => Err(refuse(
+            rt,
+            &format_args!(
+                "{path}: another load is at work there: wait for it, or give another folder"
+            ),
+        )),
         Err(reason) => Err(fail_at(rt, path, &FileFault::System(reason))),
     }
 }
@@ -227,20 +185,12 @@ fn try_lock_folder(rt: &HostRuntime, path: &str) -> io::Result<Option<File>> {
 /// nothing.
 fn clear(rt: &HostRuntime, loading: &str) -> Result<(), Status> {
     for name in names_in(rt, loading)? {
-        remove(rt, loading, name.as_str())?;
+        let path = or_stop(rt, Path::new(loading).join(rt.alloc(), name.as_str()))?;
+        if let Err(reason) = fs::remove_file(rt, path.as_str()) {
+            return Err(fail_at(rt, path.as_str(), &FileFault::System(reason)));
+        }
     }
     Ok(())
-}
-
-/// Removes the file of this name.
-fn remove(rt: &HostRuntime, loading: &str, name: &str) -> Result<(), Status> {
-    let Ok(path) = Path::new(loading).join(rt.alloc(), name) else {
-        return Err(stop_without_memory(rt));
-    };
-    match fs::remove_file(rt, path.as_str()) {
-        Ok(()) => Ok(()),
-        Err(reason) => Err(fail_at(rt, path.as_str(), &FileFault::System(reason))),
-    }
 }
 
 /// The names in the folder, if each is one that a load gives. Prints a message if one isn't.
@@ -267,7 +217,10 @@ fn own_name_of(
     match entry {
         Ok(entry) => own_name(rt, loading, entry.file_name()),
         Err(reason) if reason.kind() == ErrorKind::InvalidFilename => {
-            Err(refuse(rt, &LoadRefusal::OddName { loading }))
+            let line = format_args!(
+                "{loading}: it has a file whose name is no text: move it out of there"
+            );
+            Err(refuse(rt, &line))
         }
         Err(reason) => Err(fail_at_folder(rt, loading, reason)),
     }
@@ -275,14 +228,11 @@ fn own_name_of(
 
 /// The name, if it is one that a load gives. Prints a message if it isn't.
 fn own_name(rt: &HostRuntime, loading: &str, name: &str) -> Result<String, Status> {
-    let Ok(index) = index_of_name(rt.alloc(), name, MAX_COUNT) else {
-        return Err(stop_without_memory(rt));
-    };
-    let Ok(name) = String::from_str(rt.alloc(), name) else {
-        return Err(stop_without_memory(rt));
-    };
-    match index {
-        Some(_) => Ok(name),
-        None => Err(refuse(rt, &LoadRefusal::Foreign { loading, name })),
+    match or_stop(rt, index_of_name(rt.alloc(), name, MAX_COUNT))? {
+        Some(_) => or_stop(rt, String::from_str(rt.alloc(), name)),
+        None => Err(refuse(
+            rt,
+            &format_args!("{loading}/{name}: it is not what a load leaves: move it out of there"),
+        )),
     }
 }

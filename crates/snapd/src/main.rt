@@ -8,8 +8,7 @@
 
 ghost use Rattle.std.specs.Prelude.{◌≡◌, ◌<◌, ◌≤◌, length};
 ghost use Rattle.snap_order.specs.Limits.{MAX_COUNT};
-ghost use Rattle.snap_order.specs.Order.{IsCallable, IsDumpable, IsFileWithinLimits, IsLoadable};
-ghost use Rattle.snap_order.specs.Order.{IsOneTo, IsPlace, IsServable, IsWatchable, IsWithinLimits};
+ghost use Rattle.snap_order.specs.Order.{IsFileWithinLimits, IsPlace, IsServable, IsWithinLimits};
 ghost use Rattle.snap_order.specs.Order.{KeepsLimits};
 
 mod call_command;
@@ -23,50 +22,38 @@ mod folder_refusal;
 mod http_place;
 mod http_view;
 mod init_command;
-mod link;
 mod load_command;
 mod loading_folder;
 mod remedy;
-mod right_order;
-mod run_log;
 mod serve_command;
-mod store_log;
+mod server_log;
 mod store_times;
 mod surroundings;
 mod time_limit;
 mod tries;
-mod update_watch;
 mod watch_command;
 
 use call_command::call;
 use complaint::{fail_in, say, stop, stop_without_memory};
 use doctor_command::examine;
 use dump_command::dump;
-use files::{
-    FirstFault, check_streams, first_faults, take_file, take_pair, too_short_files, writes,
-};
+use files::{FirstFault, take_file, take_pair, too_short_files, writes};
 use folder::{files_in_order, segment_files};
-use http_place::open_http;
 use init_command::init;
 use load_command::load;
-use right_order::say_right_order;
-use serve_command::{serve, take_files};
+use serve_command::{say_right_order, serve};
 use snap_args::{WordFault, lack_of, order};
 use snap_disk::Disk;
 use snap_file_commands::{Causes, CommandFault, act, act_pair, finish};
-use snap_order::{
-    CallOptions, DoctorOptions, DumpOptions, DumpSource, FileOrder, InitOptions, LoadOptions,
-    MigrateOptions, Order, ServeOptions, Status, WatchOptions,
-};
+use snap_order::{DumpOptions, DumpSource, FileOrder, MigrateOptions, Order, ServeOptions, Status};
 use snap_script::play;
 use snap_slot::FILE_LEN;
 use std::env;
-use std::fs::File;
 use std::io::{BufWriter, ErrorKind};
 use std::net::Net;
+use std::os::fd::AsFd;
 use std::process::ExitCode;
-use std::random::RandomSource;
-use std::rt::{Clock, Files};
+use std::rt::Clock;
 use std::sync::Wait;
 use std::thread::Threads;
 use watch_command::watch;
@@ -74,7 +61,10 @@ use watch_command::watch;
 fn main(rt: HostRuntime) -> ExitCode {
     let status = match words_of(&rt) {
         Ok(words) => match order(rt.alloc(), words.as_slice()) {
-            Ok(order) => do_order(&rt, &rt, order),
+            Ok(order) => match do_order(&rt, &rt, order) {
+                Ok(status) => status,
+                Err(status) => status,
+            },
             Err(fault) => explain(&rt, &fault),
         },
         Err(fault) => explain(&rt, &fault),
@@ -91,25 +81,60 @@ fn words_of(rt: &HostRuntime) -> Result<Vec<String>, WordFault> {
     }
 }
 
-/// Runs the command of the order. `threads` is the runtime again, for commands that may block, start threads and open
-/// sockets.
-fn do_order<
-    X: Threads + Wait + Clock + Net + Files<File = File> + RandomSource + Sync + Send + Copy,
->(threads: &X, rt: &HostRuntime, order: Order<'_>) -> Status
+/// Runs the command of the order, if the system has what it needs, and returns the exit status; as
+/// an error, if it ended early. `threads` is the runtime again, for commands that may block, start
+/// threads and open sockets.
+fn do_order<X>(threads: &X, rt: &HostRuntime, order: Order<'_>) -> Result<Status, Status>
+where
+    X: Threads + Wait + Clock + Net + Sync + Send + Copy,
     requires { IsWithinLimits order }
 {
+    if !may_run(rt, &order) {
+        return Err(Status::Failed);
+    }
     match order {
         Order::File(order) => run(rt, &order),
         Order::Migrate(order) => run_migration(rt, &order),
-        Order::Init(order) => run_init(rt, &order),
-        Order::Doctor(order) => run_doctor(rt, &order),
+        Order::Init(order) => init(rt, &order),
+        Order::Doctor(order) => examine(rt, &order),
         Order::Serve(order) => run_server(threads, rt, &order),
         Order::ServeFolder { folder, serving } => run_folder_server(threads, rt, folder, serving),
-        Order::Call(order) => run_call(rt, &order),
-        Order::Watch(order) => run_watch(threads, rt, &order),
-        Order::Dump(order) => run_dump(rt, &order),
-        Order::Load(order) => run_load(rt, &order),
-        Order::Script => play_script(threads, rt),
+        Order::Call(order) => Ok(call(rt, &order)),
+        Order::Watch(order) => watch(threads, rt, &order),
+        Order::Dump(order) => dump(rt, &order),
+        Order::Load(order) => load(rt, &order),
+        Order::Script => Ok(play_script(threads, rt)),
+    }
+}
+
+/// Checks what a command needs of the system before it opens a file. Prints a message if something
+/// is missing.
+fn may_run(rt: &HostRuntime, order: &Order<'_>) -> bool {
+    match order {
+        Order::Script => true,
+        Order::Serve(serving) => may_serve(rt, serving),
+        Order::ServeFolder { serving, .. } => may_serve(rt, serving),
+        Order::Call(order) => are_streams_open(rt) && is_address(rt, order.address),
+        Order::Watch(order) => are_streams_open(rt) && is_address(rt, order.address),
+        Order::Dump(order) => are_streams_open(rt) && may_dump(rt, order),
+        _ => are_streams_open(rt) && (!is_writing(order) || may_write(rt)),
+    }
+}
+
+/// Whether a command on files writes them.
+fn is_writing(order: &Order<'_>) -> bool {
+    match order {
+        Order::File(order) => writes(order),
+        Order::Doctor(order) => order.is_measured,
+        _ => true,
+    }
+}
+
+/// Checks the address of the server that is dumped, if one is.
+fn may_dump(rt: &HostRuntime, order: &DumpOptions<'_>) -> bool {
+    match order.holder {
+        DumpSource::Server { address } => is_address(rt, address),
+        DumpSource::Folder { .. } => true,
     }
 }
 
@@ -133,116 +158,67 @@ fn explain(rt: &HostRuntime, fault: &WordFault) -> Status {
 }
 
 /// Runs a command on one file.
-fn run<'a>(rt: &'a HostRuntime, order: &FileOrder<'a>) -> Status
+fn run(rt: &HostRuntime, order: &FileOrder<'_>) -> Result<Status, Status>
     requires { IsFileWithinLimits order.now }
 {
-    if !are_streams_open(rt) || (writes(order) && !may_write(rt)) {
-        return Status::Failed;
-    }
     let told = FirstFault::new();
-    let disk = match take_file(rt, order, order.file(), &told) {
-        Ok(disk) => disk,
-        Err(status) => return status,
-    };
+    let disk = take_file(rt, order, order.file(), &told)?;
     let len = disk.len();
     let (mut reader, mut writer) = (rt.stdin(), rt.stdout());
     let (_disk, end) = act(rt.alloc(), order, disk, &mut reader, &mut writer);
-    finish(rt.alloc(), order, len, end, &told, &mut rt.stderr()).status
+    Ok(finish(rt.alloc(), order, len, end, &told, &mut rt.stderr()).status)
 }
 
 /// Runs the command `migrate`.
-fn run_migration<'a>(rt: &'a HostRuntime, order: &MigrateOptions<'a>) -> Status
+fn run_migration<'a>(rt: &'a HostRuntime, order: &MigrateOptions<'a>) -> Result<Status, Status>
     requires { IsPlace order.now.index order.now.count }
 {
-    if !are_streams_open(rt) || !may_write(rt) {
-        return Status::Failed;
-    }
     let (told_old, told_new) = (FirstFault::new(), FirstFault::new());
     let (old_path, new_path) = (order.old, order.new);
-    let (old, new) = match take_pair(rt, order, old_path, new_path, &told_old, &told_new) {
-        Ok(pair) => pair,
-        Err(status) => return status,
-    };
+    let (old, new) = take_pair(rt, order, old_path, new_path, &told_old, &told_new)?;
     let (_old, _new, end) = act_pair(rt.alloc(), order, old, new, &mut rt.stdout());
     let causes = Causes {
         old: &told_old,
         new: &told_new,
     };
     match end {
-        Ok(status) => status,
+        Ok(status) => Ok(status),
         Err(failure) => {
-            failure
-                .report(rt.alloc(), order, &causes, &mut rt.stderr())
-                .status
+            let ended = failure.report(rt.alloc(), order, &causes, &mut rt.stderr());
+            Err(ended.status)
         }
     }
 }
 
-/// Runs the command `init`.
-fn run_init(rt: &HostRuntime, order: &InitOptions<'_>) -> Status
-    requires { IsOneTo MAX_COUNT order.now.count }
-{
-    if !are_streams_open(rt) || !may_write(rt) {
-        return Status::Failed;
-    }
-    init(rt, order)
-}
-
-/// Runs the command `doctor`.
-fn run_doctor(rt: &HostRuntime, order: &DoctorOptions<'_>) -> Status {
-    if !are_streams_open(rt) || (order.is_measured && !may_write(rt)) {
-        return Status::Failed;
-    }
-    examine(rt, order)
-}
-
 /// Serves the order's files. `threads` is the runtime again, for what may block, start threads and
 /// open sockets.
-fn run_server<
-    X: Threads + Wait + Clock + Net + Files<File = File> + RandomSource + Sync + Send + Copy,
->(threads: &X, rt: &HostRuntime, order: &ServeOptions<'_>) -> Status
+fn run_server<X>(threads: &X, rt: &HostRuntime, order: &ServeOptions<'_>) -> Result<Status, Status>
+where
+    X: Threads + Wait + Clock + Net + Sync + Send + Copy,
     requires { IsServable order.now }
 {
-    if !may_serve(rt, order) {
-        return Status::Failed;
-    }
-    let status = serve_files(threads, rt, order, None);
-    if status == Status::Refused {
+    let ended = serve(threads, rt, order, None);
+    if ended == Ok(Status::Refused) {
         say_right_order(rt, order);
     }
-    status
+    ended
 }
 
-/// Serves the files of a folder. `serving` has none yet.
-fn run_folder_server<
-    X: Threads + Wait + Clock + Net + Files<File = File> + RandomSource + Sync + Send + Copy,
->(threads: &X, rt: &HostRuntime, folder: &str, serving: ServeOptions<'_>) -> Status
-    requires { KeepsLimits serving }
-{
-    if !may_serve(rt, &serving) {
-        return Status::Failed;
-    }
-    match segment_files(rt, folder) {
-        Ok(files) => serve_in_order(threads, rt, folder, &files, serving),
-        Err(status) => status,
-    }
-}
-
-/// Serves these files of the folder, in order of segment.
-fn serve_in_order<
-    X: Threads + Wait + Clock + Net + Files<File = File> + RandomSource + Sync + Send + Copy,
->(
+/// Serves the files of a folder, in order of segment. `serving` has none yet.
+fn run_folder_server<X>(
     threads: &X,
     rt: &HostRuntime,
     folder: &str,
-    files: &[String],
     serving: ServeOptions<'_>,
-) -> Status
+) -> Result<Status, Status>
+where
+    X: Threads + Wait + Clock + Net + Sync + Send + Copy,
     requires { KeepsLimits serving }
 {
-    match files_in_order(rt, rt.alloc(), folder, files) {
-        Ok(files) => serve_files(threads, rt, &with_files(serving, files), Some(folder)),
-        Err(trouble) => fail_in(rt, &trouble),
+    let files = segment_files(rt, folder)?;
+    match files_in_order(rt, rt.alloc(), folder, &files) {
+        Ok(files) => serve(threads, rt, &with_files(serving, files), Some(folder)),
+        Err(trouble) => Err(fail_in(rt, &trouble)),
     }
 }
 
@@ -272,78 +248,23 @@ fn may_serve(rt: &HostRuntime, order: &ServeOptions<'_>) -> bool {
         && may_write(rt)
 }
 
-/// Opens the files, and serves them. `folder` is their folder, if the arguments name one.
-fn serve_files<
-    X: Threads + Wait + Clock + Net + Files<File = File> + RandomSource + Sync + Send + Copy,
->(threads: &X, rt: &HostRuntime, order: &ServeOptions<'_>, folder: Option<&str>) -> Status
-    requires { IsServable order.now }
-{
-    let place = match open_http(threads, rt, order) {
-        Ok(place) => place,
-        Err(status) => return status,
-    };
-    let Ok(told) = first_faults(rt.alloc(), order.files.len()) else {
-        return stop_without_memory(rt);
-    };
-    match take_files(rt, &order.files, &told) {
-        Ok(devices) => serve(threads, rt, order, folder, devices, &told, place),
-        Err(status) => status,
-    }
-}
-
-/// Runs the command `call`.
-fn run_call(rt: &HostRuntime, order: &CallOptions<'_>) -> Status
-    requires { IsCallable order.now }
-{
-    if !are_streams_open(rt) || !is_address(rt, order.address) {
-        return Status::Failed;
-    }
-    call(rt, rt, order)
-}
-
-/// Runs the command `watch`. `waiting` is the runtime again, for calls that may block and open sockets.
-fn run_watch<X: Wait + Clock + Net>(
-    waiting: &X,
-    rt: &HostRuntime,
-    order: &WatchOptions<'_>,
-) -> Status
-    requires { IsWatchable order.now }
-{
-    if !are_streams_open(rt) || !is_address(rt, order.address) {
-        return Status::Failed;
-    }
-    watch(waiting, rt, order)
-}
-
-/// Runs the command `dump`.
-fn run_dump(rt: &HostRuntime, order: &DumpOptions<'_>) -> Status
-    requires { IsDumpable order.now }
-{
-    if !are_streams_open(rt) {
-        return Status::Failed;
-    }
-    match order.holder {
-        DumpSource::Server { address } if !is_address(rt, address) => Status::Failed,
-        _ => dump(rt, order),
-    }
-}
-
-/// Runs the command `load`.
-fn run_load(rt: &HostRuntime, order: &LoadOptions<'_>) -> Status
-    requires { IsLoadable order.now }
-{
-    if !are_streams_open(rt) || !may_write(rt) {
-        return Status::Failed;
-    }
-    load(rt, order)
-}
-
-/// Whether the standard streams are open. Prints which one isn't.
+/// Whether standard input, output and error are all open. Prints which one isn't.
+///
+/// An opened file gets the lowest free descriptor. If one of the three were closed, a segment file
+/// would get its number, and the program's output would be written into the segment.
 fn are_streams_open(rt: &HostRuntime) -> bool {
-    match check_streams(&rt.stdin(), &rt.stdout(), &rt.stderr()) {
-        Ok(()) => true,
-        Err(why) => {
-            say(rt, &why);
+    is_open(rt, "standard input", &rt.stdin())
+        && is_open(rt, "standard output", &rt.stdout())
+        && is_open(rt, "standard error", &rt.stderr())
+}
+
+/// Whether the stream is open: a closed descriptor can't be duplicated. Prints the reason if it
+/// isn't.
+fn is_open<F: AsFd>(rt: &HostRuntime, name: &str, stream: &F) -> bool {
+    match stream.as_fd().try_clone_to_owned() {
+        Ok(_copy) => true,
+        Err(reason) => {
+            say(rt, &format_args!("{name}: {reason}"));
             false
         }
     }

@@ -4,34 +4,29 @@ ghost use Rattle.std.specs.Thread.{IsSync};
 ghost use Rattle.snap_devices.specs.FileDisk.{IsUncalled};
 ghost use Rattle.snap_order.specs.Order.{IsServable};
 
-use crate::complaint::{fail_at_file, fail_twice, say, stop_without_memory};
-use crate::files::FirstFault;
-use crate::http_place::HttpPlace;
+use crate::complaint::{fail, fail_at_file, fail_twice, or_stop, say, stop_without_memory};
+use crate::files::{FirstFault, first_faults};
+use crate::folder::files_in_order;
+use crate::http_place::{HttpPlace, open_http};
 use crate::http_view::HttpView;
-use crate::run_log::RunLog;
-use crate::store_log::StoreLog;
+use crate::server_log::{ServerLog, Spaced};
 use crate::surroundings::{Process, millis_since_1970, most_descriptors};
-use crate::update_watch::UpdateWatch;
 use log::{LevelFilter, warn};
 use snap_args::is_everywhere;
 use snap_devices::{FileDisk, FileFault, Lock};
 use snap_disk::Disk;
 use snap_http::MAX_CONNECTIONS;
 use snap_log::{Destination, Lines, write_lines};
-use snap_metrics::{Metrics, TimedDisk, time_all};
+use snap_metrics::{Metrics, time_all};
 use snap_order::{Exit, ServeOptions, Status};
 use snap_serve::{Environment, Network, Observer, host, log_note};
 use snap_server::{NoGate, ServerEvent, ServerFault};
 use std::alloc::{AllocError, Global};
-use std::fs::File;
 use std::net::Net;
-use std::rt::{Clock, Files};
+use std::rt::Clock;
 use std::sync::Wait;
 use std::thread::{self, Threads};
 use std::time::{Duration, Instant};
-
-/// A server's file, whose stores are timed.
-type TimedFile<'a, X> = TimedDisk<'a, FileDisk<'a, HostRuntime>, X>;
 
 /// The reason why the files of a server couldn't be opened.
 #[derive(Drop)]
@@ -46,7 +41,7 @@ enum FilesFault<'a> {
 
 /// Opens the order's files as devices, in order, each with an exclusive lock. `told` gets for each
 /// file the reason why a call on it fails. Prints the reason if one can't be opened.
-pub fn take_files<'f>(
+fn take_files<'f>(
     rt: &'f HostRuntime,
     files: &'f Vec<&str>,
     told: &'f Vec<FirstFault>,
@@ -63,12 +58,12 @@ pub fn take_files<'f>(
 }
 
 /// [`take_files`] without the message.
-fn open_files<'a, 'f, R: Files<File = File> + Clock>(
-    rt: &'f R,
+fn open_files<'a, 'f>(
+    rt: &'f HostRuntime,
     alloc: Global,
     files: &'f Vec<&'a str>,
     told: &'f Vec<FirstFault>,
-) -> Result<Vec<FileDisk<'f, R>>, FilesFault<'a>>
+) -> Result<Vec<FileDisk<'f, HostRuntime>>, FilesFault<'a>>
     ensures count { IfOk result (λ devices. length devices.items ≡ length files.now.items) }
     ensures uncalled { IfOk result (λ devices. All IsUncalled devices.items) }
 {
@@ -89,11 +84,11 @@ fn open_files<'a, 'f, R: Files<File = File> + Clock>(
 }
 
 /// Opens the file at this path as a device, which puts the reason of a failed call in `told`.
-fn open_telling<'f, R: Files<File = File> + Clock>(
-    rt: &'f R,
+fn open_telling<'f>(
+    rt: &'f HostRuntime,
     file: &'f str,
     told: Option<&'f FirstFault>,
-) -> Result<FileDisk<'f, R>, FileFault>
+) -> Result<FileDisk<'f, HostRuntime>, FileFault>
     ensures { IfOk result IsUncalled }
 {
     let disk = FileDisk::open(rt, file, Lock::Exclusive)?;
@@ -105,9 +100,9 @@ fn open_telling<'f, R: Files<File = File> + Clock>(
 
 /// The fault of the file at this path, after these devices were opened: if it is in use by one of
 /// them, both paths name one file.
-fn fault_at<'a, R: Files<File = File> + Clock>(
+fn fault_at<'a>(
     files: &[&'a str],
-    devices: &[FileDisk<'_, R>],
+    devices: &[FileDisk<'_, HostRuntime>],
     second: &'a str,
     fault: FileFault,
 ) -> FilesFault<'a> {
@@ -144,31 +139,47 @@ struct Look<'a> {
     place: Option<HttpPlace>,
 }
 
-/// Serves these devices. A thread of its own writes the log to standard error, and another one
-/// answers HTTP if `place` is given. `folder` is that of the files, if the arguments name one.
-/// Prints the reason if it can't start.
-pub fn serve<'x, X>(
+/// Opens the order's files, and serves them. A thread of its own writes the log to standard error,
+/// and another one answers HTTP if the order has an address for it. `folder` is that of the files,
+/// if the arguments name one. Prints the reason if it can't start.
+pub fn serve<X>(
     rt: &X,
-    system: &'x HostRuntime,
-    order: &'x ServeOptions<'x>,
-    folder: Option<&'x str>,
-    devices: Vec<FileDisk<'_, HostRuntime>>,
-    told: &Vec<FirstFault>,
-    place: Option<HttpPlace>,
-) -> Status
+    system: &HostRuntime,
+    order: &ServeOptions<'_>,
+    folder: Option<&str>,
+) -> Result<Status, Status>
 where
-    X: Threads + Wait + Clock + Net + Files<File = File> + Sync + Send + Copy,
-    requires order { IsServable order.now }
-    requires devices { length devices.items ≡ length order.now.files.items }
-    requires uncalled { All IsUncalled devices.items }
+    X: Threads + Wait + Clock + Net + Sync + Send + Copy,
+    requires { IsServable order.now }
 {
-    match serve_counted(rt, system, order, folder, devices, told, place) {
-        Ok(ended) => ended.status,
-        Err(ServerFault::NoMemory) => stop_without_memory(system),
-        Err(fault) => {
-            say(system, &fault);
-            Status::Failed
-        }
+    let place = open_http(system, order)?;
+    let told = or_stop(system, first_faults(system.alloc(), order.files.len()))?;
+    let devices = take_files(system, &order.files, &told)?;
+    match serve_counted(rt, system, order, folder, devices, &told, place) {
+        Ok(ended) => Ok(ended.status),
+        Err(ServerFault::NoMemory) => Err(stop_without_memory(system)),
+        Err(fault) => Err(fail(system, &fault)),
+    }
+}
+
+/// After a refusal, prints the order of the server's files by their headers, if they were given in
+/// another one. Prints nothing if a header can't be read, or if they aren't the segments of one
+/// server: the refusal said so.
+pub fn say_right_order(rt: &HostRuntime, serving: &ServeOptions<'_>) {
+    let Ok(files) = texts_of(rt.alloc(), &serving.files) else {
+        return;
+    };
+    let Ok(names) = files_in_order(rt, rt.alloc(), "", &files) else {
+        return;
+    };
+    if names
+        .iter()
+        .zip(&serving.files)
+        .any(|(name, file)| name != file)
+    {
+        let names = Spaced(&names);
+        let line = format_args!("each file names its segment, and this is their order: {names}");
+        say(rt, &line);
     }
 }
 
@@ -184,7 +195,7 @@ fn serve_counted<'x, X>(
     place: Option<HttpPlace>,
 ) -> Result<Exit, ServerFault>
 where
-    X: Threads + Wait + Clock + Net + Files<File = File> + Sync + Send + Copy,
+    X: Threads + Wait + Clock + Net + Sync + Send + Copy,
     requires order { IsServable order.now }
     requires devices { length devices.items ≡ length order.now.files.items }
     requires uncalled { All IsUncalled devices.items }
@@ -232,7 +243,7 @@ fn serve_logged<'x, X>(
     look: Look<'x>,
 ) -> Result<Exit, ServerFault>
 where
-    X: Threads + Wait + Clock + Net + Files<File = File> + Sync + Send + Copy,
+    X: Threads + Wait + Clock + Net + Sync + Send + Copy,
     requires order { IsServable order.now }
     requires devices { length devices.items ≡ length order.now.files.items }
     requires uncalled { All IsUncalled devices.items }
@@ -313,8 +324,9 @@ fn warn_of_everywhere<X: Wait + Clock>(log: &Lines<'_, X>, order: &ServeOptions<
     }
 }
 
-/// Serves these devices with their stores timed. Fails, before it does anything, only if memory
-/// runs out.
+/// Serves these devices with their stores timed, with the warnings and the HTTP thread. Fails,
+/// before it does anything, only if memory runs out.
+#[tactic(auto, using(crate::proofs::Uncalled::headroom))]
 fn host_logged<'x, X>(
     rt: &X,
     order: &'x ServeOptions<'x>,
@@ -324,41 +336,21 @@ fn host_logged<'x, X>(
     look: Look<'x>,
 ) -> Result<Exit, ServerFault>
 where
-    X: Threads + Wait + Clock + Net + Files<File = File> + Sync + Send + Copy,
+    X: Threads + Wait + Clock + Net + Sync + Send + Copy,
     requires order { IsServable order.now }
     requires devices { length devices.items ≡ length order.now.files.items }
     requires uncalled { All IsUncalled devices.items }
     requires workers { order.now.scanners ≤ look.process.metrics.now.workers }
     requires segments { length devices.items ≤ look.process.metrics.now.segments }
 {
-    let system = look.process.rt;
-    match time_all(system.alloc(), devices, *rt, look.process.metrics) {
-        Ok(devices) => Ok(host_timed(rt, order, devices, told, log, look)),
-        Err(AllocError) => Err(ServerFault::NoMemory),
-    }
-}
-
-/// Serves these timed devices, with the warnings and the HTTP thread.
-#[tactic(auto, using(crate::proofs::Uncalled::headroom))]
-fn host_timed<'x, X>(
-    rt: &X,
-    order: &'x ServeOptions<'x>,
-    devices: Vec<TimedFile<'_, X>>,
-    told: &'x Vec<FirstFault>,
-    log: &'x Lines<'x, X>,
-    look: Look<'x>,
-) -> Exit
-where
-    X: Threads + Wait + Clock + Net + Files<File = File> + Sync + Send + Copy,
-    requires order { IsServable order.now }
-    requires devices { length devices.items ≡ length order.now.files.items }
-    requires uncalled { All IsUncalled devices.items }
-    requires metrics { order.now.scanners ≤ look.process.metrics.now.workers }
-{
+    let Look { process, place } = look;
+    let system = *process.rt;
+    let Ok(devices) = time_all(system.alloc(), devices, system, process.metrics) else {
+        return Err(ServerFault::NoMemory);
+    };
     warn_of_everywhere(log, order);
-    let process = look.process;
-    let view = view_of(log, look);
-    host_noted(rt, order, devices, told, log, process, view.as_ref())
+    let view = HttpView::at(place, log, process);
+    Ok(host_noted(rt, order, devices, told, log, process, view.as_ref()))
 }
 
 /// Serves these devices, and logs and counts the server's events.
@@ -372,7 +364,7 @@ fn host_noted<'x, X, D, O>(
     observer: Option<&O>,
 ) -> Exit
 where
-    X: Threads + Wait + Clock + Net + Files<File = File> + Sync + Send + Copy,
+    X: Threads + Wait + Clock + Net + Sync + Send + Copy,
     D: Disk + Send + Drop,
     O: Observer + Sync,
     requires order { IsServable order.now }
@@ -388,19 +380,17 @@ where
         log_note(log, told)
     };
     let environment = Environment {
-        bind: &Network::new(rt, u32::from(order.socket_mode)),
+        bind: &Network::new(system, u32::from(order.socket_mode)),
         gate: &NoGate,
         note: &note,
-        watch: UpdateWatch::new(
-            StoreLog::new(log, &order.files, told),
-            RunLog::new(log, process),
-            metrics,
-        ),
+        watch: ServerLog { log, process, told },
         metrics,
         observer,
         causes: told,
         clients: most_clients(order),
-        idle: patience_of(order),
+        idle: order
+            .idle
+            .map(|seconds| Duration::from_secs(u64::from(seconds))),
     };
     let (mut writer, mut errors) = (system.stdout(), system.stderr());
     host(
@@ -412,21 +402,4 @@ where
         &mut writer,
         &mut errors,
     )
-}
-
-/// The HTTP thread, if there is a listener for it.
-fn view_of<'x, X: Wait + Clock>(log: &'x Lines<'x, X>, look: Look<'x>) -> Option<HttpView<'x, X>> {
-    let Look { process, place } = look;
-    match place {
-        Some(place) => Some(HttpView::new(process.rt.alloc(), log, process, place)),
-        None => None,
-    }
-}
-
-/// The idle timeout.
-fn patience_of(order: &ServeOptions<'_>) -> Option<Duration> {
-    match order.idle {
-        Some(seconds) => Some(Duration::from_secs(u64::from(seconds))),
-        None => None,
-    }
 }

@@ -8,12 +8,12 @@ use snap_segment::{Segment, format};
 use snap_slot::FILE_LEN;
 use snap_stream::SystemReason;
 use std::alloc::{AllocError, Global};
+use std::fmt::{self, Display, Formatter, Write};
 use std::fs::{self, File};
 use std::io::{self, ErrorKind};
 use std::os::unix::fs::MetadataExt;
 use std::path::Path;
 use std::time::{Duration, Instant};
-use thiserror::Error;
 
 /// How many values are stored.
 pub const STORES: usize = 200;
@@ -26,7 +26,7 @@ pub const STORED_LEN: usize = 1_000;
 const NAMES: u8 = 100;
 
 /// The measured times of the stores.
-#[derive(Clone, Copy, Debug)]
+#[derive(Clone, Copy)]
 pub struct StoreTimes {
     /// The median: half of them took no longer.
     pub median: Duration,
@@ -45,23 +45,32 @@ impl StoreTimes {
 }
 
 /// The reason why nothing was measured.
-#[derive(Debug, Drop, Error)]
+#[derive(Drop)]
 pub enum MeasureFault {
     /// The file couldn't be made.
-    #[error("{0}")]
     File(FileFault),
     /// A call on the file failed, for this reason of the system.
-    #[error("{0}")]
     Store(String),
     /// The system has no clock, or the file couldn't be removed.
-    #[error("{0}")]
     System(io::Error),
     /// All names are taken.
-    #[error("all names from doctor-0.tmp on are taken: remove what is left of them")]
     Crowded,
     /// Memory ran out.
-    #[error("out of memory")]
     NoMemory,
+}
+
+impl Display for MeasureFault {
+    fn fmt<W: Write>(&self, f: &mut Formatter<W>) -> fmt::Result {
+        match self {
+            MeasureFault::File(fault) => fault.fmt(f),
+            MeasureFault::Store(reason) => reason.fmt(f),
+            MeasureFault::System(reason) => reason.fmt(f),
+            MeasureFault::Crowded => f.write_str(
+                "all names from doctor-0.tmp on are taken: remove what is left of them",
+            ),
+            MeasureFault::NoMemory => f.write_str("out of memory"),
+        }
+    }
 }
 
 impl From<AllocError> for MeasureFault {
@@ -149,9 +158,8 @@ fn store_all<'p>(
 ) -> (FileDisk<'p, HostRuntime>, Result<StoreTimes, MeasureFault>)
     requires { IsUncalled disk }
 {
-    match format(&mut disk, 0, 1) {
-        Ok(()) => {}
-        Err(_) => return (disk, Err(MeasureFault::Store(String::new(alloc)))),
+    if format(&mut disk, 0, 1).is_err() {
+        return (disk, Err(MeasureFault::Store(String::new(alloc))));
     }
     match Segment::open(alloc, disk, 0, 1) {
         Ok(mut segment) => {
@@ -168,7 +176,12 @@ fn time_stores<D: Disk>(
     alloc: Global,
     segment: &mut Segment<D>,
 ) -> Result<StoreTimes, MeasureFault> {
-    let mut times = times_of(rt, alloc, segment)?;
+    let mut times = Vec::with_capacity(alloc, STORES)?;
+    for _ in 0..STORES {
+        if times.push(time_store(rt, alloc, segment)?).is_err() {
+            return Err(MeasureFault::NoMemory);
+        }
+    }
     times.sort_unstable();
     match (times.get(STORES / 2), times.get(STORES * 99 / 100)) {
         (Some(median), Some(late)) => Ok(StoreTimes {
@@ -177,21 +190,6 @@ fn time_stores<D: Disk>(
         }),
         _ => Err(MeasureFault::NoMemory),
     }
-}
-
-/// The time of each store, in order.
-fn times_of<D: Disk>(
-    rt: &HostRuntime,
-    alloc: Global,
-    segment: &mut Segment<D>,
-) -> Result<Vec<Duration>, MeasureFault> {
-    let mut times = Vec::with_capacity(alloc, STORES)?;
-    for _ in 0..STORES {
-        if times.push(time_store(rt, alloc, segment)?).is_err() {
-            return Err(MeasureFault::NoMemory);
-        }
-    }
-    Ok(times)
 }
 
 /// The time of one store.

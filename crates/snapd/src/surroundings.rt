@@ -106,14 +106,16 @@ fn processor_time() -> Option<u64> {
 
 /// The most descriptors that this process may have open.
 pub fn most_descriptors() -> Option<u64> {
+    limit_of(libc::RLIMIT_NOFILE)
+}
+
+/// The limit of this process on a resource, by its number at `getrlimit`.
+pub fn limit_of(resource: i32) -> Option<u64> {
     let mut limit = libc::types::rlimit {
         rlim_cur: 0,
         rlim_max: 0,
     };
-    if libc::getrlimit(libc::RLIMIT_NOFILE, &mut limit) != 0 {
-        return None;
-    }
-    Some(limit.rlim_cur)
+    (libc::getrlimit(resource, &mut limit) == 0).then_some(limit.rlim_cur)
 }
 
 /// A server in this process, as the HTTP thread shows it: with its log, and the samples of the last

@@ -1,35 +1,28 @@
 //! Connections whose reads and writes end at a time limit.
 ghost use Rattle.std.specs.Io.{ReadsAtMost, WritesAtMost};
 
-use crate::link::Link;
 use std::cell::Cell;
 use std::io::{self, ErrorKind, Read, Write};
-use std::net::OpenStream;
-use std::rt::Clock;
+use std::net::TcpStream;
 use std::sync::atomic::{AtomicBool, Ordering};
 use std::time::{Duration, Instant};
 
 /// The time at which a call ends.
-#[derive(Drop)]
-pub struct TimeLimit<'c, 'o, C> {
-    pub clock: &'c C,
+#[derive(Clone, Copy, Drop)]
+pub struct TimeLimit<'a> {
+    pub clock: &'a HostRuntime,
     /// `None` without a limit.
     pub end: Option<Instant>,
     /// Set once something has waited until then.
-    pub is_over: &'o AtomicBool,
+    pub is_over: &'a AtomicBool,
 }
 
-impl<'c, 'o, C: Clock> TimeLimit<'c, 'o, C> {
+impl<'a> TimeLimit<'a> {
     /// Limits the reads and writes of a connection, and records its failures in `course`.
-    pub fn on<'a, S>(&'a self, stream: Link<S>, course: &'a Course) -> LimitedStream<'a, C, S> {
-        let limit = TimeLimit {
-            clock: self.clock,
-            end: self.end,
-            is_over: self.is_over,
-        };
+    pub fn on(self, stream: TcpStream, course: &'a Course) -> LimitedStream<'a> {
         LimitedStream {
             stream,
-            limit,
+            limit: self,
             course,
         }
     }
@@ -108,20 +101,20 @@ impl Course {
 
 /// A connection whose reads and writes end at the time limit.
 #[derive(Drop)]
-pub struct LimitedStream<'a, C, S> {
-    pub stream: Link<S>,
-    pub limit: TimeLimit<'a, 'a, C>,
-    pub course: &'a Course,
+pub struct LimitedStream<'a> {
+    stream: TcpStream,
+    limit: TimeLimit<'a>,
+    course: &'a Course,
 }
 
-impl<'a, C: Clock, S: Read + OpenStream> LimitedStream<'a, C, S> {
+impl LimitedStream<'_> {
     /// Reads, again after a signal, until the time is over.
     fn read_in_time(&mut self, buf: &mut [u8]) -> io::Result<usize>
         ensures { ReadsAtMost result buf.new }
     {
         for _ in 0..u64::MAX {
             if let Some(left) = self.limit.left()? {
-                self.stream.set_read_timeout(left)?;
+                self.stream.set_read_timeout(Some(left))?;
             }
             match self.stream.read(buf) {
                 Err(error) if is_early(error) => {}
@@ -130,16 +123,14 @@ impl<'a, C: Clock, S: Read + OpenStream> LimitedStream<'a, C, S> {
         }
         Err(io::Error::from(ErrorKind::Interrupted))
     }
-}
 
-impl<'a, C: Clock, S: Write + OpenStream> LimitedStream<'a, C, S> {
     /// Writes, again after a signal, until the time is over.
     fn write_in_time(&mut self, buf: &[u8]) -> io::Result<usize>
         ensures { WritesAtMost result buf.now }
     {
         for _ in 0..u64::MAX {
             if let Some(left) = self.limit.left()? {
-                self.stream.set_write_timeout(left)?;
+                self.stream.set_write_timeout(Some(left))?;
             }
             match self.stream.write(buf) {
                 Err(error) if is_early(error) => {}
@@ -157,7 +148,7 @@ fn is_early(error: io::Error) -> bool {
     matches!(error.kind(), ErrorKind::Interrupted | ErrorKind::WouldBlock)
 }
 
-impl<'a, C: Clock, S: Read + OpenStream> Read for LimitedStream<'a, C, S> {
+impl Read for LimitedStream<'_> {
     fn read(&mut self, buf: &mut [u8]) -> io::Result<usize> {
         let read = self.read_in_time(buf);
         self.course.take_note(&read);
@@ -165,7 +156,7 @@ impl<'a, C: Clock, S: Read + OpenStream> Read for LimitedStream<'a, C, S> {
     }
 }
 
-impl<'a, C: Clock, S: Write + OpenStream> Write for LimitedStream<'a, C, S> {
+impl Write for LimitedStream<'_> {
     fn write(&mut self, buf: &[u8]) -> io::Result<usize> {
         let written = self.write_in_time(buf);
         self.course.take_note(&written);

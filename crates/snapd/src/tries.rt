@@ -1,10 +1,7 @@
 //! The tries of a call: when each begins, and how long it may take.
 
 use crate::call_command::link_within;
-use crate::link::Link;
 use crate::time_limit::{Course, LimitedStream, TimeLimit};
-use std::net::Net;
-use std::rt::Clock;
 use std::time::{Duration, Instant};
 use std::{io, thread};
 
@@ -29,13 +26,10 @@ pub struct Patience {
     pub timeout: Option<u32>,
 }
 
-/// A connection of a call, with its time limit.
-type Limited<'a, N> = LimitedStream<'a, N, <N as Net>::Stream>;
-
 /// Makes the connections for a call's requests, with pauses.
 #[derive(Drop)]
-pub struct Tries<'a, N> {
-    net: &'a N,
+pub struct Tries<'a> {
+    rt: &'a HostRuntime,
     address: &'a str,
     patience: Patience,
     course: &'a Course,
@@ -46,11 +40,16 @@ pub struct Tries<'a, N> {
     rest: Duration,
 }
 
-impl<'a, N: Net + Clock> Tries<'a, N> {
+impl<'a> Tries<'a> {
     /// The tries of a call to this address, of which none has begun.
-    pub fn new(net: &'a N, address: &'a str, patience: Patience, course: &'a Course) -> Self {
+    pub fn new(
+        rt: &'a HostRuntime,
+        address: &'a str,
+        patience: Patience,
+        course: &'a Course,
+    ) -> Tries<'a> {
         Tries {
-            net,
+            rt,
             address,
             patience,
             course,
@@ -62,8 +61,8 @@ impl<'a, N: Net + Clock> Tries<'a, N> {
 
     /// The next connection as a reader and a writer, after a pause if the last one failed. `None`
     /// if it can't be made; for a call that waits, if none can be made before the time is over.
-    pub fn next(&mut self) -> Option<(Limited<'a, N>, Limited<'a, N>)> {
-        let now = Instant::now(self.net).ok()?;
+    pub fn next(&mut self) -> Option<(LimitedStream<'a>, LimitedStream<'a>)> {
+        let now = Instant::now(self.rt).ok()?;
         let began = self.began.unwrap_or(now);
         self.began = Some(began);
         if !self.course.has_failed() {
@@ -87,31 +86,31 @@ impl<'a, N: Net + Clock> Tries<'a, N> {
     }
 
     /// The time limit of a call that began then.
-    fn time(&self, began: Instant) -> TimeLimit<'a, 'a, N> {
+    fn time(&self, began: Instant) -> TimeLimit<'a> {
         TimeLimit {
-            clock: self.net,
+            clock: self.rt,
             end: end_of(began, self.patience.timeout),
             is_over: &self.course.is_over,
         }
     }
 
     /// The time limit for connecting of a request that was first tried then.
-    fn time_to_connect(&self, began: Instant, asked: Instant) -> TimeLimit<'a, 'a, N> {
+    fn time_to_connect(&self, began: Instant, asked: Instant) -> TimeLimit<'a> {
         let whole = self.time(began);
         match (end_of(asked, self.patience.wait), whole.end) {
             (None, _) => whole,
             (Some(end), Some(most)) if most <= end => whole,
             (end, _) => TimeLimit {
-                clock: self.net,
                 end,
                 is_over: &self.course.has_waited,
+                ..whole
             },
         }
     }
 
     /// Pauses if the last connection failed, but for at most half of the remaining time. An error
     /// if no time is left.
-    fn pause(&mut self, limit: &TimeLimit<'_, '_, N>) -> io::Result<()> {
+    fn pause(&mut self, limit: &TimeLimit<'_>) -> io::Result<()> {
         let left = limit.left()?;
         if !self.course.has_failed() {
             return Ok(());
@@ -122,7 +121,7 @@ impl<'a, N: Net + Clock> Tries<'a, N> {
                 .min((left / 2).max(Duration::from_millis(SHORTEST_REST))),
             None => self.rest,
         };
-        thread::sleep(self.net, rest);
+        thread::sleep(self.rt, rest);
         self.rest = self.rest.saturating_mul(2);
         if self.patience.wait.is_some() {
             self.rest = self.rest.min(Duration::from_millis(LONGEST_REST));
@@ -135,21 +134,13 @@ impl<'a, N: Net + Clock> Tries<'a, N> {
     fn connection(
         &self,
         began: Instant,
-        limit: &TimeLimit<'_, '_, N>,
-    ) -> io::Result<(Limited<'a, N>, Limited<'a, N>)> {
-        let writer = link_within(self.net, self.address, limit)?;
+        limit: &TimeLimit<'_>,
+    ) -> io::Result<(LimitedStream<'a>, LimitedStream<'a>)> {
+        let writer = link_within(self.rt, self.address, limit)?;
         let reader = writer.try_clone()?;
         self.course.begin();
-        Ok((self.limited(reader, began), self.limited(writer, began)))
-    }
-
-    /// Limits the connection to the time of a call that began then.
-    fn limited(&self, stream: Link<N::Stream>, began: Instant) -> Limited<'a, N> {
-        LimitedStream {
-            stream,
-            limit: self.time(began),
-            course: self.course,
-        }
+        let time = self.time(began);
+        Ok((time.on(reader, self.course), time.on(writer, self.course)))
     }
 }
 

@@ -2,9 +2,8 @@
 ghost use Rattle.std.specs.Prelude.{◌<◌, IfSome};
 ghost use Rattle.snap_order.specs.Order.{IsWatchable};
 
-use crate::call_command::{is_known, link_within};
-use crate::complaint::{say, stop, stop_without_memory};
-use crate::link::Link;
+use crate::call_command::{is_worth_a_try, link_within};
+use crate::complaint::{fail, or_stop, refuse, say, stop, stop_without_memory};
 use crate::time_limit::{Course, TimeLimit};
 use libc::net::{POLLERR, POLLHUP, poll};
 use libc::types::pollfd;
@@ -16,11 +15,10 @@ use snap_file_commands::CommandFault;
 use snap_frame::SegmentSet;
 use snap_order::{Status, WatchOptions};
 use snap_stream::write_whole;
-use std::alloc::{AllocError, Global};
+use std::alloc::Global;
 use std::env::{self, VarError};
 use std::io::{ErrorKind, IsTerminal};
-use std::net::Net;
-use std::rt::Clock;
+use std::net::TcpStream;
 use std::sync::Wait;
 use std::sync::atomic::{AtomicBool, Ordering};
 use std::thread;
@@ -38,41 +36,34 @@ const LATE: &str = "there was no answer within 10 s";
 /// Shows the segments of the server at the order's address, and each change, until the process is
 /// interrupted or standard output has no reader any more. A first poll that fails, or a refusal,
 /// ends it too.
-pub fn watch<N: Wait + Clock + Net>(net: &N, rt: &HostRuntime, order: &WatchOptions<'_>) -> Status
+pub fn watch<X: Wait>(
+    waiting: &X,
+    rt: &HostRuntime,
+    order: &WatchOptions<'_>,
+) -> Result<Status, Status>
     requires { IsWatchable order.now }
 {
     let address = order.address;
-    if !is_known(net, rt, address) {
-        return Status::Failed;
+    if !is_worth_a_try(rt, address, false) {
+        return Err(Status::Failed);
     }
     let pause = Duration::from_millis(u64::from(order.every.unwrap_or(PAUSE)));
     let watched = set_of(&order.segments);
-    let began = Instant::now(net).ok();
+    let began = Instant::now(rt).ok();
     let mut screen = Screen::new(rt, address, order.is_json);
     let mut link = None;
-    for _ in net.forever() {
+    for _ in waiting.forever() {
         if is_unread() {
-            return Status::Failed;
+            return Err(Status::Failed);
         }
         let is_late = AtomicBool::new(false);
-        let rows = rows_within(
-            net,
-            rt,
-            address,
-            watched,
-            &mut link,
-            &screen.shown,
-            &is_late,
-        );
-        screen.now = millis_since(net, began);
-        let shown = match rows {
-            Ok(rows) => screen.show(rt, rows),
-            Err(trouble) => screen.bear(rt, trouble, is_late.load(Ordering::Relaxed)),
-        };
-        if let Err(status) = shown {
-            return status;
+        let rows = rows_within(rt, address, watched, &mut link, &screen.shown, &is_late);
+        screen.now = millis_since(rt, began);
+        match rows {
+            Ok(rows) => screen.show(rt, rows)?,
+            Err(trouble) => screen.bear(rt, trouble, is_late.load(Ordering::Relaxed))?,
         }
-        thread::sleep(net, pause);
+        thread::sleep(rt, pause);
     }
     unreachable!()
 }
@@ -88,8 +79,8 @@ fn is_unread() -> bool {
 }
 
 /// The milliseconds since then, or 0 if the clock can't be read.
-fn millis_since<C: Clock>(clock: &C, began: Option<Instant>) -> u64 {
-    match (began, Instant::now(clock)) {
+fn millis_since(rt: &HostRuntime, began: Option<Instant>) -> u64 {
+    match (began, Instant::now(rt)) {
         (Some(began), Ok(now)) => {
             let time = now.saturating_duration_since(began);
             u64::try_from(time.as_millis()).unwrap_or(u64::MAX)
@@ -99,62 +90,60 @@ fn millis_since<C: Clock>(clock: &C, began: Option<Instant>) -> u64 {
 }
 
 /// The current rows of the server, by a poll within its time. Sets `is_late` if that was over.
-fn rows_within<N: Clock + Net>(
-    net: &N,
+fn rows_within(
     rt: &HostRuntime,
     address: &str,
     watched: Option<SegmentSet>,
-    link: &mut Option<Link<N::Stream>>,
+    link: &mut Option<TcpStream>,
     shown: &[Row],
     is_late: &AtomicBool,
 ) -> Result<Vec<Row>, WatchFault>
     requires some { IfSome watched (λ set. 0 < set.bits) }
 {
-    let end = match Instant::now(net) {
+    let end = match Instant::now(rt) {
         Ok(now) => now.checked_add(Duration::from_secs(PATIENCE)),
         Err(_) => None,
     };
     let limit = TimeLimit {
-        clock: net,
+        clock: rt,
         end,
         is_over: is_late,
     };
-    rows_now(net, rt.alloc(), address, watched, link, shown, &limit)
+    rows_now(rt, address, watched, link, shown, limit)
 }
 
 /// The current rows of the server, by one poll. If the connection fails it polls once more on a new
 /// one, and then requests the values anyway, since another server may answer.
-fn rows_now<N: Clock + Net>(
-    net: &N,
-    alloc: Global,
+fn rows_now(
+    rt: &HostRuntime,
     address: &str,
     watched: Option<SegmentSet>,
-    link: &mut Option<Link<N::Stream>>,
+    link: &mut Option<TcpStream>,
     shown: &[Row],
-    limit: &TimeLimit<'_, '_, N>,
+    limit: TimeLimit<'_>,
 ) -> Result<Vec<Row>, WatchFault>
     requires some { IfSome watched (λ set. 0 < set.bits) }
 {
     if let Some(open) = link.take() {
-        match rows_by(alloc, open, watched, link, shown, limit) {
+        match rows_by(rt.alloc(), open, watched, link, shown, limit) {
             Err(WatchFault::Lost(fault)) if fault.may_pass() => {}
             told => return told,
         }
     }
-    match link_within(net, address, limit) {
-        Ok(open) => rows_by(alloc, open, watched, link, &[], limit),
+    match link_within(rt, address, &limit) {
+        Ok(open) => rows_by(rt.alloc(), open, watched, link, &[], limit),
         Err(_) => Err(WatchFault::Lost(ClientFault::ConnectFailed)),
     }
 }
 
 /// The rows by one poll on this connection, which is kept if it succeeded.
-fn rows_by<N: Clock + Net>(
+fn rows_by(
     alloc: Global,
-    open: Link<N::Stream>,
+    open: TcpStream,
     watched: Option<SegmentSet>,
-    kept: &mut Option<Link<N::Stream>>,
+    kept: &mut Option<TcpStream>,
     shown: &[Row],
-    limit: &TimeLimit<'_, '_, N>,
+    limit: TimeLimit<'_>,
 ) -> Result<Vec<Row>, WatchFault>
     requires some { IfSome watched (λ set. 0 < set.bits) }
 {
@@ -189,7 +178,7 @@ struct Screen<'a> {
 }
 
 /// The state of the connection to the server.
-#[derive(Clone, Copy, Debug, PartialEq, Eq)]
+#[derive(Clone, Copy, PartialEq, Eq)]
 enum Contact {
     /// It has never answered.
     None,
@@ -221,10 +210,7 @@ impl<'a> Screen<'a> {
         let was_lost = self.contact == Contact::Lost;
         self.contact = Contact::Held;
         if self.is_board {
-            let Ok(tracks) = followed(rt.alloc(), &self.tracks, &rows, self.now) else {
-                return Err(stop_without_memory(rt));
-            };
-            self.tracks = tracks;
+            self.tracks = or_stop(rt, followed(rt.alloc(), &self.tracks, &rows, self.now))?;
             self.shown = rows;
             return self.draw(rt, None);
         }
@@ -232,9 +218,7 @@ impl<'a> Screen<'a> {
             let address = self.address;
             say(rt, &format_args!("{address}: connected again"));
         }
-        let Ok(text) = changes(rt.alloc(), self.form, &self.shown, &rows) else {
-            return Err(stop_without_memory(rt));
-        };
+        let text = or_stop(rt, changes(rt.alloc(), self.form, &self.shown, &rows))?;
         self.shown = rows;
         print(rt, text.as_slice())
     }
@@ -246,13 +230,11 @@ impl<'a> Screen<'a> {
         match trouble {
             WatchFault::Refused { why, detail } => {
                 let (code, name) = (why.code(), why.name());
-                say(rt, &format_args!("refused {code} {name} {detail}"));
-                Err(Status::Refused)
+                Err(refuse(rt, &format_args!("refused {code} {name} {detail}")))
             }
             WatchFault::Lost(ClientFault::NoMemory) => Err(stop_without_memory(rt)),
             WatchFault::Lost(fault) if self.contact == Contact::None => {
-                say_first_loss(rt, address, fault, is_late);
-                Err(Status::Failed)
+                Err(fail_at_first(rt, address, fault, is_late))
             }
             WatchFault::Lost(fault) => self.lose(rt, loss_of(fault, is_late)),
         }
@@ -283,9 +265,7 @@ impl<'a> Screen<'a> {
             now: self.now,
             is_coloured: self.is_coloured,
         };
-        let Ok(text) = drawing(rt.alloc(), self.above, &panel) else {
-            return Err(stop_without_memory(rt));
-        };
+        let text = or_stop(rt, drawing(rt.alloc(), self.above, &panel))?;
         self.above = panel.len();
         print(rt, text.as_bytes())
     }
@@ -310,19 +290,18 @@ fn print(rt: &HostRuntime, text: &[u8]) -> Result<(), Status> {
 }
 
 /// Prints why there was no first answer, with advice.
-fn say_first_loss(rt: &HostRuntime, address: &str, fault: ClientFault, is_late: bool) {
+fn fail_at_first(rt: &HostRuntime, address: &str, fault: ClientFault, is_late: bool) -> Status {
     if is_late {
-        say(
+        return fail(
             rt,
             &format_args!("{address}: {LATE}: see what serves there"),
         );
-        return;
     }
     let remedy = match fault {
         ClientFault::BadReply => "check the address",
         _ => "start snapd serve there",
     };
-    say(rt, &format_args!("{address}: {fault}: {remedy}"));
+    fail(rt, &format_args!("{address}: {fault}: {remedy}"))
 }
 
 /// The message about a lost server.

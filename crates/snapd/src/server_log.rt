@@ -1,0 +1,127 @@
+//! Counts a server's updates, and logs its start, its end and failed stores.
+
+use crate::files::FirstFault;
+use crate::surroundings::{Process, ignores_interrupts};
+use log::{error, info};
+use snap_args::VERSION;
+use snap_disk::Refusal;
+use snap_log::Lines;
+use snap_serve::UpdateObserver;
+use snap_server::{RunFault, ServerFault};
+use std::fmt::{self, Display};
+use std::rt::Clock;
+use std::sync::Wait;
+
+/// Logs that a server has started, with its files and addresses, and how it ended. Counts each update of a segment,
+/// and logs those whose store failed as errors.
+#[derive_where(Clone, Copy)]
+#[derive(Drop)]
+pub struct ServerLog<'a, X: Wait + Clock> {
+    pub log: &'a Lines<'a, X>,
+    pub process: Process<'a>,
+    /// The reason why a call on each file first failed.
+    pub told: &'a Vec<FirstFault>,
+}
+
+impl<X: Wait + Clock> ServerLog<'_, X> {
+    /// Logs that the device of this segment failed while it stored this update, with the name of the segment's file
+    /// and the system's reason.
+    fn unstored(&self, segment: usize, number: u64) {
+        let (Some(file), Some(told)) = (self.process.files.get(segment), self.told.get(segment))
+        else {
+            return;
+        };
+        match told.place().get() {
+            Some(fault) => self.log_unstored(file, segment, number, fault),
+            None => self.log_unstored(file, segment, number, &"a call of its device failed"),
+        }
+    }
+
+    /// Logs that the store of an update failed, for this reason.
+    fn log_unstored<T: Display>(&self, file: &str, segment: usize, number: u64, why: &T) {
+        error!(self.log; target: "store",
+            "{file}: segment {segment}: update {number} failed: a restart shows whether it is stored, and the segment \
+                is fenced until then: {why}"
+        );
+    }
+}
+
+impl<X: Wait + Clock> UpdateObserver for ServerLog<'_, X> {
+    fn begun(&self, listening: &str) {
+        let process = self.process;
+        let (number, count) = (libc::getpid(), process.files.len());
+        let (files, places) = (Files(process), Places(listening));
+        info!(self.log; target: "server",
+            "snapd {VERSION} serves {files} as process {number}: segments {count}, at {places}"
+        );
+        if ignores_interrupts(process.rt) {
+            info!(self.log; target: "server",
+                "SIGINT is ignored, as a script has it for what it starts with &: end it with kill {number}"
+            );
+        }
+    }
+
+    /// If the server never started, the reason is printed elsewhere.
+    fn ended(&self, served: Result<u64, &RunFault>) {
+        match served {
+            Ok(count) => info!(self.log; target: "server", "it ends: served {count}"),
+            Err(RunFault::Server(fault @ (ServerFault::AcceptFailed | ServerFault::PollFailed))) =>
+                {
+                    error!(self.log; target: "server", "it ends: {fault}");
+                }
+            Err(_) => {}
+        }
+    }
+
+    fn told(&self, segment: usize, number: u64, told: Result<u64, Refusal>) {
+        let metrics = self.process.metrics;
+        if segment < metrics.segment_count() {
+            metrics.segment(segment).settle(told);
+        }
+        if told == Err(Refusal::DeviceFailed) {
+            self.unstored(segment, number);
+        }
+    }
+}
+
+/// Shows the folder that a process serves, or the paths of its files in order.
+#[derive(Clone, Copy)]
+struct Files<'a>(Process<'a>);
+
+impl Display for Files<'_> {
+    fn fmt<W: fmt::Write>(&self, f: &mut fmt::Formatter<W>) -> fmt::Result {
+        match self.0.folder {
+            Some(folder) => f.write_str(folder),
+            None => Spaced(self.0.files).fmt(f),
+        }
+    }
+}
+
+/// Shows paths with a space between them.
+#[derive(Clone, Copy)]
+pub struct Spaced<'a>(pub &'a [&'a str]);
+
+impl Display for Spaced<'_> {
+    fn fmt<W: fmt::Write>(&self, f: &mut fmt::Formatter<W>) -> fmt::Result {
+        for (place, path) in self.0.iter().enumerate() {
+            let between = if place == 0 { "" } else { " " };
+            write!(f, "{between}{path}")?;
+        }
+        Ok(())
+    }
+}
+
+/// Shows the addresses in these lines, `listening ADDRESS` each.
+#[derive(Clone, Copy)]
+struct Places<'a>(&'a str);
+
+impl Display for Places<'_> {
+    fn fmt<W: fmt::Write>(&self, f: &mut fmt::Formatter<W>) -> fmt::Result {
+        for (place, line) in self.0.lines().enumerate() {
+            let between = if place == 0 { "" } else { " " };
+            let address = line.strip_prefix("listening ").unwrap_or(line);
+            write!(f, "{between}{address}")?;
+        }
+        Ok(())
+    }
+}
