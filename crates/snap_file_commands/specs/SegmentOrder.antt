@@ -1,9 +1,11 @@
--- The order of a folder's files. `places` has the place in each file's header.
-use Rattle.std.specs.Prelude.{◌≡◌, ℕ, ◌<◌, ◌≤◌, List, length, Some, slice_get, slice_index}
+-- The order of a folder's files, and the faults of files that have none. `places` has the place in each file's header.
+use Rattle.std.specs.Prelude.{◌≡◌, ◌≢◌, ℕ, ◌<◌, ◌≤◌, List, [], length, All, Option, Some, None, slice_get, slice_index}
+use Rattle.std.specs.Prelude.{sum_by}
 use Rattle.snap_history.specs.declared.limits.TheConstants.{MAX_COUNT}
 use Rattle.snap_file_commands.specs.declared.segment_order.SegmentPlace.{SegmentPlace}
 use Rattle.snap_file_commands.specs.declared.segment_order.FolderFault.{FolderFault}
-use Rattle.snap_file_commands.specs.declared.segment_order.FolderFault.TheVariants.{Missing}
+use Rattle.snap_file_commands.specs.declared.segment_order.FolderFault.TheVariants.{Empty, NoPlace, OtherCount}
+use Rattle.snap_file_commands.specs.declared.segment_order.FolderFault.TheVariants.{Twice, Missing, NoMemory}
 
 -- this file is there, and its header has this place
 abbrev pub Says : List SegmentPlace → ℕ → SegmentPlace → Type 0
@@ -21,7 +23,35 @@ pub record IsOrderOf (places : List SegmentPlace) (order : List ℕ) : Type 0 wh
 abbrev pub IsOneOf : (count : ℕ) → SegmentPlace → Type 0
 IsOneOf count place = (place.index < count) × (place.count ≡ count)
 
--- a segment that is missing has a file name
-abbrev pub IsNameable : FolderFault → Type 0
-IsNameable (Missing index count) = (index < count) × (count ≤ MAX_COUNT)
-IsNameable fault = Unit {0}
+-- it is a valid place
+abbrev pub IsRight : SegmentPlace → Type 0
+IsRight place = (place.index < place.count) × (place.count ≤ MAX_COUNT)
+
+-- the fault is true of the files
+abbrev pub IsFaultOf : List SegmentPlace → FolderFault → Type 0
+IsFaultOf places Empty = places ≡ []
+IsFaultOf places (NoPlace file) = (p : SegmentPlace) × Says places file p × (IsRight p → ⊥)
+IsFaultOf places (OtherCount file) = (p : SegmentPlace) × (q : SegmentPlace) × Says places 0 p
+    × Says places file q × (q.count ≢ p.count)
+IsFaultOf places (Twice first second) = (p : SegmentPlace) × (q : SegmentPlace)
+    × Says places first p × Says places second q × (first < second) × (p.index ≡ q.index)
+IsFaultOf places (Missing index count) = (index < count) × (count ≤ MAX_COUNT)
+    × (0 < length places) × All (λ p. (p.count ≡ count) × (p.index ≢ index)) places
+IsFaultOf places NoMemory = Unit {0}
+
+-- ---- while the files are sorted
+
+-- how many files a segment has
+abbrev pub file_count : Option ℕ → ℕ
+file_count None = 0
+file_count (Some file) = 1
+
+-- the first `files` files are sorted, each to the segment in its header, and no other segment has a file
+pub record IsSeating (places : List SegmentPlace) (count files : ℕ) (seats : List (Option ℕ))
+    : Type 0 where
+  pub size : length seats ≡ count
+  pub full : sum_by file_count seats ≡ files
+  pub each : (file : ℕ) (p : SegmentPlace) → file < files → Says places file p
+      → slice_get seats p.index ≡ Some (Some file)
+  pub back : (i file : ℕ) → slice_get seats i ≡ Some (Some file)
+      → (file < files) × Says places file (record { index = i; count = count })

@@ -1,7 +1,7 @@
 //! Which file of a folder is which segment's.
-ghost use Rattle.std.specs.Prelude.{◌≡◌, ◌<◌, ◌≤◌, All, IfOk, IfErr, IfSome, length};
+ghost use Rattle.std.specs.Prelude.{◌≡◌, ◌+◌, ◌<◌, ◌≤◌, All, IfOk, IfErr, length};
 ghost use Rattle.snap_history.specs.declared.limits.TheConstants.{MAX_COUNT};
-ghost use Rattle.snap_file_commands.specs.SegmentOrder.{IsNameable, IsOneOf, IsOrderOf, Says};
+ghost use Rattle.snap_file_commands.specs.SegmentOrder.{IsFaultOf, IsOneOf, IsOrderOf, IsSeating};
 
 use snap_history::MAX_COUNT;
 use std::alloc::{AllocError, Global};
@@ -48,33 +48,18 @@ impl From<AllocError> for FolderFault {
 /// has what the header of each file says.
 ///
 /// Of several faults it returns one: first those of single files, in the order of the list; then two files of one
-/// segment; then the first segment that is missing. No clause says that a fault is true of the list.
+/// segment; then the first segment that is missing. Each fault is true of the list, so complete files are always put in
+/// order, unless memory runs out.
 pub fn order_files(alloc: Global, places: &[SegmentPlace]) -> Result<Vec<usize>, FolderFault>
     ensures order { IfOk result (λ order. IsOrderOf places.now order.items) }
     ensures within { IfOk result (λ order. All (λ file. file < length places.now) order.items) }
     ensures some { IfOk result (λ order. 0 < length order.items) }
     ensures few { IfOk result (λ order. length order.items ≤ MAX_COUNT) }
-    ensures fault { IfErr result IsNameable }
+    ensures fault { IfErr result (IsFaultOf places.now) }
 {
     let count = common_count(places)?;
-    let mut order = Vec::with_capacity(alloc, places.len())?;
-    let mut missing = None;
-    for index in 0..count {
-        let Some(file) = file_of(places, index) else {
-            missing = missing.or(Some(index));
-            continue;
-        };
-        if order.push(file).is_err() {
-            return Err(FolderFault::NoMemory);
-        }
-    }
-    if order.len() != places.len() {
-        return Err(twice_in(places));
-    }
-    match missing {
-        Some(index) => Err(FolderFault::Missing { index, count }),
-        None => Ok(order),
-    }
+    let seats = seat_files(alloc, places, count)?;
+    seated(alloc, places, &seats, count)
 }
 
 /// The number of segments, which is the same in each file's header.
@@ -82,7 +67,7 @@ fn common_count(places: &[SegmentPlace]) -> Result<u8, FolderFault>
     ensures count { IfOk result (λ count. All (IsOneOf count) places.now) }
     ensures some { IfOk result (λ count. (0 < count) × (0 < length places.now)) }
     ensures few { IfOk result (λ count. count ≤ MAX_COUNT) }
-    ensures fault { IfErr result IsNameable }
+    ensures fault { IfErr result (IsFaultOf places.now) }
 {
     let Some(first) = places.first() else {
         return Err(FolderFault::Empty);
@@ -98,30 +83,51 @@ fn common_count(places: &[SegmentPlace]) -> Result<u8, FolderFault>
     Ok(first.count)
 }
 
-/// The first file of this segment.
-fn file_of(places: &[SegmentPlace], index: u8) -> Option<usize>
-    ensures within { IfSome result (λ file. file < length places.now) }
-    ensures says { IfSome result (λ file. (p : SegmentPlace) × Says places.now file p × (p.index ≡ index)) }
+/// The file of each segment, if it has one.
+fn seat_files(
+    alloc: Global,
+    places: &[SegmentPlace],
+    count: u8,
+) -> Result<Vec<Option<usize>>, FolderFault>
+    requires { All (IsOneOf count) places.now }
+    ensures seats { IfOk result (λ seats. IsSeating places.now count (length places.now)
+        seats.items) }
+    ensures fault { IfErr result (IsFaultOf places.now) }
 {
-    for (file, place) in places.iter().enumerate() {
-        if place.index == index {
-            return Some(file);
+    let mut seats = vec![in alloc; None; usize::from(count)]?;
+    for (second, place) in places.iter().enumerate() {
+        let index = usize::from(place.index);
+        if let Some(first) = seats[index] {
+            return Err(FolderFault::Twice { first, second });
         }
+        seats[index] = Some(second);
     }
-    None
+    Ok(seats)
 }
 
-/// The first file whose segment an earlier one has too, and that one. There is one if fewer segments have files than
-/// there are files.
-fn twice_in(places: &[SegmentPlace]) -> FolderFault
-    ensures { IsNameable result }
+/// The files in order, if each segment has one.
+fn seated(
+    alloc: Global,
+    places: &[SegmentPlace],
+    seats: &[Option<usize>],
+    count: u8,
+) -> Result<Vec<usize>, FolderFault>
+    requires same { All (IsOneOf count) places.now }
+    requires few { count ≤ MAX_COUNT }
+    requires some { 0 < length places.now }
+    requires seats { IsSeating places.now count (length places.now) seats.now }
+    ensures order { IfOk result (λ order. IsOrderOf places.now order.items) }
+    ensures size { IfOk result (λ order. length order.items ≡ count) }
+    ensures fault { IfErr result (IsFaultOf places.now) }
 {
-    let mut pair = (0, 0);
-    for second in (0..places.len()).rev() {
-        if let Some(first) = file_of(&places[..second], places[second].index) {
-            pair = (first, second);
+    let mut order = Vec::with_capacity(alloc, seats.len())?;
+    for index in 0..count {
+        let Some(file) = seats[usize::from(index)] else {
+            return Err(FolderFault::Missing { index, count });
+        };
+        if order.push(file).is_err() {
+            return Err(FolderFault::NoMemory);
         }
     }
-    let (first, second) = pair;
-    FolderFault::Twice { first, second }
+    Ok(order)
 }
