@@ -1,5 +1,5 @@
-use Rattle.snap_http.proofs.Calls.{answered_joins}
-use Rattle.snap_http.proofs.server.HttpServer.serve.Goals as goal
+use Rattle.snap_board.proofs.Calls.{answered_joins}
+use Rattle.snap_board.proofs.server.HttpServer.serve.Goals as goal
 
 pub loop-preserved : goal.loop-preserved
 loop-preserved g c =

@@ -1,6 +1,6 @@
 //! One connection of an HTTP server.
 ghost use Rattle.std.specs.Prelude.{◌≡◌, ◌+◌, ◌<◌, ◌↔◌, true, false};
-ghost use Rattle.snap_http.specs.Answered.{Answered};
+ghost use Rattle.snap_board.specs.Answered.{Answered};
 
 use http_server::{Config, Connection, Service};
 use http1::Limits;

@@ -1,5 +1,5 @@
-use Rattle.snap_http.proofs.Calls.{answered_joins, answered_none}
-use Rattle.snap_http.proofs.connection.HttpConnection.go_on.Goals as goal
+use Rattle.snap_board.proofs.Calls.{answered_joins, answered_none}
+use Rattle.snap_board.proofs.server.connection.HttpConnection.go_on.Goals as goal
 
 pub steps-init : goal.steps-init
 steps-init g c = answered_none g.S.Service.answers _

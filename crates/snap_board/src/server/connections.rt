@@ -1,10 +1,10 @@
 //! The table of a server's connections.
 ghost use Rattle.std.specs.Prelude.{◌≤◌};
 ghost use Rattle.slab.specs.Slab.{slab_len};
-ghost use Rattle.snap_http.specs.Answered.{Answered};
-ghost use Rattle.snap_http.specs.declared.connections.TheConstants.{MAX_CONNECTIONS};
+ghost use Rattle.snap_board.specs.Answered.{Answered};
+ghost use Rattle.snap_board.specs.declared.server.connections.TheConstants.{MAX_CONNECTIONS};
 
-use crate::connection::{HttpConnection, Step};
+use super::connection::{HttpConnection, Step};
 use http_server::Service;
 use mio::net::TcpStream;
 use mio::{Registry, Token};

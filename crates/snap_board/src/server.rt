@@ -1,11 +1,20 @@
-//! The server: a listener and its connections, served on one thread.
-ghost use Rattle.snap_http.specs.Answered.{Answered};
+//! The HTTP server of `--http`: a TCP listener and at most [`MAX_CONNECTIONS`] connections, served on one thread by an
+//! [`http_server::Service`].
+//!
+//! The crate `http_server` reads requests and encodes responses; this module moves the bytes, and closes connections
+//! without progress. A peer that sends nothing, reads nothing or sends no HTTP is closed within seconds, and blocks no
+//! other peer.
+ghost use Rattle.snap_board.specs.Answered.{Answered};
 
-use crate::beat::Beat;
-use crate::connections::Connections;
-use crate::listener::Listener;
-use crate::stop::{StopHandle, StopReceiver, stop_pair};
+mod connection;
+mod connections;
+mod listener;
+mod stop;
+
+use connections::Connections;
+pub use connections::MAX_CONNECTIONS;
 use http_server::Service;
+use listener::Listener;
 use mio::net::TcpListener;
 use mio::{Events, Poll, Token};
 use std::alloc::Global;
@@ -16,6 +25,8 @@ use std::random::RandomSource;
 use std::rt::Clock;
 use std::sync::Wait;
 use std::time::{Duration, Instant};
+pub use stop::StopHandle;
+use stop::{StopReceiver, stop_pair};
 
 /// The tokens of the waker and of the listener. A connection's token is its key.
 const WAKER: Token = Token(usize::MAX);
@@ -31,6 +42,17 @@ const MAX_ACCEPTS: u32 = 16;
 /// The seconds between two runs of the [`Beat`], and so the longest wait. Idle connections are
 /// closed as often.
 const BEAT_REST: u64 = 1;
+
+/// A task that runs about once a second while a server serves, with or without requests.
+pub trait Beat {
+    /// Runs the task, at least a second after the last time. No request is answered meanwhile.
+    fn beat(&self);
+}
+
+/// A task that does nothing.
+impl Beat for () {
+    fn beat(&self) {}
+}
 
 /// An HTTP server at one address.
 #[derive(Drop)]
