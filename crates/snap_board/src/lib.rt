@@ -8,7 +8,6 @@
 //! has the status and the content of each.
 #![tactic(auto)]
 
-mod amount;
 mod board;
 mod document;
 mod fact_source;
@@ -16,20 +15,16 @@ mod facts;
 mod figures;
 mod history;
 mod home;
-mod latency;
 mod metric;
 mod metrics;
 mod page;
-mod process;
 mod reply;
-mod sample;
 mod script;
 mod server;
 mod style;
 
 pub use board::Board;
-pub use fact_source::FactSource;
+pub use fact_source::{FactSource, Usage};
 pub use history::History;
 pub use page::Page;
-pub use process::Usage;
 pub use server::{Beat, HttpServer, MAX_CONNECTIONS, StopHandle};
