@@ -317,9 +317,6 @@ def test_a_public_type_has_a_name_of_its_own(snapd, random):
 # Crates with laws, which are contracts of functions that do nothing: they name the crates
 # that the laws are of.
 OF_LAWS = {"snap_restart", "snap_laws"}
-# Crates of the kit that a contract has to name for a trait of another one:
-# `http_server::Service` is called with a request of `http`.
-OF_A_TRAIT = {"snap_http": {"http"}}
 OF_CONTRACTS = re.compile(r"\buse Rattle\.(\w+)\.")
 
 
@@ -329,7 +326,7 @@ def test_a_contract_names_no_crate_that_the_code_beside_it_does_not_use(snapd, r
         contracts = sources + "".join(it.read_text() for it in crate.glob("specs/**/*.antt"))
         code = re.sub(r"^ *(ghost use .*|//.*)$", "", sources, flags=re.M)
         used = set(re.findall(r"\b(\w+)::", code)) | set(re.findall(r"^ *(?:pub )?use (\w+);", code, re.M))
-        known = used | OF_LAWS | OF_A_TRAIT.get(crate.name, set()) | {crate.name, "std"}
+        known = used | OF_LAWS | {crate.name, "std"}
         strange = set(OF_CONTRACTS.findall(contracts)) - known
         assert not strange, (crate.name, strange)
 

@@ -1,2 +1,3 @@
 pub mod Paths
 pub mod Pages
+pub mod Answered

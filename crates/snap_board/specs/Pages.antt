@@ -37,46 +37,29 @@ asked_of pages.Stats = Some requests.Status
 asked_of pages.History = None
 
 -- the page shows these values
-abbrev pub ShowsValues : Page → List SegmentValue → Response → Type 0
-ShowsValues pages.Scan values r = HasContent 200 (list_text (each_from value_tokens 0 values)) r
-ShowsValues page values r = ⊥
+abbrev pub ShowsValues : Page → List SegmentValue → ℕ → List ℕ → Type 0
+ShowsValues pages.Scan values status content =
+    (status ≡ 200) × (content ≡ list_text (each_from value_tokens 0 values))
+ShowsValues page values status content = ⊥
 
 -- The page shows these statuses. The status is 503 for the health if a segment is fenced, and for the readiness if all
 -- are. The texts of the metrics have no clause.
-abbrev pub ShowsStatuses : Page → List SegmentStatus → Response → Type 0
-ShowsStatuses pages.Metrics statuses r = r.status ≡ 200
-ShowsStatuses pages.Health statuses r =
-    HasContent (if list_any (λ s. s.is_fenced) statuses then 503 else 200) (health_text statuses) r
-ShowsStatuses pages.Ready statuses r = r.status ≡ (if list_all (λ s. s.is_fenced) statuses then 503 else 200)
-ShowsStatuses pages.Status statuses r = HasContent 200 (list_text (each_from status_tokens 0 statuses)) r
-ShowsStatuses pages.Stats statuses r = r.status ≡ 200
-ShowsStatuses page statuses r = ⊥
+abbrev pub ShowsStatuses : Page → List SegmentStatus → ℕ → List ℕ → Type 0
+ShowsStatuses pages.Metrics statuses status content = status ≡ 200
+ShowsStatuses pages.Health statuses status content =
+    (status ≡ (if list_any (λ s. s.is_fenced) statuses then 503 else 200)) × (content ≡ health_text statuses)
+ShowsStatuses pages.Ready statuses status content =
+    status ≡ (if list_all (λ s. s.is_fenced) statuses then 503 else 200)
+ShowsStatuses pages.Status statuses status content =
+    (status ≡ 200) × (content ≡ list_text (each_from status_tokens 0 statuses))
+ShowsStatuses pages.Stats statuses status content = status ≡ 200
+ShowsStatuses page statuses status content = ⊥
 
 -- the page shows the reply to its request
-abbrev pub ShowsReply : Page → Reply → Response → Type 0
-ShowsReply page (replies.Snapshot values) r = ShowsValues page values.items r
-ShowsReply page (replies.Status statuses) r = ShowsStatuses page statuses.items r
-ShowsReply page reply r = ⊥
-
--- the service got at most this request, once
-abbrev pub MayAsk : {S : Type 0} → (S → Request → Reply → S → Type 0) → Option Request → S → S → Type 0
-MayAsk gives None old new = new ≡ old
-MayAsk gives (Some q) old new = (new ≡ old) ⊎ ((reply : Reply) × gives old q reply new)
-
--- a page shows the reply to its request, or is a constant file
-abbrev pub Shows : {S : Type 0} → (S → Request → Reply → S → Type 0) → Page → Option Request → S → Response → S → Type 0
-Shows gives page None old r new = (new ≡ old) × (r.status ≡ 200)
-Shows gives page (Some q) old r new = (reply : Reply) × gives old q reply new × ShowsReply page reply r
-
--- The answer is the page; or it is 503, since the service gave no such reply or memory ran out.
-abbrev pub AnswersPage : {S : Type 0} → (S → Request → Reply → S → Type 0) → Page → S → Response → S → Type 0
-AnswersPage gives page old r new =
-    Shows gives page (asked_of page) old r new ⊎ ((r.status ≡ 503) × MayAsk gives (asked_of page) old new)
-
--- the answer for a path, which may have no page
-abbrev pub AnswersPath : {S : Type 0} → (S → Request → Reply → S → Type 0) → Option Page → S → Response → S → Type 0
-AnswersPath gives None old r new = (new ≡ old) × ((r.status ≡ 404) ⊎ (r.status ≡ 503))
-AnswersPath gives (Some page) old r new = AnswersPage gives page old r new
+abbrev pub ShowsReply : Page → Reply → ℕ → List ℕ → Type 0
+ShowsReply page (replies.Snapshot values) status content = ShowsValues page values.items status content
+ShowsReply page (replies.Status statuses) status content = ShowsStatuses page statuses.items status content
+ShowsReply page reply status content = ⊥
 
 -- a method that only reads
 abbrev pub is_read : List ℕ → Bool
@@ -86,14 +69,36 @@ is_read method = bytes_eq method (codes "GET") || bytes_eq method (codes "HEAD")
 abbrev pub named : http.Request (List ℕ) → Option Page
 named request = page_of (uri_path (head_of request).uri)
 
--- the answer to a request
-abbrev pub Answers : {S : Type 0} → (S → Request → Reply → S → Type 0) → S → http.Request (List ℕ) → Response → S
-    → Type 0
-Answers gives old request r new = MatchBool (is_read (head_of request).method)
-    (AnswersPath gives (named request) old r new)
-    ((new ≡ old) × ((r.status ≡ 405) ⊎ (r.status ≡ 503)))
+-- what a service that gives such replies is asked, and the status and content of each answer
+module _ {S : Type 0} (gives : S → Request → Reply → S → Type 0) where
+  -- the service got at most this request, once
+  abbrev pub MayAsk : Option Request → S → S → Type 0
+  MayAsk None old new = new ≡ old
+  MayAsk (Some q) old new = (new ≡ old) ⊎ ((reply : Reply) × gives old q reply new)
 
--- the request to the service that an HTTP request may cause
-abbrev pub MayAskFor : {S : Type 0} → (S → Request → Reply → S → Type 0) → S → http.Request (List ℕ) → S → Type 0
-MayAskFor gives old request new = MatchBool (is_read (head_of request).method)
-    (MayAsk gives (option_and_then asked_of (named request)) old new) (new ≡ old)
+  -- a page shows the reply to its request, or is a constant file
+  abbrev pub Shows : Page → Option Request → S → ℕ → List ℕ → S → Type 0
+  Shows page None old status content new = (new ≡ old) × (status ≡ 200)
+  Shows page (Some q) old status content new =
+      (reply : Reply) × gives old q reply new × ShowsReply page reply status content
+
+  -- The answer is the page; or it is 503, since the service gave no such reply or memory ran out.
+  abbrev pub AnswersPage : Page → S → ℕ → List ℕ → S → Type 0
+  AnswersPage page old status content new = Shows page (asked_of page) old status content new
+      ⊎ ((status ≡ 503) × MayAsk (asked_of page) old new)
+
+  -- the answer for a path, which may have no page
+  abbrev pub AnswersPath : Option Page → S → ℕ → List ℕ → S → Type 0
+  AnswersPath None old status content new = (new ≡ old) × ((status ≡ 404) ⊎ (status ≡ 503))
+  AnswersPath (Some page) old status content new = AnswersPage page old status content new
+
+  -- the answer to a request
+  abbrev pub Answers : S → http.Request (List ℕ) → ℕ → List ℕ → S → Type 0
+  Answers old request status content new = MatchBool (is_read (head_of request).method)
+      (AnswersPath (named request) old status content new)
+      ((new ≡ old) × ((status ≡ 405) ⊎ (status ≡ 503)))
+
+  -- the request to the service that an HTTP request may cause
+  abbrev pub MayAskFor : S → http.Request (List ℕ) → S → Type 0
+  MayAskFor old request new = MatchBool (is_read (head_of request).method)
+      (MayAsk (option_and_then asked_of (named request)) old new) (new ≡ old)

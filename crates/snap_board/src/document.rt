@@ -1,6 +1,7 @@
 //! Parts of JSON documents.
 
 use json::Writer;
+use snap_json::line_of;
 use std::alloc::{AllocError, Global};
 
 /// Begins a document, which is one object.
@@ -13,9 +14,7 @@ pub(crate) fn begin(alloc: Global) -> Result<Writer, AllocError> {
 /// Ends a document, which is one line.
 pub(crate) fn end(mut writer: Writer) -> Result<Vec<u8>, AllocError> {
     writer.end_object()?;
-    let mut text = writer.into_inner();
-    text.push(b'\n')?;
-    Ok(text)
+    line_of(writer)
 }
 
 /// Writes a number as a member, or `null` if it isn't known.
@@ -42,32 +41,6 @@ pub(crate) fn put_text(
         Some(text) => writer.string(text),
         None => writer.null(),
     }
-}
-
-/// Writes numbers as members.
-pub(crate) fn put_counts(writer: &mut Writer, counts: &[(&str, u64)]) -> Result<(), AllocError> {
-    for (name, count) in counts {
-        writer.key(name)?;
-        writer.u64(*count)?;
-    }
-    Ok(())
-}
-
-/// Writes an object of numbers as a member.
-pub(crate) fn put_object(
-    writer: &mut Writer,
-    name: &str,
-    counts: &[(&str, u64)],
-) -> Result<(), AllocError> {
-    begin_object(writer, name)?;
-    put_counts(writer, counts)?;
-    writer.end_object()
-}
-
-/// Begins a member that is an object.
-pub(crate) fn begin_object(writer: &mut Writer, name: &str) -> Result<(), AllocError> {
-    writer.key(name)?;
-    writer.begin_object()
 }
 
 /// Begins a member that is a list.

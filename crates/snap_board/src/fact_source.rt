@@ -2,7 +2,6 @@
 ghost use Rattle.std.specs.Prelude.{◌≡◌, ℕ, List};
 
 use crate::history::History;
-use crate::process::Usage;
 use snap_metrics::MetricsSnapshot;
 use std::alloc::{AllocError, Global};
 use std::time::Duration;
@@ -39,4 +38,23 @@ pub trait FactSource {
 
     /// The path of each segment's file, in order of segment, as it was given.
     fn files(&self) -> &[&str];
+}
+
+/// The resources of a process, and the server's limits. `None` if one isn't known.
+#[derive(Clone, Copy, Debug)]
+pub struct Usage {
+    /// The start of the process, in milliseconds since 1970.
+    pub started: Option<u64>,
+    /// The processor time that it has used, in nanoseconds.
+    pub processors: Option<u64>,
+    /// Its virtual memory, in bytes.
+    pub addresses: Option<u64>,
+    /// The number of open descriptors.
+    pub descriptors: Option<u64>,
+    /// The limit of open descriptors.
+    pub most_descriptors: Option<u64>,
+    /// The limit of clients' open connections.
+    pub most_clients: u64,
+    /// The number of lines of the log that were lost.
+    pub lost_lines: u64,
 }

@@ -1,5 +1,6 @@
 //! The facts about a server at one moment.
 
+use crate::fact_source::FactSource;
 use snap_frame::SegmentStatus;
 use snap_metrics::{MetricsSnapshot, SegmentSnapshot};
 use std::path::Path;
@@ -26,7 +27,25 @@ pub(crate) struct ServerFacts<'a> {
     pub resident: Option<u64>,
 }
 
-impl ServerFacts<'_> {
+impl<'a> ServerFacts<'a> {
+    /// All facts about a server, with these metrics and statuses.
+    pub(crate) fn of<X: FactSource>(
+        reading: &'a MetricsSnapshot,
+        surroundings: &'a X,
+        statuses: &'a [SegmentStatus],
+    ) -> ServerFacts<'a> {
+        ServerFacts {
+            reading,
+            statuses,
+            version: surroundings.version(),
+            addresses: surroundings.addresses(),
+            files: surroundings.files(),
+            uptime: surroundings.uptime().map(millis_of),
+            time: surroundings.now_millis(),
+            resident: surroundings.resident_bytes(),
+        }
+    }
+
     /// The milliseconds since a segment's last update; 0 if that is in the future, since the clock
     /// was set back. `None` if either time isn't known.
     pub(crate) fn age(&self, segment: &SegmentSnapshot) -> Option<u64> {

@@ -2,12 +2,9 @@
 //!
 //! No clause states this text: tests_server and tests/test_http.py compare it byte by byte.
 
-use crate::document::{
-    begin, begin_list, begin_object, end, put_counts, put_number, put_object, put_text,
-};
+use crate::document::{begin, begin_list, end, put_number, put_text};
 use crate::facts::{ServerFacts, name_of};
-use crate::latency::{all, bound};
-use crate::metrics::{kinds, refusal_at};
+use crate::metrics::{all, bound, kinds, refusal_at};
 use json::Writer;
 use snap_metrics::{BOUNDS, HistogramSnapshot, RequestCounts, SegmentSnapshot};
 use std::alloc::{AllocError, Global};
@@ -20,9 +17,17 @@ use std::alloc::{AllocError, Global};
 pub(crate) fn figures_document(alloc: Global, facts: &ServerFacts) -> Result<Vec<u8>, AllocError> {
     let mut writer = begin(alloc)?;
     put_server(&mut writer, facts)?;
-    put_tally(&mut writer, &facts.reading.requests)?;
-    put_bounds(&mut writer)?;
-    put_segments(&mut writer, facts)?;
+    put_requests(&mut writer, &facts.reading.requests)?;
+    begin_list(&mut writer, "bounds_microseconds")?;
+    for place in 0..BOUNDS {
+        writer.u64(bound(place))?;
+    }
+    writer.end_array()?;
+    begin_list(&mut writer, "segments")?;
+    for (index, segment) in facts.reading.segments.iter().enumerate() {
+        put_segment(&mut writer, facts, index, segment)?;
+    }
+    writer.end_array()?;
     end(writer)
 }
 
@@ -32,130 +37,80 @@ fn put_server(writer: &mut Writer, facts: &ServerFacts) -> Result<(), AllocError
     put_number(writer, "uptime_milliseconds", facts.uptime)?;
     put_number(writer, "now_milliseconds", facts.time)?;
     put_number(writer, "resident_bytes", facts.resident)?;
-    put_addresses(writer, facts.addresses)?;
-    let reading = facts.reading;
-    put_object(
-        writer,
-        "connections",
-        &[("total", reading.accepted), ("open", reading.open)],
-    )
-}
-
-fn put_addresses(writer: &mut Writer, addresses: &[String]) -> Result<(), AllocError> {
     begin_list(writer, "addresses")?;
-    for address in addresses {
+    for address in facts.addresses {
         writer.string(address.as_str())?;
     }
-    writer.end_array()
+    writer.end_array()?;
+    let reading = facts.reading;
+    let connections = [("total", reading.accepted), ("open", reading.open)];
+    put_object(writer, "connections", &connections)
 }
 
 /// Writes the counts of requests.
-fn put_tally(writer: &mut Writer, tally: &RequestCounts) -> Result<(), AllocError> {
-    put_object(writer, "requests", &kinds(tally))?;
-    put_counts(
-        writer,
-        &[
-            ("scan_looks", tally.looks),
-            ("received_bytes", tally.bytes_in),
-            ("sent_bytes", tally.bytes_out),
-        ],
-    )?;
-    put_refusals(writer, &tally.refusals)
-}
-
-/// Writes the count of each refusal.
-fn put_refusals(writer: &mut Writer, counts: &[u64]) -> Result<(), AllocError> {
+fn put_requests(writer: &mut Writer, counts: &RequestCounts) -> Result<(), AllocError> {
+    put_object(writer, "requests", &kinds(counts))?;
+    put_number(writer, "scan_looks", Some(counts.looks))?;
+    put_number(writer, "received_bytes", Some(counts.bytes_in))?;
+    put_number(writer, "sent_bytes", Some(counts.bytes_out))?;
     begin_list(writer, "refusals")?;
-    for (place, count) in counts.iter().enumerate() {
-        put_refusal(writer, place, *count)?;
+    for (place, count) in counts.refusals.iter().enumerate() {
+        if let Some(why) = refusal_at(place) {
+            writer.begin_object()?;
+            put_number(writer, "number", Some(u64::from(why.code())))?;
+            put_text(writer, "name", Some(why.name()))?;
+            put_number(writer, "count", Some(*count))?;
+            writer.end_object()?;
+        }
     }
     writer.end_array()
 }
 
-fn put_refusal(writer: &mut Writer, place: usize, count: u64) -> Result<(), AllocError> {
-    let Some(why) = refusal_at(place) else {
-        return Ok(());
-    };
-    writer.begin_object()?;
-    put_number(writer, "number", Some(u64::from(why.code())))?;
-    put_text(writer, "name", Some(why.name()))?;
-    put_number(writer, "count", Some(count))?;
-    writer.end_object()
-}
-
-fn put_bounds(writer: &mut Writer) -> Result<(), AllocError> {
-    begin_list(writer, "bounds_microseconds")?;
-    for place in 0..BOUNDS {
-        writer.u64(bound(place))?;
-    }
-    writer.end_array()
-}
-
-fn put_segments(writer: &mut Writer, facts: &ServerFacts) -> Result<(), AllocError> {
-    begin_list(writer, "segments")?;
-    for (index, segment) in facts.reading.segments.iter().enumerate() {
-        put_segment(writer, facts, index, segment)?;
-    }
-    writer.end_array()
-}
-
+/// Writes the name, the status and the metrics of a segment.
 fn put_segment(
     writer: &mut Writer,
     facts: &ServerFacts,
     index: usize,
     segment: &SegmentSnapshot,
 ) -> Result<(), AllocError> {
-    writer.begin_object()?;
-    put_standing(writer, facts, index)?;
-    put_counts(
-        writer,
-        &[
-            ("updates", all(&segment.stores)),
-            ("repeats", segment.repeats),
-        ],
-    )?;
-    put_number(writer, "age_milliseconds", facts.age(segment))?;
-    put_all_times(writer, segment)?;
-    writer.end_object()
-}
-
-/// Writes a segment's index, name and status.
-fn put_standing(writer: &mut Writer, facts: &ServerFacts, index: usize) -> Result<(), AllocError> {
     let file = facts.files.get(index).copied();
-    let name = match file {
-        Some(file) => name_of(file),
-        None => None,
-    };
-    put_counts(writer, &[("segment", index as u64)])?;
+    writer.begin_object()?;
+    put_number(writer, "segment", Some(index as u64))?;
     put_text(writer, "file", file)?;
-    put_text(writer, "name", name)?;
-    let Some(status) = facts.statuses.get(index) else {
-        return Ok(());
-    };
-    put_counts(writer, &[("number", status.number)])?;
-    writer.key("fenced")?;
-    writer.boolean(status.is_fenced)
-}
-
-fn put_all_times(writer: &mut Writer, segment: &SegmentSnapshot) -> Result<(), AllocError> {
-    for (name, times) in [
-        ("store", &segment.stores),
-        ("value_wait", &segment.first_waits),
-        ("gate_wait", &segment.second_waits),
-    ] {
-        put_times(writer, name, times)?;
+    put_text(writer, "name", file.and_then(name_of))?;
+    if let Some(status) = facts.statuses.get(index) {
+        put_number(writer, "number", Some(status.number))?;
+        writer.key("fenced")?;
+        writer.boolean(status.is_fenced)?;
     }
-    Ok(())
+    put_number(writer, "updates", Some(all(&segment.stores)))?;
+    put_number(writer, "repeats", Some(segment.repeats))?;
+    put_number(writer, "age_milliseconds", facts.age(segment))?;
+    put_times(writer, "store", &segment.stores)?;
+    put_times(writer, "value_wait", &segment.first_waits)?;
+    put_times(writer, "gate_wait", &segment.second_waits)?;
+    writer.end_object()
 }
 
 /// Writes a histogram.
 fn put_times(writer: &mut Writer, name: &str, times: &HistogramSnapshot) -> Result<(), AllocError> {
-    begin_object(writer, name)?;
+    writer.key(name)?;
+    writer.begin_object()?;
     begin_list(writer, "counts")?;
     for count in &times.counts {
         writer.u64(*count)?;
     }
     writer.end_array()?;
-    put_counts(writer, &[("total_nanoseconds", times.total)])?;
+    put_number(writer, "total_nanoseconds", Some(times.total))?;
+    writer.end_object()
+}
+
+/// Writes an object of numbers as a member.
+fn put_object(writer: &mut Writer, name: &str, counts: &[(&str, u64)]) -> Result<(), AllocError> {
+    writer.key(name)?;
+    writer.begin_object()?;
+    for (name, count) in counts {
+        put_number(writer, *name, Some(*count))?;
+    }
     writer.end_object()
 }

@@ -1,6 +1,6 @@
 //! The history of the last three minutes.
 
-use crate::document::{begin, begin_list, end, put_counts};
+use crate::document::{begin, begin_list, end, put_number};
 use crate::facts::millis_of;
 use json::Writer;
 use snap_metrics::{BOUNDS, Counter, MetricsSnapshot, SegmentSnapshot};
@@ -44,13 +44,8 @@ impl Sample {
 
     fn put(&self, writer: &mut Writer) -> Result<(), AllocError> {
         writer.begin_object()?;
-        put_counts(
-            writer,
-            &[
-                ("uptime_milliseconds", self.uptime.get()),
-                ("scans", self.scans.get()),
-            ],
-        )?;
+        put_number(writer, "uptime_milliseconds", Some(self.uptime.get()))?;
+        put_number(writer, "scans", Some(self.scans.get()))?;
         begin_list(writer, "store_counts")?;
         for count in &self.stores {
             writer.u64(count.get())?;
@@ -84,10 +79,7 @@ impl History {
     /// An empty history. If memory for the samples runs out, no sample is ever kept.
     pub fn new(alloc: Global) -> History {
         History {
-            samples: match empty_samples(alloc) {
-                Ok(samples) => samples,
-                Err(AllocError) => Vec::new(alloc),
-            },
+            samples: empty_samples(alloc).unwrap_or(Vec::new(alloc)),
             taken: Counter::new(),
         }
     }

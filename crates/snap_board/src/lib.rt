@@ -1,13 +1,13 @@
-//! Answers HTTP requests about a server, for browsers and monitoring; each answer is a value. Begin
-//! with [`Board`] (board.rt), an [`http_server::Service`].
+//! Answers HTTP requests about a server, for browsers and monitoring. Begin with [`Board`]
+//! (board.rt), an [`http_server::Service`] whose answers are values, and with [`HttpServer`]
+//! (server.rt), which serves it over TCP.
 //!
 //! A board asks a [`snap_session::Service`] for scans and statuses, which change no segment, and
 //! its [`FactSource`] for the server's metrics, their history of three minutes, and the process's
-//! resources. It has no socket and doesn't block: `snap_http` moves the bytes. page.rt has the
-//! paths; docs/FORMATS.md, "HTTP", has the status and the content of each.
+//! resources. It has no socket and doesn't block. page.rt has the paths; docs/FORMATS.md, "HTTP",
+//! has the status and the content of each.
 #![tactic(auto)]
 
-mod amount;
 mod board;
 mod document;
 mod fact_source;
@@ -15,18 +15,16 @@ mod facts;
 mod figures;
 mod history;
 mod home;
-mod latency;
 mod metric;
 mod metrics;
 mod page;
-mod process;
 mod reply;
-mod sample;
 mod script;
+mod server;
 mod style;
 
 pub use board::Board;
-pub use fact_source::FactSource;
+pub use fact_source::{FactSource, Usage};
 pub use history::History;
 pub use page::Page;
-pub use process::Usage;
+pub use server::{Beat, HttpServer, MAX_CONNECTIONS, StopHandle};

@@ -1,177 +1,115 @@
-//! The metrics for Prometheus: their names and texts.
+//! The metrics for Prometheus, and the lines of one in its text format.
 
-/// A metric: its name, its kind and a line of help.
-#[derive(Clone, Copy)]
-pub(crate) struct Metric {
-    pub name: &'static str,
-    pub kind: &'static str,
-    pub help: &'static str,
+use std::alloc::AllocError;
+use std::fmt;
+
+/// Each metric: its name, its kind and a line of help.
+const METRICS: &str = "\
+snapd_info gauge The version of the program.
+snapd_uptime_seconds gauge How long the server has run.
+snapd_resident_memory_bytes gauge Memory of the process that lies in the machine's.
+snapd_connections_total counter Connections that were accepted.
+snapd_connections_open gauge Connections that are open.
+snapd_requests_total counter Requests that were answered, also with a refusal.
+snapd_refusals_total counter Requests that were refused.
+snapd_scan_looks_total counter Looks at registers that scans took.
+snapd_received_bytes_total counter Bytes of the frames of requests.
+snapd_sent_bytes_total counter Bytes of the frames of replies.
+snapd_updates_total counter Updates that were stored.
+snapd_repeats_total counter Updates that the segment held already.
+snapd_store_seconds histogram How long stores took.
+snapd_value_wait_seconds histogram How long stores waited for the device, for the value.
+snapd_gate_wait_seconds histogram How long stores waited for the device, for the gate.
+snapd_segment_age_seconds gauge Time since the last update that was stored since the start.
+snapd_segment_number gauge The number that the segment holds.
+snapd_segment_fenced gauge Whether the segment takes no update until a restart.
+snapd_build_info gauge The version of the program, always 1.
+snapd_connections_max gauge Connections that may be open.
+snapd_log_lost_lines_total counter Lines of the log that were lost.
+process_start_time_seconds gauge When the process was started, since 1970.
+process_cpu_seconds_total counter Time of processors that the process took.
+process_resident_memory_bytes gauge Memory of the process that lies in the machine's.
+process_virtual_memory_bytes gauge Addresses of memory that the process has.
+process_open_fds gauge Descriptors that are open.
+process_max_fds gauge Descriptors that may be open.
+snapd_segment_info gauge The name of the segment, which is its file's, always 1.
+";
+
+/// The kind of a metric, and its line of help.
+fn words_of(name: &str) -> Option<(&'static str, &'static str)> {
+    for metric in METRICS.lines() {
+        if let Some((own, words)) = metric.split_once(' ') {
+            if own == name {
+                return words.split_once(' ');
+            }
+        }
+    }
+    None
 }
 
-pub(crate) const INFO: Metric = Metric {
-    name: "snapd_info",
-    kind: "gauge",
-    help: "The version of the program.",
-};
+/// Appends the head of a metric: the two lines before its samples.
+pub(crate) fn put_head(out: &mut String, name: &str) -> Result<(), AllocError> {
+    let (kind, help) = words_of(name).unwrap_or(("", ""));
+    write!(out, "# HELP {name} {help}\n# TYPE {name} {kind}\n")
+}
 
-pub(crate) const UPTIME: Metric = Metric {
-    name: "snapd_uptime_seconds",
-    kind: "gauge",
-    help: "How long the server has run.",
-};
+/// The unit of a number: one, or a fraction of a second.
+#[derive(Clone, Copy)]
+pub(crate) enum Unit {
+    Whole,
+    Millisecond,
+    Microsecond,
+    Nanosecond,
+}
 
-pub(crate) const MEMORY: Metric = Metric {
-    name: "snapd_resident_memory_bytes",
-    kind: "gauge",
-    help: "Memory of the process that lies in the machine's.",
-};
+/// A number of units.
+#[derive(Clone, Copy)]
+pub(crate) struct Amount(pub u64, pub Unit);
 
-pub(crate) const CONNECTIONS: Metric = Metric {
-    name: "snapd_connections_total",
-    kind: "counter",
-    help: "Connections that were accepted.",
-};
+/// Prints the number in ones or in seconds, as a decimal fraction such as `0.000016`.
+impl fmt::Display for Amount {
+    fn fmt<W: fmt::Write>(&self, f: &mut fmt::Formatter<W>) -> fmt::Result {
+        let Amount(count, unit) = *self;
+        match unit {
+            Unit::Whole => write!(f, "{count}"),
+            Unit::Millisecond => write!(f, "{}.{:03}", count / 1_000, count % 1_000),
+            Unit::Microsecond => write!(f, "{}.{:06}", count / 1_000_000, count % 1_000_000),
+            Unit::Nanosecond => {
+                write!(f, "{}.{:09}", count / 1_000_000_000, count % 1_000_000_000)
+            }
+        }
+    }
+}
 
-pub(crate) const OPEN: Metric = Metric {
-    name: "snapd_connections_open",
-    kind: "gauge",
-    help: "Connections that are open.",
-};
+/// A number by its metric's name, if it is known, and its unit.
+pub(crate) type Single = (&'static str, Option<u64>, Unit);
 
-pub(crate) const REQUESTS: Metric = Metric {
-    name: "snapd_requests_total",
-    kind: "counter",
-    help: "Requests that were answered, also with a refusal.",
-};
+/// Appends each of these numbers of the whole server that is known, with its head.
+pub(crate) fn put_singles(out: &mut String, singles: &[Single]) -> Result<(), AllocError> {
+    for (name, count, unit) in singles {
+        if let Some(count) = *count {
+            put_head(out, *name)?;
+            writeln!(out, "{name} {}", Amount(count, *unit))?;
+        }
+    }
+    Ok(())
+}
 
-pub(crate) const REFUSED: Metric = Metric {
-    name: "snapd_refusals_total",
-    kind: "counter",
-    help: "Requests that were refused.",
-};
+/// A text as it is written in a label: with a backslash before each backslash and quote, and with
+/// `\n` for a line feed.
+#[derive(Clone, Copy)]
+pub(crate) struct Escaped<'a>(pub &'a str);
 
-pub(crate) const LOOKS: Metric = Metric {
-    name: "snapd_scan_looks_total",
-    kind: "counter",
-    help: "Looks at registers that scans took.",
-};
-
-pub(crate) const RECEIVED: Metric = Metric {
-    name: "snapd_received_bytes_total",
-    kind: "counter",
-    help: "Bytes of the frames of requests.",
-};
-
-pub(crate) const SENT: Metric = Metric {
-    name: "snapd_sent_bytes_total",
-    kind: "counter",
-    help: "Bytes of the frames of replies.",
-};
-
-pub(crate) const UPDATES: Metric = Metric {
-    name: "snapd_updates_total",
-    kind: "counter",
-    help: "Updates that were stored.",
-};
-
-pub(crate) const REPEATS: Metric = Metric {
-    name: "snapd_repeats_total",
-    kind: "counter",
-    help: "Updates that the segment held already.",
-};
-
-pub(crate) const STORE: Metric = Metric {
-    name: "snapd_store_seconds",
-    kind: "histogram",
-    help: "How long stores took.",
-};
-
-pub(crate) const VALUE_WAIT: Metric = Metric {
-    name: "snapd_value_wait_seconds",
-    kind: "histogram",
-    help: "How long stores waited for the device, for the value.",
-};
-
-pub(crate) const GATE_WAIT: Metric = Metric {
-    name: "snapd_gate_wait_seconds",
-    kind: "histogram",
-    help: "How long stores waited for the device, for the gate.",
-};
-
-pub(crate) const AGE: Metric = Metric {
-    name: "snapd_segment_age_seconds",
-    kind: "gauge",
-    help: "Time since the last update that was stored since the start.",
-};
-
-pub(crate) const NUMBER: Metric = Metric {
-    name: "snapd_segment_number",
-    kind: "gauge",
-    help: "The number that the segment holds.",
-};
-
-pub(crate) const FENCED: Metric = Metric {
-    name: "snapd_segment_fenced",
-    kind: "gauge",
-    help: "Whether the segment takes no update until a restart.",
-};
-
-pub(crate) const BUILD: Metric = Metric {
-    name: "snapd_build_info",
-    kind: "gauge",
-    help: "The version of the program, always 1.",
-};
-
-pub(crate) const MOST_CLIENTS: Metric = Metric {
-    name: "snapd_connections_max",
-    kind: "gauge",
-    help: "Connections that may be open.",
-};
-
-pub(crate) const LOST_LINES: Metric = Metric {
-    name: "snapd_log_lost_lines_total",
-    kind: "counter",
-    help: "Lines of the log that were lost.",
-};
-
-pub(crate) const STARTED: Metric = Metric {
-    name: "process_start_time_seconds",
-    kind: "gauge",
-    help: "When the process was started, since 1970.",
-};
-
-pub(crate) const PROCESSORS: Metric = Metric {
-    name: "process_cpu_seconds_total",
-    kind: "counter",
-    help: "Time of processors that the process took.",
-};
-
-pub(crate) const RESIDENT: Metric = Metric {
-    name: "process_resident_memory_bytes",
-    kind: "gauge",
-    help: "Memory of the process that lies in the machine's.",
-};
-
-pub(crate) const ADDRESSES: Metric = Metric {
-    name: "process_virtual_memory_bytes",
-    kind: "gauge",
-    help: "Addresses of memory that the process has.",
-};
-
-pub(crate) const DESCRIPTORS: Metric = Metric {
-    name: "process_open_fds",
-    kind: "gauge",
-    help: "Descriptors that are open.",
-};
-
-pub(crate) const MOST_DESCRIPTORS: Metric = Metric {
-    name: "process_max_fds",
-    kind: "gauge",
-    help: "Descriptors that may be open.",
-};
-
-pub(crate) const NAMES: Metric = Metric {
-    name: "snapd_segment_info",
-    kind: "gauge",
-    help: "The name of the segment, which is its file's, always 1.",
-};
+impl fmt::Display for Escaped<'_> {
+    fn fmt<W: fmt::Write>(&self, f: &mut fmt::Formatter<W>) -> fmt::Result {
+        for c in self.0.chars() {
+            match c {
+                '\\' => write!(f, "\\\\")?,
+                '"' => write!(f, "\\\"")?,
+                '\n' => write!(f, "\\n")?,
+                _ => write!(f, "{c}")?,
+            }
+        }
+        Ok(())
+    }
+}

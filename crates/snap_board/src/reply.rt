@@ -1,11 +1,17 @@
-//! Responses: their status, their headers and their content.
-ghost use Rattle.std.specs.Prelude.{◌≡◌, [], OnOk, OnErr};
+//! Answers, and the responses that carry them.
+ghost use Rattle.std.specs.Prelude.{◌≡◌, [], IfOk, OnOk};
 ghost use Rattle.snap_board.specs.Pages.{HasContent};
 
 use bytes::Bytes;
 use http::{HeaderName, HeaderValue, StatusCode, header};
 use http_server::Response;
 use std::alloc::AllocError;
+
+/// The page's content security policy: it may load its own style and script, and connect to its own
+/// server.
+const POLICY: &str =
+    "default-src 'none'; style-src 'self'; script-src 'self'; connect-src 'self'; img-src data:; base-uri 'none'; \
+        form-action 'none'; frame-ancestors 'none'";
 
 /// The kind of a content.
 #[derive(Clone, Copy, Debug, PartialEq, Eq)]
@@ -33,19 +39,47 @@ impl Kind {
     }
 }
 
-/// Fills a response with this content. The headers forbid browsers to cache it or to guess another
+/// The answer to a request.
+#[derive(Drop)]
+pub(crate) struct Answer {
+    pub status: StatusCode,
+    pub kind: Kind,
+    pub content: Bytes,
+}
+
+impl Answer {
+    /// An answer with a constant content.
+    pub(crate) fn fixed(status: StatusCode, kind: Kind, content: &'static [u8]) -> Answer
+        ensures { result.status ≡ status }
+    {
+        Answer {
+            status,
+            kind,
+            content: Bytes::from_static(content),
+        }
+    }
+
+    /// An answer with a text that was made for it.
+    pub(crate) fn made(status: StatusCode, kind: Kind, text: Vec<u8>) -> Result<Answer, AllocError>
+        ensures { IfOk result (λ answer. (answer.status ≡ status) × (answer.content ≡ text.items)) }
+    {
+        let content = Bytes::from_vec(text)?;
+        Ok(Answer {
+            status,
+            kind,
+            content,
+        })
+    }
+}
+
+/// Fills a response with an answer. The headers forbid browsers to cache it or to guess another
 /// kind.
-pub(crate) fn fill(
-    response: &mut Response,
-    status: StatusCode,
-    kind: Kind,
-    content: Bytes,
-) -> Result<(), AllocError>
+pub(crate) fn fill(response: &mut Response, answer: Answer) -> Result<(), AllocError>
     requires { response.old.body.items ≡ [] }
-    ensures { OnOk result (HasContent status content response.new) }
+    ensures { OnOk result (HasContent answer.status answer.content response.new) }
 {
-    response.status = status;
-    response.add_header(header::CONTENT_TYPE, kind.value())?;
+    response.status = answer.status;
+    response.add_header(header::CONTENT_TYPE, answer.kind.value())?;
     response.add_header(header::CACHE_CONTROL, HeaderValue::from_static("no-store"))?;
     response.add_header(
         header::X_CONTENT_TYPE_OPTIONS,
@@ -55,21 +89,29 @@ pub(crate) fn fill(
         HeaderName::from_static("cross-origin-resource-policy"),
         HeaderValue::from_static("same-origin"),
     )?;
-    response.body.push(content)
+    add_own_headers(response, &answer)?;
+    response.body.push(answer.content)
 }
 
-/// Fills a response with a text that was made for it.
-pub(crate) fn fill_with(
-    response: &mut Response,
-    status: StatusCode,
-    kind: Kind,
-    text: Vec<u8>,
-) -> Result<(), AllocError>
-    requires { response.old.body.items ≡ [] }
-    ensures { OnOk result (HasContent status text.items response.new) }
+/// Adds the headers that the page for people has alone, or an answer to a refused method.
+fn add_own_headers(response: &mut Response, answer: &Answer) -> Result<(), AllocError>
+    ensures status { response.new.status ≡ response.old.status }
+    ensures body { response.new.body ≡ response.old.body }
 {
-    let content = Bytes::from_vec(text)?;
-    fill(response, status, kind, content)
+    if let Kind::Html = answer.kind {
+        response.add_header(
+            header::CONTENT_SECURITY_POLICY,
+            HeaderValue::from_static(POLICY),
+        )?;
+        return response.add_header(
+            HeaderName::from_static("referrer-policy"),
+            HeaderValue::from_static("no-referrer"),
+        );
+    }
+    if answer.status == StatusCode::METHOD_NOT_ALLOWED {
+        return response.add_header(header::ALLOW, HeaderValue::from_static("GET, HEAD"));
+    }
+    Ok(())
 }
 
 /// Makes the response an empty 503, since memory ran out. It allocates nothing.

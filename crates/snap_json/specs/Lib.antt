@@ -1,4 +1,3 @@
 pub mod Each
 pub mod Documents
-pub mod Findings
 pub mod Quotation

@@ -173,8 +173,8 @@ fn end_list(mut writer: Writer) -> Result<Vec<u8>, AllocError>
     line_of(writer)
 }
 
-/// The document with its line feed.
-pub(crate) fn line_of(writer: Writer) -> Result<Vec<u8>, AllocError>
+/// The text that was written, with a line feed.
+pub fn line_of(writer: Writer) -> Result<Vec<u8>, AllocError>
     ensures { IfOk result (λ text. text.items ≡ writer.before ++ line_of writer.tokens) }
 {
     let mut text = writer.into_inner();

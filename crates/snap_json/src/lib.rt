@@ -2,8 +2,8 @@
 //! quoted text.
 //!
 //! Each document is one object on one line. A value is written as text if its bytes are UTF-8, and
-//! else in base64; the name of its member says which. `specs/Documents.antt` and
-//! `specs/Findings.antt` have the tokens of each document.
+//! else in base64; the name of its member says which. `specs/Documents.antt` has the tokens
+//! of each document but a file's.
 #![tactic(auto)]
 
 mod document;
@@ -11,7 +11,7 @@ mod findings;
 mod member;
 mod quotation;
 
-pub use document::{health_document, part_document, scan_document, status_document};
+pub use document::{health_document, line_of, part_document, scan_document, status_document};
 pub use findings::findings_document;
-pub use member::append_value;
+pub use member::{append_value, put_bytes};
 pub use quotation::quote;

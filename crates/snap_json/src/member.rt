@@ -90,8 +90,8 @@ fn put_head(writer: &mut Writer, index: usize, number: u64) -> Result<(), AllocE
     writer.u64(number)
 }
 
-/// Writes bytes as text if they are UTF-8, and else in base64.
-fn put_bytes(alloc: Global, writer: &mut Writer, bytes: &[u8]) -> Result<(), AllocError>
+/// Writes bytes as a member: as `text` if they are UTF-8, and else as `base64`.
+pub fn put_bytes(alloc: Global, writer: &mut Writer, bytes: &[u8]) -> Result<(), AllocError>
     ensures tokens { OnOk result (writer.new.tokens ≡ writer.old.tokens ++ bytes_tokens bytes.now) }
     ensures before { writer.new.before ≡ writer.old.before }
 {

@@ -2,7 +2,7 @@
 
 use crate::complaint::{fail, say, stop_without_memory};
 use mio::net::TcpListener;
-use snap_http::{HttpServer, StopHandle};
+use snap_board::{HttpServer, StopHandle};
 use snap_order::{MAX_SCANNERS, ServeOptions, Status, socket_path};
 use std::io::{self, ErrorKind};
 use std::net::{SocketAddr, ToSocketAddrs};

@@ -3,8 +3,7 @@
 use crate::http_place::HttpPlace;
 use crate::surroundings::{Process, Seen};
 use log::{info, warn};
-use snap_board::{Board, History};
-use snap_http::HttpServer;
+use snap_board::{Board, History, HttpServer};
 use snap_log::Lines;
 use snap_serve::Observer;
 use snap_session::Service;

@@ -2,8 +2,7 @@
 //! processor time and clocks.
 
 use snap_args::VERSION;
-use snap_board::{FactSource, History, Usage};
-use snap_http::Beat;
+use snap_board::{Beat, FactSource, History, Usage};
 use snap_log::Lines;
 use snap_metrics::{Metrics, MetricsSnapshot};
 use std::alloc::{AllocError, Global};

@@ -5,7 +5,7 @@ use bytes::Bytes;
 use http::{Request, StatusCode};
 use http_server::{Response, Service};
 use mio::net::TcpListener;
-use snap_http::{HttpServer, MAX_CONNECTIONS, StopHandle};
+use snap_board::{HttpServer, MAX_CONNECTIONS, StopHandle};
 use std::alloc::AllocError;
 use std::io::{self, Read, Write};
 use std::net::{Ipv4Addr, Net, Shutdown, SocketAddr, TcpStream};

@@ -1,0 +1,123 @@
+//! The table of a server's connections.
+ghost use Rattle.std.specs.Prelude.{◌≤◌};
+ghost use Rattle.slab.specs.Slab.{slab_len};
+ghost use Rattle.snap_board.specs.Answered.{Answered};
+ghost use Rattle.snap_board.specs.declared.server.connections.TheConstants.{MAX_CONNECTIONS};
+
+use super::connection::{HttpConnection, Step};
+use http_server::Service;
+use mio::net::TcpStream;
+use mio::{Registry, Token};
+use slab::Slab;
+use std::alloc::Global;
+use std::hash::RandomState;
+use std::time::{Duration, Instant};
+
+/// The most open connections. A further one replaces the one whose last progress was longest ago.
+pub const MAX_CONNECTIONS: usize = 64;
+
+/// The time without progress after which a connection is closed, in seconds.
+const MAX_REST: u64 = 10;
+
+/// A table of connections. Their keys are the tokens of their events.
+#[derive(Drop)]
+pub(crate) struct Connections {
+    alloc: Global,
+    keys: RandomState,
+    connections: Slab<HttpConnection>,
+    ghost few: { slab_len connections ≤ MAX_CONNECTIONS },
+}
+
+impl Connections {
+    /// An empty table. Peers choose the names of headers, so these are hashed with secret keys.
+    pub(crate) fn new(alloc: Global, keys: RandomState) -> Connections {
+        Connections {
+            alloc,
+            keys,
+            connections: Slab::new(alloc),
+        }
+    }
+
+    /// Adds a connection. If memory for it runs out, or the system can't register it, it is closed;
+    /// the others aren't affected.
+    pub(crate) fn welcome(&mut self, registry: &Registry, stream: TcpStream, now: Instant) {
+        self.make_room(now);
+        if self.connections.len() >= MAX_CONNECTIONS || self.connections.reserve(1).is_err() {
+            return;
+        }
+        let mut connection = HttpConnection::new(self.alloc, self.keys, stream, now);
+        let key = self.connections.vacant_key();
+        if connection.register(registry, Token(key)).is_ok() {
+            self.connections.insert_reserved(connection);
+        }
+    }
+
+    /// If the table is full, closes the connection whose last progress was longest ago.
+    fn make_room(&mut self, now: Instant)
+        ensures { slab_len self.new.connections ≤ slab_len self.old.connections }
+    {
+        if self.connections.len() < MAX_CONNECTIONS {
+            return;
+        }
+        if let Some(key) = self.slowest(now) {
+            self.connections.try_remove(key);
+        }
+    }
+
+    /// The key of the connection whose last progress was longest ago.
+    fn slowest(&self, now: Instant) -> Option<usize> {
+        let mut slowest = None;
+        let mut longest = Duration::ZERO;
+        for key in 0..self.connections.capacity() {
+            if let Some(connection) = self.connections.get(key) {
+                let rest = connection.rest(now);
+                if slowest.is_none() || rest > longest {
+                    slowest = Some(key);
+                    longest = rest;
+                }
+            }
+        }
+        slowest
+    }
+
+    /// Lets a connection take its steps, and drops it if it has ended.
+    pub(crate) fn go_on<S: Service>(
+        &mut self,
+        registry: &Registry,
+        key: usize,
+        service: &mut S,
+        now: Instant,
+    )
+        ensures { Answered S.answers service.old service.new }
+    {
+        let Some(connection) = self.connections.get_mut(key) else {
+            return;
+        };
+        let is_over = match connection.go_on(service, now) {
+            Step::Again => connection.report_again(registry, Token(key)).is_err(),
+            Step::Waits => false,
+            Step::Over => true,
+        };
+        if is_over {
+            self.connections.try_remove(key);
+        }
+    }
+
+    /// Closes the connections without progress for [`MAX_REST`] seconds.
+    pub(crate) fn let_slow_go(&mut self, now: Instant)
+        ensures { slab_len self.new.connections ≤ slab_len self.old.connections }
+    {
+        for key in 0..self.connections.capacity() {
+            if self.is_slow(key, now) {
+                self.connections.try_remove(key);
+            }
+        }
+    }
+
+    fn is_slow(&self, key: usize, now: Instant) -> bool {
+        match self.connections.get(key) {
+            Some(connection) => connection.rest(now) >= Duration::from_secs(MAX_REST),
+            None => false,
+        }
+    }
+}

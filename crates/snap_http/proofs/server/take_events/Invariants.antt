@@ -1,5 +1,0 @@
-use Rattle.snap_http.specs.Answered.{Answered}
-use Rattle.snap_http.proofs.server.take_events.Given as goal
-
-abbrev pub invariant-loop-event : goal.invariant-loop-event
-invariant-loop-event g l = Answered g.S.Service.answers l.fn.service l.service
