@@ -86,6 +86,12 @@ def test_wrong_places_of_a_segment(snapd, _):
         ("get F --count=0", not_in("the count 0 is", 1, 16)),
         ("get F --count=17", not_in("the count 17 is", 1, 16)),
         ("get F --index=-0", "the index is not a number from 0 to 255"),
+        ("get F --count=-0", "the count is not a number from 0 to 255"),
+        ("format F --index=16 --count=16", "the index 16 is not below the count 16"),
+        ("put F --index=2 --count=2", "the index 2 is not below the count 2"),
+        ("put F --count=17", not_in("the count 17 is", 1, 16)),
+        ("migrate F G --index=1", "the index 1 is not below the count 1"),
+        ("migrate F G --count=0", not_in("the count 0 is", 1, 16)),
         ("get F --index=x", no_value("--index <I>", "x")),
         ("get F G", unexpected("G", "get [OPTIONS] <FILE>")),
     )
@@ -121,8 +127,11 @@ def test_wrong_words_of_a_dump_and_a_load(snapd, _):
         snapd,
         ("dump D --tries 11", not_in("the number of tries 11 is", 1, 10)),
         ("dump D --timeout 0", not_in("the seconds of the timeout are", 1, 86_400)),
+        ("dump D --tries 0", not_in("the number of tries 0 is", 1, 10)),
         ("dump A:1 --wait=86401", not_in("the seconds of the wait are", 1, 86_400)),
         ("load D F --count 17", not_in("the count 17 is", 1, 16)),
+        ("load D F --count 0", not_in("the count 0 is", 1, 16)),
+        ("load D F --count=-0", "the count is not a number from 0 to 255"),
     )
 
 
@@ -218,6 +227,7 @@ def test_wrong_requests(snapd, _):
         ("call A scan --room 1", unknown_option("--room", "call <ADDR> <WORD>...")),
         ("call A scan --tries=0", not_in("the number of tries 0 is", 1, 10)),
         ("call A scan --tries=11", not_in("the number of tries 11 is", 1, 10)),
+        ("call A scan --tries=-0", "the tries is not a number from 0 to 255"),
         ("call A scan --tries=x", no_value("--tries <T>", "x")),
         ("call A scan --tries", wants_a_value("--tries <T>")),
     )
@@ -311,6 +321,7 @@ def test_wrong_words_of_a_watch(snapd, _):
         ("watch", missing("watch <ADDR> [SEGMENT]...", "<ADDR>")),
         ("watch A 16", no_segment),
         ("watch A 0 x", no_segment),
+        ("watch A 0 16 15", no_segment),
         ("watch A ''", no_segment),
         ("watch A 256", no_segment),
         ("watch A --every=0", no_time),
