@@ -123,7 +123,7 @@ def test_each_allocation_of_a_line_is_refused(snapd, _):
             with server.connect() as first:
                 assert told(first, SCAN) == told(last, SCAN) == snapshot((0, b""))
                 memory.runs_out()
-            wait_until(lambda: server.connections() == 1)
+            wait_until(lambda: ends_of(server) or not memory.wanting.exists())
             is_last = memory.wanting.exists()
             memory.is_there_again()
             last.close()
