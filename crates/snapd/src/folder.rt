@@ -3,7 +3,7 @@
 //! Only the header of a file says which segment it is, so the files may have any names that end in
 //! `.seg`. `snap_file_commands` judges the headers; this module reads them.
 ghost use Rattle.std.specs.Prelude.{◌≡◌, ◌<◌, ◌≤◌, All, IfOk, length};
-ghost use Rattle.snap_file_commands.specs.SegmentOrder.{IsNameable};
+ghost use Rattle.snap_file_commands.specs.SegmentOrder.{IsFaultOf};
 ghost use Rattle.snap_order.specs.Limits.{MAX_COUNT};
 
 use crate::complaint::fail_at_folder;
@@ -264,7 +264,7 @@ fn trouble_of<'f>(
     places: &[SegmentPlace],
     fault: FolderFault,
 ) -> FolderReadFault<'f>
-    requires { IsNameable fault }
+    requires { IsFaultOf places.now fault }
 {
     let pair = |first, second| pair_of(folder, files, places, first, second);
     FolderReadFault::Refused(match fault {
