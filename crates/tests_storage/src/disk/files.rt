@@ -293,8 +293,10 @@ const OVERWRITTEN: &str =
     "write: another program wrote it or cut it, and it is left so: never copy onto a file in use: snapd load makes a \
         new folder of a dump";
 
-/// The place of a gate.
+/// The places of two gates.
 const GATE: u64 = 20_480;
+
+const OTHER_GATE: u64 = 4_096;
 
 #[test]
 fn a_file_that_is_overwritten(rt: HostRuntime) -> Result<(), Fail> {
@@ -315,14 +317,20 @@ fn a_file_that_is_overwritten(rt: HostRuntime) -> Result<(), Fail> {
     file.set_len(FILE_LEN)?;
     says(&rt, &fault, OVERWRITTEN)?;
     // It is back. The next comparison comes after two syncs.
-    disk.write_at(1, b"b")?;
+    disk.write_at(OTHER_GATE, b"b")?;
     disk.sync()?;
     file.write_all_at(b"o", GATE)?;
-    disk.write_at(2, b"c")?;
+    disk.write_at(OTHER_GATE, b"c")?;
     disk.sync()?;
     is_unwritten(&rt, &mut disk);
     file.write_all_at(b"n", GATE)?;
-    disk.write_at(3, b"d")?;
+    disk.write_at(OTHER_GATE, b"d")?;
+    disk.sync()?;
+    // After a write of anything else than a gate or a body nothing is known.
+    disk.write_at(1, b"e")?;
+    disk.sync()?;
+    file.write_all_at(b"o", GATE)?;
+    disk.write_at(2, b"f")?;
     fs::remove_file(&rt, path.as_str())?;
     Ok(())
 }
