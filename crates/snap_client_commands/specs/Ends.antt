@@ -51,9 +51,10 @@ PrintsInPlace how text ended out out' =
     IsPrinted how text ended out out' ⊎ IsCutShort text ended out out'
 
 -- a text of the reply was printed or cut short, or memory ran out before the first byte
-unfoldable pub Prints : (how : Status) → OutputFormat → Reply → Exit → (out out' : Option (List ℕ)) → Type 0
-Prints how layout reply ended out out' =
-    ((text : List ℕ) × Shows layout reply text × PrintsInPlace how text ended out out')
+unfoldable pub Prints : (how : Status) → OutputFormat → CallRequest → Reply → Exit → (out out' : Option (List ℕ))
+    → Type 0
+Prints how layout question reply ended out out' =
+    ((text : List ℕ) × Shows layout question reply text × PrintsInPlace how text ended out out')
     ⊎ (IsRefused ended × Keeps out out')
 
 -- the reply has this segment's value, and no other one
@@ -75,7 +76,7 @@ abbrev pub EndsRead : OutputFormat → CallRequest → Reply → Exit → (out o
 EndsRead layout (Get segment) (reply.Part values) ended out out' =
     EndsGot segment values.items ended out out'
 EndsRead layout question reply ended out out' =
-    Prints (answer_status question reply) layout reply ended out out'
+    Prints (answer_status question reply) layout question reply ended out out'
 
 -- the reply is one to a read
 abbrev pub IsRead : Reply → Type 0

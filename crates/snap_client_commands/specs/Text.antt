@@ -1,9 +1,9 @@
--- The lines of a stored number and of the values of a reply (docs/FORMATS.md).
-use Rattle.std.specs.Prelude.{◌≡◌, ℕ, Bool, List, [], ◌∷◌, ◌++◌, codes, flat_map}
+-- The lines of a stored number and of the values and statuses of a reply (docs/FORMATS.md).
+use Rattle.std.specs.Prelude.{◌≡◌, ℕ, Bool, true, false, List, [], ◌∷◌, ◌++◌, codes, flat_map}
 use Rattle.std.specs.List.{list_any}
 use Rattle.std.specs.Fmt.{decimal}
 use Rattle.snap_frame.specs.declared.reply.Reply.{Reply}
-use Rattle.snap_frame.specs.declared.reply.Reply.TheVariants.{Snapshot, Part}
+use Rattle.snap_frame.specs.declared.reply.Reply.TheVariants.{Snapshot, Part, Status}
 use Rattle.snap_frame.specs.segment_value.SegmentValue.{SegmentValue}
 use Rattle.snap_frame.specs.declared.entries.SegmentStatus.{SegmentStatus}
 use Rattle.snap_frame.specs.declared.named.NamedValue.{NamedValue}
@@ -11,6 +11,8 @@ use Rattle.snap_stream.specs.Hex.{hex_text}
 use Rattle.snap_json.specs.Each.{each_from}
 use Rattle.snap_order.specs.declared.order.OutputFormat.{OutputFormat}
 use Rattle.snap_order.specs.declared.order.OutputFormat.TheVariants.{Lines}
+use Rattle.snap_order.specs.declared.order.CallRequest.{CallRequest}
+use Rattle.snap_order.specs.declared.order.CallRequest.TheVariants.{Health}
 
 -- a text with a line feed at its end
 abbrev pub line : List ℕ → List ℕ
@@ -35,15 +37,29 @@ value_line i v = value_text i v.number v.value
 abbrev pub named_line : NamedValue → List ℕ
 named_line v = value_text v.segment v.number v.value
 
--- the text has each value of the reply under its own segment and number, in order
+abbrev pub fence_text : Bool → List ℕ
+fence_text true = codes "1"
+fence_text false = codes "0"
+
+-- the line of segment i's number and fence
+abbrev pub status_line : ℕ → SegmentStatus → List ℕ
+status_line i s = line (segment_text i s.number ++ (codes " fenced " ++ fence_text s.is_fenced))
+
+-- the text has each value or status of the reply under its own segment and number, in order
 abbrev pub ShowsEach : Reply → List ℕ → Type 0
 ShowsEach (Snapshot values) text = text ≡ each_from value_line 0 values.items
 ShowsEach (Part values) text = text ≡ flat_map named_line values.items
+ShowsEach (Status statuses) text = text ≡ each_from status_line 0 statuses.items
 ShowsEach reply text = Unit {0}
 
+-- the text has each value or status of the reply to the call's request; only tests say what a health call prints
+abbrev pub ShowsValues : CallRequest → Reply → List ℕ → Type 0
+ShowsValues Health (Status statuses) text = Unit {0}
+ShowsValues question reply text = ShowsEach reply text
+
 -- it does if the output format is lines; only tests say what other texts have
-abbrev pub Shows : OutputFormat → Reply → List ℕ → Type 0
-Shows layout reply text = layout ≡ Lines → ShowsEach reply text
+abbrev pub Shows : OutputFormat → CallRequest → Reply → List ℕ → Type 0
+Shows layout question reply text = layout ≡ Lines → ShowsValues question reply text
 
 abbrev pub is_any_fenced : List SegmentStatus → Bool
 is_any_fenced statuses = list_any (λ s. s.is_fenced) statuses

@@ -303,7 +303,7 @@ fn print<W: Write, E: Write>(
     errors: &mut E,
 ) -> Exit
     requires { IsRead reply.now }
-    ensures { Prints (answer_status question.now reply.now) layout reply.now
+    ensures { Prints (answer_status question.now reply.now) layout question.now reply.now
         result (W.contents writer.old) (W.contents writer.new) }
 {
     let Ok(text) = answer_of(alloc, question, layout, reply) else {

@@ -4,9 +4,10 @@ ghost use Rattle.snap_stream.specs.Hex.{hex_text};
 ghost use Rattle.snap_json.specs.Each.{each_from};
 ghost use Rattle.snap_order.specs.declared.order.OutputFormat.TheVariants.{Lines};
 ghost use Rattle.snap_client_commands.specs.Ends.{IsRead};
-ghost use Rattle.snap_client_commands.specs.Text.{Shows, is_any_fenced, named_line, segment_text};
-ghost use Rattle.snap_client_commands.specs.Text.{value_line, value_text};
+ghost use Rattle.snap_client_commands.specs.Text.{Shows, ShowsEach, fence_text, is_any_fenced, named_line};
+ghost use Rattle.snap_client_commands.specs.Text.{segment_text, status_line, value_line, value_text};
 
+use bytes::Bytes;
 use itoa::Buffer;
 use snap_frame::{NamedValue, Reply, SegmentStatus, SegmentValue};
 use snap_json::{health_document, part_document, quote, scan_document, status_document};
@@ -22,7 +23,7 @@ pub(crate) fn answer_of(
     reply: &Reply,
 ) -> Result<Vec<u8>, AllocError>
     requires { IsRead reply.now }
-    ensures { IfOk result (λ text. Shows layout reply.now text.items) }
+    ensures { IfOk result (λ text. Shows layout question.now reply.now text.items) }
 {
     match layout {
         OutputFormat::Json => document_of(alloc, question, reply),
@@ -51,7 +52,7 @@ fn lines_of(
     reply: &Reply,
 ) -> Result<Vec<u8>, AllocError>
     requires { IsRead reply.now }
-    ensures { IfOk result (λ text. Shows layout reply.now text.items) }
+    ensures { IfOk result (λ text. Shows layout question.now reply.now text.items) }
 {
     match (question, reply) {
         (CallRequest::Health, Reply::Status(statuses)) => health_of(alloc, statuses),
@@ -80,7 +81,7 @@ pub(crate) fn is_any_fenced(statuses: &[SegmentStatus]) -> bool
 /// The lines of the reply to a read.
 fn text_of(alloc: Global, layout: OutputFormat, reply: &Reply) -> Result<Vec<u8>, AllocError>
     requires { IsRead reply.now }
-    ensures { IfOk result (λ text. Shows layout reply.now text.items) }
+    ensures { IfOk result (λ text. layout ≡ Lines → ShowsEach reply.now text.items) }
 {
     let mut out = Vec::new(alloc);
     match reply {
@@ -103,14 +104,7 @@ fn put_values(
         ≡ out.old.items ++ each_from value_line 0 values.now) }
 {
     for (index, value) in values.iter().enumerate() {
-        put_value(
-            alloc,
-            out,
-            layout,
-            index,
-            value.number,
-            value.value.as_slice(),
-        )?;
+        put_value(alloc, out, layout, index, value.number, &value.value)?;
     }
     Ok(())
 }
@@ -127,26 +121,28 @@ fn put_part(
 {
     for value in values {
         let index = usize::from(value.segment);
-        put_value(
-            alloc,
-            out,
-            layout,
-            index,
-            value.number,
-            value.value.as_slice(),
-        )?;
+        put_value(alloc, out, layout, index, value.number, &value.value)?;
     }
     Ok(())
 }
 
 /// Appends a line for each segment's status.
-fn put_statuses(out: &mut Vec<u8>, statuses: &[SegmentStatus]) -> Result<(), AllocError> {
+fn put_statuses(out: &mut Vec<u8>, statuses: &[SegmentStatus]) -> Result<(), AllocError>
+    ensures { OnOk result (out.new.items ≡ out.old.items ++ each_from status_line 0 statuses.now) }
+{
     for (index, status) in statuses.iter().enumerate() {
-        put_segment(out, index, status.number)?;
-        put_fence(out, status.is_fenced)?;
-        out.extend_from_slice(b"\n")?;
+        put_status(out, index, status)?;
     }
     Ok(())
+}
+
+/// Appends the line of one segment's status.
+fn put_status(out: &mut Vec<u8>, index: usize, status: &SegmentStatus) -> Result<(), AllocError>
+    ensures { OnOk result (out.new.items ≡ out.old.items ++ status_line index status.now) }
+{
+    put_segment(out, index, status.number)?;
+    put_fence(out, status.is_fenced)?;
+    out.extend_from_slice(b"\n")
 }
 
 /// Appends a line for each segment that is fenced.
@@ -169,13 +165,13 @@ fn put_value(
     layout: OutputFormat,
     index: usize,
     number: u64,
-    value: &[u8],
+    value: &Bytes,
 ) -> Result<(), AllocError>
     ensures { layout ≡ Lines → OnOk result (out.new.items
         ≡ out.old.items ++ value_text index number value.now) }
 {
     put_segment(out, index, number)?;
-    put_shown(alloc, out, layout, value)?;
+    put_shown(alloc, out, layout, value.as_slice())?;
     out.extend_from_slice(b"\n")
 }
 
@@ -200,7 +196,9 @@ pub(crate) fn put_shown(
 }
 
 /// Appends whether a segment is fenced.
-pub(crate) fn put_fence(out: &mut Vec<u8>, is_fenced: bool) -> Result<(), AllocError> {
+pub(crate) fn put_fence(out: &mut Vec<u8>, is_fenced: bool) -> Result<(), AllocError>
+    ensures { OnOk result (out.new.items ≡ out.old.items ++ (codes " fenced " ++ fence_text is_fenced)) }
+{
     if is_fenced {
         out.extend_from_slice(b" fenced 1")
     } else {

@@ -1,5 +1,5 @@
 //! One poll of a server.
-ghost use Rattle.std.specs.Prelude.{◌<◌, All, IfSome};
+ghost use Rattle.std.specs.Prelude.{◌<◌, IfSome};
 
 use crate::watch::row::Row;
 use bytes::Bytes;
@@ -38,22 +38,6 @@ impl From<AllocError> for WatchFault {
     fn from(_error: AllocError) -> WatchFault {
         WatchFault::Lost(ClientFault::NoMemory)
     }
-}
-
-/// The set of these segments, each less than 16. `None` if there are none, which means all segments
-/// of the server.
-pub fn set_of(segments: &[u8]) -> Option<SegmentSet>
-    requires { All (λ s. s < 16) segments.now }
-    ensures { IfSome result (λ set. 0 < set.bits) }
-{
-    let mut bits = 0u16;
-    for segment in segments {
-        bits |= 1u16 << *segment;
-    }
-    if bits == 0 {
-        return None;
-    }
-    Some(SegmentSet { bits })
 }
 
 /// Polls a server on its connection, and returns the rows of the watched segments in order: of all
