@@ -1,5 +1,5 @@
 pub mod Asked
-pub mod Faulted
+pub mod Layouts
 pub mod Masks
 pub mod Requests
 pub mod Tables

@@ -4,6 +4,4 @@ pub mod Words
 pub mod Dumps
 pub mod Numbers
 pub mod Requests
-pub mod Services
 pub mod Orders
-pub mod Faults

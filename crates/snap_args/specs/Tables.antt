@@ -1,8 +1,6 @@
 -- The grammar that the tables of arguments describe.
-use Rattle.std.specs.Prelude.{List, [], ◌∷◌, Some, pos}
+use Rattle.std.specs.Prelude.{List, [], ◌∷◌, Some}
 use Rattle.clap.specs.Words.{App, Rule, Text, new_app, with_rule}
-use Rattle.clap.specs.declared.builder.ArgAction.TheVariants.{Append}
-use Rattle.clap.specs.declared.builder.value_parser.ValueParser.TheVariants as parser
 use Rattle.snap_args.specs.Grammar.{choice_rule, flag_rule, number_rule, text_rule, texts_rule, word_rule}
 use Rattle.snap_args.specs.declared.grammar.Word.{Word}
 use Rattle.snap_args.specs.declared.grammar.Kind.{Kind}

@@ -1,36 +1,27 @@
 //! The arguments of `dump` and `load`.
-ghost use Rattle.std.specs.Prelude.{◌≡◌, ◌↔◌, IfErr, IfOk, IfSome, IsTrue, Some, codes};
-ghost use Rattle.clap.specs.Words.{first_value, found_of};
+ghost use Rattle.std.specs.Prelude.{◌≡◌, ◌↔◌, IfSome, IsTrue, Some, codes};
 ghost use Rattle.snap_order.specs.Limits.{MAX_COUNT};
 ghost use Rattle.snap_order.specs.Order.{IsDumpable, IsLoadable, IsOneTo};
 ghost use Rattle.snap_args.specs.Dumps.{IsAddressWord, IsHolderOf, are_digits, ends_in_port, is_port};
-ghost use Rattle.snap_args.specs.Faults.{IsDumpingFault, IsLoadingFault};
-ghost use Rattle.snap_args.specs.Numbers.{IsCountFault, IsLargeNumberOf, IsNumberOf};
+ghost use Rattle.snap_args.specs.Numbers.{IsLargeNumberOf};
+ghost use Rattle.snap_args.specs.Orders.{IsDumpOf, IsLoadOf};
+ghost use Rattle.snap_args.specs.Words.{Reads, word_of};
 
 use crate::WordFault;
-use crate::numbers::{count_of, limit_of, tries_of};
+use crate::numbers::{count_of, timeout_of, tries_of, wait_of};
 use clap::ArgMatches;
-use snap_order::{DumpOptions, DumpSource, LoadOptions, MAX_TIMEOUT};
+use snap_order::{DumpOptions, DumpSource, LoadOptions};
 
 /// Parses the arguments of `dump`.
 pub(crate) fn dumping<'a>(matches: &ArgMatches<'a>) -> Result<DumpOptions<'a>, WordFault>
-    ensures limits { IfOk result IsDumpable }
-    ensures holder { IfOk result
-        (λ d. IsHolderOf (first_value (found_of matches.now) (codes "holder")) d.holder) }
-    ensures tries { IfOk result
-        (λ d. IsNumberOf (first_value (found_of matches.now) (codes "tries")) d.tries) }
-    ensures wait { IfOk result
-        (λ d. IsLargeNumberOf (first_value (found_of matches.now) (codes "wait")) d.wait) }
-    ensures timeout { IfOk result
-        (λ d. IsLargeNumberOf (first_value (found_of matches.now) (codes "timeout")) d.timeout) }
-    ensures fault { IfErr result (IsDumpingFault (first_value (found_of matches.now))) }
+    ensures { Reads result (λ d. IsDumpable d × IsDumpOf (word_of matches.now) d) }
 {
     let Some(word) = matches.get_str("holder") else {
         return Err(WordFault::Missing { what: "holder" });
     };
     let tries = tries_of(matches)?;
-    let wait = limit_of(matches, "wait", MAX_TIMEOUT, WordFault::Wait)?;
-    let timeout = limit_of(matches, "timeout", MAX_TIMEOUT, WordFault::Timeout)?;
+    let wait = wait_of(matches)?;
+    let timeout = timeout_of(matches)?;
     Ok(DumpOptions {
         holder: holder_of(word),
         tries,
@@ -93,14 +84,7 @@ fn are_digits(bytes: &[u8]) -> bool
 
 /// Parses the arguments of `load`.
 pub(crate) fn loading<'a>(matches: &ArgMatches<'a>) -> Result<LoadOptions<'a>, WordFault>
-    ensures limits { IfOk result IsLoadable }
-    ensures folder { IfOk result
-        (λ l. Some l.folder.now ≡ first_value (found_of matches.now) (codes "folder")) }
-    ensures dump { IfOk result
-        (λ l. Some l.dump.now ≡ first_value (found_of matches.now) (codes "dump")) }
-    ensures count { IfOk result
-        (λ l. IsLargeNumberOf (first_value (found_of matches.now) (codes "count")) l.count) }
-    ensures fault { IfErr result (IsLoadingFault (first_value (found_of matches.now))) }
+    ensures { Reads result (λ l. IsLoadable l × IsLoadOf (word_of matches.now) l) }
 {
     let Some(folder) = matches.get_str("folder") else {
         return Err(WordFault::Missing { what: "folder" });
@@ -118,14 +102,11 @@ pub(crate) fn loading<'a>(matches: &ArgMatches<'a>) -> Result<LoadOptions<'a>, W
 
 /// The number of segments, if it was given.
 fn free_count_of(matches: &ArgMatches<'_>) -> Result<Option<u8>, WordFault>
-    ensures limits { IfOk result (λ count. IfSome count (IsOneTo MAX_COUNT)) }
-    ensures number { IfOk result
-        (IsLargeNumberOf (first_value (found_of matches.now) (codes "count"))) }
-    ensures fault { IfErr result
-        (IsCountFault (first_value (found_of matches.now) (codes "count"))) }
+    ensures { Reads result (λ count. IfSome count (IsOneTo MAX_COUNT)
+        × IsLargeNumberOf (word_of matches.now (codes "count")) count) }
 {
-    if matches.get_str("count").is_none() {
+    let Some(_word) = matches.get_str("count") else {
         return Ok(None);
-    }
+    };
     Ok(Some(count_of(matches)?))
 }

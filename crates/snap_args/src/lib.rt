@@ -1,8 +1,8 @@
 //! Parses the command line of `snapd`.
 //!
 //! [`order`] returns the parsed command line, an `Order`, or the fault in the arguments. `clap` parses the arguments by
-//! the grammar in `specs/Grammar.antt`; `specs/Orders.antt` says which order they ask for, and `specs/Faults.antt`
-//! which fault they have. [`lack_of`] and [`is_everywhere`] check the text of an address.
+//! the grammar in `specs/Grammar.antt`; `specs/Orders.antt` says which order they mean. [`lack_of`] and
+//! [`is_everywhere`] check the text of an address.
 #![tactic(auto)]
 
 mod address;
@@ -18,6 +18,6 @@ mod watch;
 mod words;
 
 pub use address::{AddressFault, is_everywhere, lack_of};
-pub use fault::{RequestFault, WordFault};
+pub use fault::WordFault;
 pub use grammar::VERSION;
 pub use words::order;

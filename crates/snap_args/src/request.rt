@@ -1,20 +1,19 @@
 //! The arguments that make up a request.
-ghost use Rattle.std.specs.Prelude.{◌≢◌, ◌<◌, ◌≤◌, ◌∷◌, [], IfErr, IfOk, None, Some, codes, length, map};
-ghost use Rattle.clap.specs.Words.{Text, first_value, found_of};
-ghost use Rattle.snap_order.specs.Messages.{IsAskable, max_payload, payload};
+ghost use Rattle.std.specs.Prelude.{◌≢◌, ◌<◌, ◌≤◌, ◌∷◌, [], None, Some, codes, length, map};
+ghost use Rattle.clap.specs.Words.{Text};
 ghost use Rattle.snap_order.specs.Limits.{MAX_COUNT};
-ghost use Rattle.snap_order.specs.Order.{FitsUpdate, IsWithin, request_of};
+ghost use Rattle.snap_order.specs.Messages.{IsAskable, max_payload, payload};
+ghost use Rattle.snap_order.specs.Order.{FitsUpdate, IsWithin};
+ghost use Rattle.snap_order.specs.declared.order.CallRequest.{CallRequest};
 ghost use Rattle.snap_order.specs.declared.order.CallRequest.TheVariants as question;
 ghost use Rattle.snap_args.specs.Numbers.{IsNumberOf};
-ghost use Rattle.snap_args.specs.Requests.{IsGetFault, IsNoRequest, IsOfNoForm, IsPartFault};
-ghost use Rattle.snap_args.specs.Requests.{IsPartOf, IsPutFault, IsPutOf, IsQuestionOf};
-ghost use Rattle.snap_args.specs.Requests.{IsRequestFault, IsSourceOf, IsUpdateFault, IsUpdateOf};
-ghost use Rattle.snap_args.specs.Requests.{IsValueFault};
-ghost use Rattle.snap_args.specs.Words.{all_values};
+ghost use Rattle.snap_args.specs.Requests.{IsPartOf, IsPutOf, IsQuestionOf, IsSourceOf, IsUpdateOf};
+ghost use Rattle.snap_args.specs.Requests.{KeepsLimits};
+ghost use Rattle.snap_args.specs.Words.{Reads, word_of, words_of};
 
+use crate::WordFault;
 use crate::numbers::{after_of, mask_of};
 use crate::words::is;
-use crate::{RequestFault, WordFault};
 use bytes::Bytes;
 use clap::ArgMatches;
 use snap_order::{
@@ -25,22 +24,11 @@ use std::alloc::Global;
 
 /// Parses the request of a call, within the limits.
 pub(crate) fn question_of(alloc: Global, matches: &ArgMatches<'_>) -> Result<CallRequest, WordFault>
-    ensures question { IfOk result (IsQuestionOf
-        (all_values (found_of matches.now) (codes "request"))
-        (first_value (found_of matches.now) (codes "value"))
-        (first_value (found_of matches.now) (codes "after"))) }
-    ensures fits { IfOk result (λ q. length (payload (request_of q)) ≤ max_payload) }
-    ensures askable { IfOk result (λ q. IsAskable (request_of q)) }
-    ensures within { IfOk result IsWithin }
-    ensures fault { IfErr result (IsRequestFault
-        (all_values (found_of matches.now) (codes "request"))
-        (first_value (found_of matches.now) (codes "value"))
-        (first_value (found_of matches.now) (codes "after"))) }
+    ensures { Reads result (λ q. KeepsLimits q
+        × IsQuestionOf (words_of matches.now (codes "request"))
+        (word_of matches.now (codes "value")) (word_of matches.now (codes "after")) q) }
 {
-    match matches.get_strs("request") {
-        Some(words) => question(alloc, words, matches),
-        None => Err(WordFault::Request(RequestFault::Form)),
-    }
+    question(alloc, matches.get_strs("request").unwrap_or(&[]), matches)
 }
 
 /// Parses these arguments as a request, with the options of a put.
@@ -49,22 +37,16 @@ fn question(
     words: &[&str],
     matches: &ArgMatches<'_>,
 ) -> Result<CallRequest, WordFault>
-    ensures question { IfOk result (IsQuestionOf (map (λ w. w.now) words.now)
-        (first_value (found_of matches.now) (codes "value"))
-        (first_value (found_of matches.now) (codes "after"))) }
-    ensures fits { IfOk result (λ q. length (payload (request_of q)) ≤ max_payload) }
-    ensures askable { IfOk result (λ q. IsAskable (request_of q)) }
-    ensures within { IfOk result IsWithin }
-    ensures fault { IfErr result (IsRequestFault (map (λ w. w.now) words.now)
-        (first_value (found_of matches.now) (codes "value"))
-        (first_value (found_of matches.now) (codes "after"))) }
+    ensures { Reads result (λ q. KeepsLimits q
+        × IsQuestionOf (map (λ w. w.now) words.now)
+        (word_of matches.now (codes "value")) (word_of matches.now (codes "after")) q) }
 {
     if words.len() == 2 && is(words[0], "put") {
         let put = put(alloc, words[1], matches)?;
         return Ok(CallRequest::Put(put));
     }
     if matches.get_str("value").is_some() || matches.get_str("after").is_some() {
-        return Err(WordFault::Request(RequestFault::NotPut));
+        return Err(WordFault::Rule("--value and --after are for `put I` alone"));
     }
     plain_question(alloc, words)
 }
@@ -72,11 +54,8 @@ fn question(
 /// Parses these arguments as a request other than a put, without its options.
 fn plain_question(alloc: Global, words: &[&str]) -> Result<CallRequest, WordFault>
     requires other { (i : Text) → map (λ w. w.now) words.now ≢ codes "put" ∷ i ∷ [] }
-    ensures question { IfOk result (IsQuestionOf (map (λ w. w.now) words.now) None None) }
-    ensures fits { IfOk result (λ q. length (payload (request_of q)) ≤ max_payload) }
-    ensures askable { IfOk result (λ q. IsAskable (request_of q)) }
-    ensures within { IfOk result IsWithin }
-    ensures fault { IfErr result (IsRequestFault (map (λ w. w.now) words.now) None None) }
+    ensures { Reads result (λ q. KeepsLimits q
+        × IsQuestionOf (map (λ w. w.now) words.now) None None q) }
 {
     if words.len() == 1 && is(words[0], "scan") {
         return Ok(CallRequest::Request(Request::Scan));
@@ -99,47 +78,37 @@ fn plain_question(alloc: Global, words: &[&str]) -> Result<CallRequest, WordFaul
         let update = update(alloc, words[1], words[2], words[3])?;
         return Ok(CallRequest::Request(update));
     }
-    Err(WordFault::Request(form_fault(words)))
+    Err(WordFault::Rule(form_rule(words)))
 }
 
-/// The fault of arguments that have the form of no request.
-fn form_fault(words: &[&str]) -> RequestFault
-    requires other { IsOfNoForm (map (λ w. w.now) words.now) }
-    ensures { IsNoRequest (map (λ w. w.now) words.now) None None result }
-{
-    let Some(&name) = words.first() else {
-        return RequestFault::Form;
-    };
-    if is(name, "put") || is(name, "get") {
-        return RequestFault::OneSegment;
+/// The rule that arguments break if they have the form of no request.
+fn form_rule(words: &[&str]) -> &'static str {
+    if words
+        .first()
+        .is_some_and(|name| is(*name, "put") || is(*name, "get"))
+    {
+        return "a put is `put I`, and a get `get I`, of one segment";
     }
-    RequestFault::Form
+    "the request is not `put I`, `get I`, `update I NUMBER HEX`, `scan`, `part MASK`, `status` or `health`"
 }
 
 /// Parses the segment of a get, which is less than 16.
 fn segment_to_get(word: &str) -> Result<u8, WordFault>
-    ensures segment { IfOk result (IsNumberOf (Some word.now)) }
-    ensures below { IfOk result (λ i. i < MAX_COUNT) }
-    ensures fault { IfErr result (IsGetFault word.now) }
+    ensures { Reads result (λ i. (i < MAX_COUNT) × IsNumberOf (Some word.now) i) }
 {
     match word.parse::<u8>() {
         Ok(segment) if segment < MAX_COUNT => Ok(segment),
-        _ => Err(WordFault::Request(RequestFault::GetSegment)),
+        _ => Err(WordFault::Rule("the segment to get is not a number from 0 to 15")),
     }
 }
 
 /// Parses a put of this segment, with its options.
 fn put(alloc: Global, segment: &str, matches: &ArgMatches<'_>) -> Result<PutOptions, WordFault>
-    ensures put { IfOk result (IsPutOf segment.now
-        (first_value (found_of matches.now) (codes "value"))
-        (first_value (found_of matches.now) (codes "after"))) }
-    ensures within { IfOk result (λ p. IsWithin (question.Put p)) }
-    ensures fault { IfErr result (IsPutFault segment.now
-        (first_value (found_of matches.now) (codes "value"))
-        (first_value (found_of matches.now) (codes "after"))) }
+    ensures { Reads result (λ p. IsWithin (question.Put p) × IsPutOf segment.now
+        (word_of matches.now (codes "value")) (word_of matches.now (codes "after")) p) }
 {
     let Ok(segment) = segment.parse::<u8>() else {
-        return Err(WordFault::Request(RequestFault::PutSegment));
+        return Err(WordFault::Rule("the segment to put is not a number from 0 to 255"));
     };
     let after = after_of(matches)?;
     let value = source_of(alloc, matches)?;
@@ -152,18 +121,14 @@ fn put(alloc: Global, segment: &str, matches: &ArgMatches<'_>) -> Result<PutOpti
 
 /// The source of a put's value.
 fn source_of(alloc: Global, matches: &ArgMatches<'_>) -> Result<Source, WordFault>
-    ensures source { IfOk result
-        (IsSourceOf (first_value (found_of matches.now) (codes "value"))) }
-    ensures fits { IfOk result FitsUpdate }
-    ensures fault { IfErr result
-        (IsValueFault (first_value (found_of matches.now) (codes "value"))) }
+    ensures { Reads result (λ s. FitsUpdate s × IsSourceOf (word_of matches.now (codes "value")) s) }
 {
     let Some(text) = matches.get_str("value") else {
         return Ok(Source::Input);
     };
     if text.len() > MAX_UPDATE_VALUE {
         let len = text.len();
-        return Err(WordFault::Request(RequestFault::TooLong { len }));
+        return Err(WordFault::TooLong { len });
     }
     let bytes = Bytes::copy_from_slice(alloc, text.as_bytes())?;
     Ok(Source::Words(bytes))
@@ -171,40 +136,41 @@ fn source_of(alloc: Global, matches: &ArgMatches<'_>) -> Result<Source, WordFaul
 
 /// Parses the scan of the segments in this mask.
 fn part(mask: &str) -> Result<Request, WordFault>
-    ensures part { IfOk result (IsPartOf mask.now) }
-    ensures fits { IfOk result (λ r. length (payload r) ≤ max_payload) }
-    ensures askable { IfOk result IsAskable }
-    ensures fault { IfErr result (IsPartFault mask.now) }
+    ensures { Reads result (λ r. IsAskable r × IsPartOf mask.now r) }
 {
     let Some(bits) = mask_of(mask) else {
-        return Err(WordFault::Request(RequestFault::Mask));
+        return Err(WordFault::Rule("the part's mask is not four hexadecimal digits"));
     };
     if bits == 0 {
-        return Err(WordFault::Request(RequestFault::NoSegment));
+        return Err(WordFault::Rule("the part's mask names no segment"));
     }
     Ok(Request::Part(SegmentSet { bits }))
 }
 
 /// Parses an update.
 fn update(alloc: Global, segment: &str, number: &str, value: &str) -> Result<Request, WordFault>
-    ensures update { IfOk result (IsUpdateOf segment.now number.now value.now) }
-    ensures fits { IfOk result (λ r. length (payload r) ≤ max_payload) }
-    ensures askable { IfOk result IsAskable }
-    ensures fault { IfErr result (IsUpdateFault segment.now number.now value.now) }
+    ensures { Reads result (λ r. (length (payload r) ≤ max_payload)
+        × IsUpdateOf segment.now number.now value.now r) }
 {
     let Ok(segment) = segment.parse::<u8>() else {
-        return Err(WordFault::Request(RequestFault::Segment));
+        return Err(WordFault::Rule("the update's segment is not a number from 0 to 255"));
     };
     let Ok(number) = number.parse::<u64>() else {
-        return Err(WordFault::Request(RequestFault::Number));
+        return Err(WordFault::Rule(
+            "the update's number is not a number from 0 to 18446744073709551615",
+        ));
     };
     let bytes = match read_hex(alloc, value.as_bytes())? {
         Some(bytes) => bytes,
-        None => return Err(WordFault::Request(RequestFault::Value)),
+        None => {
+            return Err(WordFault::Rule(
+                "the update's value is not `-` or two hexadecimal digits for each byte",
+            ));
+        }
     };
     let len = bytes.len();
     if len > MAX_UPDATE_VALUE {
-        return Err(WordFault::Request(RequestFault::TooLong { len }));
+        return Err(WordFault::TooLong { len });
     }
     let Ok(value) = Bytes::from_vec(bytes) else {
         return Err(WordFault::Memory);

@@ -1,18 +1,17 @@
 //! The arguments of `serve`.
-ghost use Rattle.std.specs.Prelude.{◌≡◌, ◌⊎◌, [], ◌∷◌, IfErr, IfOk, codes, length, map};
-ghost use Rattle.clap.specs.Words.{first_value, found_of};
+ghost use Rattle.std.specs.Prelude.{◌≡◌, [], ◌∷◌, IfOk, codes, length, map};
 ghost use Rattle.snap_order.specs.Order.{IsOneTo, IsServable, KeepsLimits};
-ghost use Rattle.snap_args.specs.Faults.{IsAddressesFault, IsFolderFault, IsPathFault};
-ghost use Rattle.snap_args.specs.Faults.{IsServiceFault, IsServingFault};
-ghost use Rattle.snap_args.specs.Numbers.{IsLevelFault, IsLevelOf};
-ghost use Rattle.snap_args.specs.Services.{AreAddressesOf, IsServiceOf};
-ghost use Rattle.snap_args.specs.Words.{all_values};
+ghost use Rattle.snap_args.specs.Numbers.{IsLevelOf};
+ghost use Rattle.snap_args.specs.Orders.{AreAddressesOf, IsServiceOf};
+ghost use Rattle.snap_args.specs.Words.{Reads, word_of, words_of};
 
 use crate::WordFault;
-use crate::numbers::{connections_of, limit_of, mode_of, scanners_of};
+use crate::numbers::{connections_of, limit_of, mode_of, number_to};
 use crate::words::is;
 use clap::ArgMatches;
-use snap_order::{Level, MAX_ADDRESSES, MAX_CLIENTS, MAX_COUNT, MAX_IDLE, ServeOptions};
+use snap_order::{
+    Level, MAX_ADDRESSES, MAX_CLIENTS, MAX_COUNT, MAX_IDLE, MAX_SCANNERS, ServeOptions,
+};
 use std::alloc::{AllocError, Global};
 
 /// Parses the arguments of a server with files, which are in order of segment.
@@ -20,23 +19,22 @@ pub(crate) fn serving<'a>(
     alloc: Global,
     matches: &ArgMatches<'a>,
 ) -> Result<ServeOptions<'a>, WordFault>
-    ensures limits { IfOk result IsServable }
-    ensures files { IfOk result (λ s. map (λ f. f.now) s.files.items
-        ≡ all_values (found_of matches.now) (codes "files")) }
-    ensures service { IfOk result (IsServiceOf (first_value (found_of matches.now))
-        (all_values (found_of matches.now))) }
-    ensures fault { IfErr result (IsServingFault (first_value (found_of matches.now))
-        (all_values (found_of matches.now))) }
+    ensures { Reads result (λ s. IsServable s
+        × (words_of matches.now (codes "files") ≡ map (λ f. f.now) s.files.items)
+        × IsServiceOf (word_of matches.now) (words_of matches.now) s) }
 {
-    let Some(files) = matches.get_strs("files") else {
-        return Err(WordFault::NoFiles);
-    };
-    let count = files.len();
-    if count == 0 {
-        return Err(WordFault::NoFiles);
+    let files = matches.get_strs("files").unwrap_or(&[]);
+    let number = files.len();
+    if number == 0 {
+        return Err(WordFault::Rule("no FILE and no --dir is given"));
     }
-    if count > usize::from(MAX_COUNT) {
-        return Err(WordFault::Files { count });
+    let most = usize::from(MAX_COUNT);
+    if number > most {
+        return Err(WordFault::Outside {
+            what: "number of files",
+            number,
+            most,
+        });
     }
     let files = Vec::from_slice(alloc, files)?;
     service_of(alloc, matches, files)
@@ -47,19 +45,15 @@ pub(crate) fn folder_serving<'a>(
     alloc: Global,
     matches: &ArgMatches<'a>,
 ) -> Result<ServeOptions<'a>, WordFault>
-    ensures limits { IfOk result KeepsLimits }
-    ensures none { IfOk result (λ s. length s.files.items ≡ 0) }
-    ensures unnamed { IfOk result (λ s. all_values (found_of matches.now) (codes "files") ≡ []) }
-    ensures service { IfOk result (IsServiceOf (first_value (found_of matches.now))
-        (all_values (found_of matches.now))) }
-    ensures fault { IfErr result (IsFolderFault (first_value (found_of matches.now))
-        (all_values (found_of matches.now))) }
+    ensures { Reads result (λ s. KeepsLimits s × (length s.files.items ≡ 0)
+        × (words_of matches.now (codes "files") ≡ [])
+        × IsServiceOf (word_of matches.now) (words_of matches.now) s) }
 {
     if matches
         .get_strs("files")
         .is_some_and(|files| !files.is_empty())
     {
-        return Err(WordFault::FilesAndFolder);
+        return Err(WordFault::Rule("FILEs and --dir are given, and a server has either"));
     }
     service_of(alloc, matches, Vec::new(alloc))
 }
@@ -70,19 +64,16 @@ fn service_of<'a>(
     matches: &ArgMatches<'a>,
     files: Vec<&'a str>,
 ) -> Result<ServeOptions<'a>, WordFault>
-    ensures limits { IfOk result KeepsLimits }
     ensures files { IfOk result (λ s. s.files.items ≡ files.entry.items) }
-    ensures service { IfOk result (IsServiceOf (first_value (found_of matches.now))
-        (all_values (found_of matches.now))) }
-    ensures fault { IfErr result (IsServiceFault (first_value (found_of matches.now))
-        (all_values (found_of matches.now))) }
+    ensures read { Reads result (λ s. KeepsLimits s
+        × IsServiceOf (word_of matches.now) (words_of matches.now) s) }
 {
     let addresses = addresses_of(alloc, matches)?;
     let socket_mode = mode_of(matches)?;
-    let scanners = scanners_of(matches)?;
+    let scanners = number_to(matches, "scanners", "number of scanners", MAX_SCANNERS)?;
     let connections = connections_of(matches)?;
-    let clients = limit_of(matches, "clients-max", MAX_CLIENTS, WordFault::Clients)?;
-    let idle = limit_of(matches, "idle", MAX_IDLE, WordFault::Idle)?;
+    let clients = limit_of(matches, "clients-max", "most clients", MAX_CLIENTS)?;
+    let idle = limit_of(matches, "idle", "idle seconds", MAX_IDLE)?;
     let log = level_of(matches)?;
     let http = matches.get_str("http");
     Ok(ServeOptions {
@@ -100,21 +91,20 @@ fn service_of<'a>(
 
 /// The addresses at which a server listens, in order.
 fn addresses_of<'a>(alloc: Global, matches: &ArgMatches<'a>) -> Result<Vec<&'a str>, WordFault>
-    ensures limits { IfOk result (λ all. IsOneTo MAX_ADDRESSES (length all.items)) }
-    ensures addresses { IfOk result (λ all.
-        AreAddressesOf (first_value (found_of matches.now) (codes "address"))
-        (all_values (found_of matches.now) (codes "listen")) (map (λ a. a.now) all.items)) }
-    ensures fault { IfErr result (λ why.
-        IsPathFault (first_value (found_of matches.now) (codes "address")) (codes "address") why
-        ⊎ IsAddressesFault (all_values (found_of matches.now) (codes "listen")) why) }
+    ensures { Reads result (λ all. IsOneTo MAX_ADDRESSES (length all.items)
+        × AreAddressesOf (word_of matches.now (codes "address"))
+        (words_of matches.now (codes "listen")) (map (λ a. a.now) all.items)) }
 {
     let Some(address) = matches.get_str("address") else {
         return Err(WordFault::Missing { what: "address" });
     };
     let further = matches.get_strs("listen").unwrap_or(&[]);
     if further.len() >= MAX_ADDRESSES {
-        let count = further.len().saturating_add(1);
-        return Err(WordFault::Addresses { count });
+        return Err(WordFault::Outside {
+            what: "number of addresses",
+            number: further.len().saturating_add(1),
+            most: MAX_ADDRESSES,
+        });
     }
     Ok(behind(alloc, address, further)?)
 }
@@ -131,13 +121,10 @@ fn behind<'a>(alloc: Global, first: &'a str, others: &[&'a str]) -> Result<Vec<&
 
 /// The level of a server's log.
 fn level_of(matches: &ArgMatches<'_>) -> Result<Level, WordFault>
-    ensures level { IfOk result
-        (IsLevelOf (first_value (found_of matches.now) (codes "log"))) }
-    ensures fault { IfErr result
-        (IsLevelFault (first_value (found_of matches.now) (codes "log"))) }
+    ensures { Reads result (IsLevelOf (word_of matches.now (codes "log"))) }
 {
     let Some(word) = matches.get_str("log") else {
-        return Err(WordFault::Level);
+        return Err(WordFault::Missing { what: "log" });
     };
     if is(word, "error") {
         return Ok(Level::Error);
@@ -151,5 +138,5 @@ fn level_of(matches: &ArgMatches<'_>) -> Result<Level, WordFault>
     if is(word, "debug") {
         return Ok(Level::Debug);
     }
-    Err(WordFault::Level)
+    Err(WordFault::Rule("the log is not `error`, `warn`, `info` or `debug`"))
 }

@@ -1,35 +1,37 @@
-use Rattle.std.proofs.Common.{◌≡◌, None, codes, length, map, arith, rules}
+use Rattle.std.proofs.Common.{◌≡◌, ◌≢◌, None, codes, length, map, arith, refl, rules}
 use Rattle.std.proofs.lemmas.Bool.Decides.{nat_tests}
-use Rattle.snap_args.specs.Requests.{IsRequestFault}
-use Rattle.snap_args.proofs.Requests.{four_words, get_fault, part_fault, two_words, update_fault}
+use Rattle.std.proofs.lemmas.Nat.{pow_pos}
+use Rattle.std.proofs.Math.Pow.{pow-lt}
+use Rattle.std.proofs.lemmas.Grind.{common_steps}
+use Rattle.snap_order.specs.declared.order.CallRequest.{CallRequest}
+use Rattle.snap_args.specs.Requests.{IsQuestionOf, KeepsLimits}
+use Rattle.snap_args.specs.declared.fault.WordFault.TheVariants.{Memory}
+use Rattle.snap_args.proofs.Requests.{four_words, no_get, no_question, two_words}
 use Rattle.snap_args.proofs.request.plain_question.Goals as goal
 
-pub returns-in_err-part-clause-fault : goal.returns-in_err-part-clause-fault
-returns-in_err-part-clause-fault c =
+pub returns-in_err-segment : goal.returns-in_err-segment
+returns-in_err-segment c =
     let long : length c.args.words.now ≡ 2 = grind (arith, nat_tests) in
-    let fault : IsRequestFault (map (λ w. w.now) c.args.words.now) None None
-    c.in_err-part.field-0.0 =
-    part_fault _ None None _ (two_words c.args.words.now _ (codes "part") long
-    (c.is-then-words-eq2.ensures.0 c.if-is-4.true)) c.in_err-part.field-0.0
-    c.in_err-part.ensures.fault in
+    let two = two_words c.args.words.now _ (codes "get") long (c.is-then-words-eq2-2.ensures.0 c.if-is-5.true) in
+    let none : c.in_err-segment.field-0.0 ≢ Memory → (q : CallRequest)
+    → KeepsLimits q × IsQuestionOf (map (λ w. w.now) c.args.words.now) None None q → ⊥ =
+    λ other q is. no_get _ _ two (c.in_err-segment.ensures other) q is.0.2 is.1 in
     search rules
 
-pub returns-in_err-segment-clause-fault : goal.returns-in_err-segment-clause-fault
-returns-in_err-segment-clause-fault c =
+pub returns-then-is-5 : goal.returns-then-is-5
+returns-then-is-5 c =
     let long : length c.args.words.now ≡ 2 = grind (arith, nat_tests) in
-    let fault : IsRequestFault (map (λ w. w.now) c.args.words.now) None None
-    c.in_err-segment.field-0.0 =
-    get_fault _ None None _ (two_words c.args.words.now _ (codes "get") long
-    (c.is-then-words-eq2-2.ensures.0 c.if-is-5.true)) c.in_err-segment.field-0.0
-    c.in_err-segment.ensures.fault in
-    search rules
+    let two = two_words c.args.words.now _ (codes "get") long (c.is-then-words-eq2-2.ensures.0 c.if-is-5.true) in
+    let read = c.in_ok-segment.ensures in
+    ((omega arith, (pow_pos c.in_ok-segment.segment, pow-lt {j = 16} read.0), read.0), ((_, two, read.1), (refl, refl)))
 
-pub returns-in_err-update-clause-fault : goal.returns-in_err-update-clause-fault
-returns-in_err-update-clause-fault c =
+pub returns-in_err-update : goal.returns-in_err-update
+returns-in_err-update c =
     let long : length c.args.words.now ≡ 4 = grind (arith, nat_tests) in
-    let fault : IsRequestFault (map (λ w. w.now) c.args.words.now) None None
-    c.in_err-update.field-0.0 =
-    update_fault _ _ _ _ (four_words c.args.words.now _ long
-    (c.is-then-words-eq4.ensures.0 c.if-is-6.true)) None None c.in_err-update.field-0.0
-    c.in_err-update.ensures.fault in
-    search rules
+    let four = four_words c.args.words.now _ long (c.is-then-words-eq4.ensures.0 c.if-is-6.true) in
+    grind (arith, common_steps, four)
+
+pub returns : goal.returns
+returns c = λ other q is. no_question (map (λ w. w.now) c.args.words.now) (grind (arith, common_steps))
+    (grind (arith, common_steps)) (grind (arith, common_steps)) (grind (arith, common_steps))
+    (grind (arith, common_steps)) c.requires.other (grind (arith, common_steps)) q is.1
