@@ -110,21 +110,17 @@ fn say_late(rt: &HostRuntime, address: &str, seconds: Option<u32>, option: &str)
 /// In that case the name is looked up again before each connection. Prints the reason if it returns
 /// `false`.
 pub fn is_worth_a_try(rt: &HostRuntime, address: &str, is_waiting: bool) -> bool {
-    match look_up(rt, address) {
+    // A Unix socket's address needs no look-up.
+    if socket_path(address).is_some() {
+        return true;
+    }
+    match address.to_socket_addrs(rt) {
         Err(error) if !is_waiting || error.kind() == ErrorKind::InvalidInput => {
             say(rt, &format_args!("{address}: {error}"));
             false
         }
         _ => true,
     }
-}
-
-/// Looks the address up. A Unix socket's needs no look-up.
-fn look_up(rt: &HostRuntime, address: &str) -> io::Result<()> {
-    if socket_path(address).is_none() {
-        let _ = address.to_socket_addrs(rt)?;
-    }
-    Ok(())
 }
 
 /// Connects before the time is over. What is written over TCP is sent without delay. The connection

@@ -97,20 +97,14 @@ pub fn stop(rt: &HostRuntime, failure: &CommandFault) -> Status {
 
 /// Writes these bytes to standard output. Prints the reason if that fails.
 pub fn print_whole(rt: &HostRuntime, bytes: &[u8]) -> Result<(), Status> {
-    match write_whole(&mut rt.stdout(), bytes) {
-        Ok(()) => Ok(()),
-        Err(error) => Err(stop(rt, &CommandFault::Output(error))),
-    }
+    write_whole(&mut rt.stdout(), bytes).map_err(|error| stop(rt, &CommandFault::Output(error)))
 }
 
 /// The value, or the exit status after a message that memory ran out.
 pub fn or_stop<T>(rt: &HostRuntime, made: Result<T, AllocError>) -> Result<T, Status>
     ensures { IfOk result (λ value. made ≡ Ok value) }
 {
-    match made {
-        Ok(value) => Ok(value),
-        Err(AllocError) => Err(stop_without_memory(rt)),
-    }
+    made.map_err(|_| stop_without_memory(rt))
 }
 
 /// Prints that memory ran out.

@@ -173,11 +173,6 @@ fn report_file_system(rt: &HostRuntime, folder: &str, files: &[String]) -> io::R
         Some(file) => file.as_str(),
         None => folder,
     };
-    report_locks(rt, folder, kind.as_str(), tried)
-}
-
-/// Reports whether locks work on a file system of this type.
-fn report_locks(rt: &HostRuntime, folder: &str, kind: &str, tried: &str) -> io::Result<bool> {
     let (are_kept, locks) = match keeps_locks(rt, tried) {
         Ok(true) => (true, "and keeps locks"),
         Ok(false) => (

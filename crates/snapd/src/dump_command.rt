@@ -25,21 +25,15 @@ const ROOM: usize = 32;
 pub fn dump(rt: &HostRuntime, order: &DumpOptions<'_>) -> Result<Status, Status>
     requires { IsDumpable order.now }
 {
-    let time = match Timestamp::now(rt) {
-        Ok(now) => time_text(now),
-        Err(error) => return Err(fail(rt, &format_args!("the clock: {error}"))),
-    };
+    let now = Timestamp::now(rt).map_err(|error| fail(rt, &format_args!("the clock: {error}")))?;
+    // In RFC 3339 format, in UTC and cut to seconds.
+    let time = InlineText::<ROOM>::of(format_args!("{now:.0}"));
     let values = match order.holder {
         DumpSource::Server { address } => fetch(rt, address, order)?,
         DumpSource::Folder { folder } => folder_values(rt, rt.alloc(), folder)?,
     };
     print_dump(rt, time.as_str(), &values)?;
     Ok(Status::Done)
-}
-
-/// A time in RFC 3339 format, in UTC and cut to seconds.
-fn time_text(now: Timestamp) -> InlineText<ROOM> {
-    InlineText::of(format_args!("{now:.0}"))
 }
 
 /// Prints the dump of these values, if it can be read back. So a copy that no load would accept is

@@ -82,8 +82,8 @@ fn opened(rt: &HostRuntime, path: &str) -> io::Result<File> {
     }
 }
 
-/// Locks the file. Returns `false` if it is locked already.
-fn has_locked(file: &File) -> io::Result<bool> {
+/// Locks the file or folder. Returns `false` if it is locked already.
+pub fn has_locked(file: &File) -> io::Result<bool> {
     match file.try_lock() {
         Ok(()) => Ok(true),
         Err(TryLockError::WouldBlock) => Ok(false),

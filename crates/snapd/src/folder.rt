@@ -52,10 +52,7 @@ pub fn make_folder(rt: &HostRuntime, folder: &str) -> io::Result<()> {
 /// The paths of the folder's files whose names end in `.seg`, in order of name. Names that aren't
 /// UTF-8 are skipped. Prints the reason if they can't be listed.
 pub fn segment_files(rt: &HostRuntime, folder: &str) -> Result<Vec<String>, Status> {
-    match listed(rt, rt.alloc(), folder) {
-        Ok(files) => Ok(files),
-        Err(reason) => Err(fail_at_folder(rt, folder, reason)),
-    }
+    listed(rt, rt.alloc(), folder).map_err(|reason| fail_at_folder(rt, folder, reason))
 }
 
 /// [`segment_files`] without the message.

@@ -1,11 +1,12 @@
 //! The folder in which `load` makes its files, before it is renamed.
 
 use crate::complaint::{fail, fail_at, fail_at_folder, or_stop, refuse, stop_without_memory};
+use crate::file_system::has_locked;
 use crate::folder::{index_of_name, make_folder};
 use snap_devices::{FileFault, sync_folder_of};
 use snap_file_commands::MAX_COUNT;
 use snap_order::Status;
-use std::fs::{self, DirEntry, File, Metadata, TryLockError};
+use std::fs::{self, DirEntry, File, Metadata};
 use std::io::{self, ErrorKind};
 use std::os::unix::fs::{MetadataExt, fchown};
 use std::path::Path;
@@ -54,26 +55,23 @@ impl LoadingFolder {
     /// Renames the folder to its final path, and syncs the name.
     pub fn put_in_place(&self, rt: &HostRuntime) -> Result<(), Status> {
         let (folder, path) = (self.folder.as_str(), self.path.as_str());
-        if let Err(reason) = fs::rename(rt, path, folder) {
+        fs::rename(rt, path, folder).map_err(|reason| {
             let line = format_args!("{folder}: {reason}: all files are made, in {path}");
-            return Err(fail(rt, &line));
-        }
-        if let Err(reason) = sync_folder_of(rt, folder) {
+            fail(rt, &line)
+        })?;
+        sync_folder_of(rt, folder).map_err(|reason| {
             let line = format_args!(
                 "{folder}: {reason}: it is there whole, but a power cut may take its name: look after its disk, and \
                     load the dump elsewhere"
             );
-            return Err(fail(rt, &line));
-        }
-        Ok(())
+            fail(rt, &line)
+        })
     }
 }
 
 /// Makes the folder at this path, which is to replace the wanted one. Returns its lock.
 fn make_for(rt: &HostRuntime, wanted: &str, path: &str) -> Result<File, Status> {
-    if let Err(reason) = make_folder(rt, path) {
-        return Err(fail_at_folder(rt, path, reason));
-    }
+    make_folder(rt, path).map_err(|reason| fail_at_folder(rt, path, reason))?;
     let lock = lock_folder(rt, path)?;
     match prepare(rt, wanted, path, &lock) {
         Ok(()) => Ok(lock),
@@ -166,10 +164,8 @@ fn try_lock_folder(rt: &HostRuntime, path: &str) -> io::Result<Option<File>> {
         Err(reason) if reason.kind() == ErrorKind::NotFound => return Ok(None),
         Err(reason) => return Err(reason),
     };
-    match folder.try_lock() {
-        Ok(()) => {}
-        Err(TryLockError::WouldBlock) => return Ok(None),
-        Err(TryLockError::Error(reason)) => return Err(reason),
+    if !has_locked(&folder)? {
+        return Ok(None);
     }
     let opened = folder.metadata()?;
     let named = match fs::metadata(rt, path) {
@@ -195,10 +191,7 @@ fn clear(rt: &HostRuntime, loading: &str) -> Result<(), Status> {
 
 /// The names in the folder, if each is one that a load gives. Prints a message if one isn't.
 fn names_in(rt: &HostRuntime, loading: &str) -> Result<Vec<String>, Status> {
-    let entries = match fs::read_dir(rt, loading) {
-        Ok(entries) => entries,
-        Err(reason) => return Err(fail_at_folder(rt, loading, reason)),
-    };
+    let entries = fs::read_dir(rt, loading).map_err(|reason| fail_at_folder(rt, loading, reason))?;
     let mut names = Vec::new(rt.alloc());
     for entry in entries {
         if names.push(own_name_of(rt, loading, entry)?).is_err() {

@@ -19,7 +19,6 @@ mod file_system;
 mod files;
 mod folder;
 mod folder_refusal;
-mod http_place;
 mod http_view;
 mod init_command;
 mod load_command;

@@ -1,5 +1,5 @@
 //! The command `serve`: a server on the system's files and sockets.
-ghost use Rattle.std.specs.Prelude.{◌≡◌, ◌-◌, ◌^◌, ◌<◌, ◌≤◌, length, All, IfOk};
+ghost use Rattle.std.specs.Prelude.{◌≡◌, ◌≤◌, length, All, IfOk};
 ghost use Rattle.std.specs.Thread.{IsSync};
 ghost use Rattle.snap_devices.specs.FileDisk.{IsUncalled};
 ghost use Rattle.snap_order.specs.Order.{IsServable};
@@ -7,19 +7,17 @@ ghost use Rattle.snap_order.specs.Order.{IsServable};
 use crate::complaint::{fail, fail_at_file, fail_twice, or_stop, say, stop_without_memory};
 use crate::files::{FirstFault, first_faults};
 use crate::folder::files_in_order;
-use crate::http_place::{HttpPlace, open_http};
-use crate::http_view::HttpView;
+use crate::http_view::{HttpPlace, HttpView, open_http};
 use crate::server_log::{ServerLog, Spaced};
 use crate::surroundings::{Process, millis_since_1970, most_descriptors};
 use log::{LevelFilter, warn};
 use snap_args::is_everywhere;
 use snap_board::MAX_CONNECTIONS;
 use snap_devices::{FileDisk, FileFault, Lock};
-use snap_disk::Disk;
 use snap_log::{Destination, Lines, write_lines};
 use snap_metrics::{Metrics, time_all};
 use snap_order::{Exit, ServeOptions, Status};
-use snap_serve::{Environment, Network, Observer, host, log_note};
+use snap_serve::{Environment, Network, host, log_note};
 use snap_server::{NoGate, ServerEvent, ServerFault};
 use std::alloc::{AllocError, Global};
 use std::net::Net;
@@ -27,17 +25,6 @@ use std::rt::Clock;
 use std::sync::Wait;
 use std::thread::{self, Threads};
 use std::time::{Duration, Instant};
-
-/// The reason why the files of a server couldn't be opened.
-#[derive(Drop)]
-enum FilesFault<'a> {
-    /// The file at this path couldn't be opened.
-    Path { file: &'a str, fault: FileFault },
-    /// These paths name one file.
-    SameFile { first: &'a str, second: &'a str },
-    /// Memory ran out.
-    NoMemory,
-}
 
 /// Opens the order's files as devices, in order, each with an exclusive lock. `told` gets for each
 /// file the reason why a call on it fails. Prints the reason if one can't be opened.
@@ -49,35 +36,22 @@ fn take_files<'f>(
     ensures count { IfOk result (λ devices. length devices.items ≡ length files.now.items) }
     ensures uncalled { IfOk result (λ devices. All IsUncalled devices.items) }
 {
-    match open_files(rt, rt.alloc(), files, told) {
-        Ok(devices) => Ok(devices),
-        Err(FilesFault::Path { file, fault }) => Err(fail_at_file(rt, file, &fault)),
-        Err(FilesFault::SameFile { first, second }) => Err(fail_twice(rt, first, second)),
-        Err(FilesFault::NoMemory) => Err(stop_without_memory(rt)),
-    }
-}
-
-/// [`take_files`] without the message.
-fn open_files<'a, 'f>(
-    rt: &'f HostRuntime,
-    alloc: Global,
-    files: &'f Vec<&'a str>,
-    told: &'f Vec<FirstFault>,
-) -> Result<Vec<FileDisk<'f, HostRuntime>>, FilesFault<'a>>
-    ensures count { IfOk result (λ devices. length devices.items ≡ length files.now.items) }
-    ensures uncalled { IfOk result (λ devices. All IsUncalled devices.items) }
-{
-    let Ok(mut devices) = Vec::with_capacity(alloc, files.len()) else {
-        return Err(FilesFault::NoMemory);
-    };
+    let mut devices = or_stop(rt, Vec::with_capacity(rt.alloc(), files.len()))?;
     'files: for file in files {
         match open_telling(rt, *file, told.get(devices.len())) {
             Ok(disk) => {
                 if devices.push(disk).is_err() {
-                    return Err(FilesFault::NoMemory);
+                    return Err(stop_without_memory(rt));
                 }
             }
-            Err(fault) => return Err(fault_at(files, &devices, *file, fault)),
+            Err(fault) => {
+                let twin = twin_of(files, &devices, &fault);
+                drop(devices);
+                return Err(match twin {
+                    Some(first) => fail_twice(rt, first, *file),
+                    None => fail_at_file(rt, *file, &fault),
+                });
+            }
         }
     }
     Ok(devices)
@@ -98,28 +72,20 @@ fn open_telling<'f>(
     }
 }
 
-/// The fault of the file at this path, after these devices were opened: if it is in use by one of
-/// them, both paths name one file.
-fn fault_at<'a>(
+/// The path of the opened file with which a further one is in use: both paths name one file.
+fn twin_of<'a>(
     files: &[&'a str],
     devices: &[FileDisk<'_, HostRuntime>],
-    second: &'a str,
-    fault: FileFault,
-) -> FilesFault<'a> {
-    if let FileFault::InUse(id) = &fault {
+    fault: &FileFault,
+) -> Option<&'a str> {
+    if let FileFault::InUse(id) = fault {
         for (first, device) in files.iter().zip(devices) {
             if device.id() == *id {
-                return FilesFault::SameFile {
-                    first: *first,
-                    second,
-                };
+                return Some(*first);
             }
         }
     }
-    FilesFault::Path {
-        file: second,
-        fault,
-    }
+    None
 }
 
 /// The filter of a level.
@@ -130,13 +96,6 @@ fn filter_of(level: snap_order::Level) -> LevelFilter {
         snap_order::Level::Info => LevelFilter::Info,
         snap_order::Level::Debug => LevelFilter::Debug,
     }
-}
-
-/// The process of a server, and its HTTP listener if it has one.
-#[derive(Drop)]
-struct Look<'a> {
-    process: Process<'a>,
-    place: Option<HttpPlace>,
 }
 
 /// Opens the order's files, and serves them. A thread of its own writes the log to standard error,
@@ -200,7 +159,11 @@ where
     requires devices { length devices.items ≡ length order.now.files.items }
     requires uncalled { All IsUncalled devices.items }
 {
-    let Ok((metrics, addresses)) = figures_of(system.alloc(), order) else {
+    let scanners = usize::from(order.scanners);
+    let Ok(metrics) = Metrics::new(system.alloc(), scanners, order.files.len()) else {
+        return Err(ServerFault::NoMemory);
+    };
+    let Ok(addresses) = texts_of(system.alloc(), &order.addresses) else {
         return Err(ServerFault::NoMemory);
     };
     let process = Process {
@@ -213,16 +176,7 @@ where
         folder,
         files: &order.files,
     };
-    serve_logged(rt, order, devices, told, Look { process, place })
-}
-
-/// The metrics of the order's server, and its addresses as strings.
-fn figures_of(alloc: Global, order: &ServeOptions<'_>) -> Result<(Metrics, Vec<String>), AllocError>
-    ensures workers { IfOk result (λ found. found.0.workers ≡ order.now.scanners) }
-    ensures segments { IfOk result (λ found. found.0.segments ≡ length order.now.files.items) }
-{
-    let metrics = Metrics::new(alloc, usize::from(order.scanners), order.files.len())?;
-    Ok((metrics, texts_of(alloc, &order.addresses)?))
+    serve_logged(rt, order, devices, told, process, place)
 }
 
 /// These texts as strings.
@@ -240,17 +194,18 @@ fn serve_logged<'x, X>(
     order: &'x ServeOptions<'x>,
     devices: Vec<FileDisk<'_, HostRuntime>>,
     told: &Vec<FirstFault>,
-    look: Look<'x>,
+    process: Process<'x>,
+    place: Option<HttpPlace>,
 ) -> Result<Exit, ServerFault>
 where
     X: Threads + Wait + Clock + Net + Sync + Send + Copy,
     requires order { IsServable order.now }
     requires devices { length devices.items ≡ length order.now.files.items }
     requires uncalled { All IsUncalled devices.items }
-    requires workers { order.now.scanners ≤ look.process.metrics.now.workers }
-    requires segments { length devices.items ≤ look.process.metrics.now.segments }
+    requires workers { order.now.scanners ≤ process.metrics.now.workers }
+    requires segments { length devices.items ≤ process.metrics.now.segments }
 {
-    let system = look.process.rt;
+    let system = process.rt;
     let destination = Destination::of_standard_error(system, system.alloc());
     let Ok((log, waiting)) = Lines::new(rt, system.alloc(), filter_of(order.log), destination)
     else {
@@ -263,8 +218,8 @@ where
             requires { IsSync X.row × IsServable order.now
                 × (length devices.items ≡ length order.now.files.items)
                 × All IsUncalled devices.items
-                × (order.now.scanners ≤ look.process.metrics.now.workers)
-                × (length devices.items ≤ look.process.metrics.now.segments) }
+                × (order.now.scanners ≤ process.metrics.now.workers)
+                × (length devices.items ≤ process.metrics.now.segments) }
         {
             let mut errors = system.stderr();
             let writing = move ||
@@ -275,7 +230,7 @@ where
             if scope.spawn(writing).is_err() {
                 return Err(ServerFault::NoThread);
             }
-            let ended = host_logged(rt, order, devices, told, &log, look);
+            let ended = host_logged(rt, order, devices, told, &log, process, place);
             // The writing thread ends once every sender is dropped.
             drop(log);
             ended
@@ -324,8 +279,8 @@ fn warn_of_everywhere<X: Wait + Clock>(log: &Lines<'_, X>, order: &ServeOptions<
     }
 }
 
-/// Serves these devices with their stores timed, with the warnings and the HTTP thread. Fails,
-/// before it does anything, only if memory runs out.
+/// Serves these devices with their stores timed, with the warnings and the HTTP thread, and logs and
+/// counts the server's events. Fails, before it does anything, only if memory runs out.
 #[tactic(auto, using(crate::proofs::Uncalled::headroom))]
 fn host_logged<'x, X>(
     rt: &X,
@@ -333,67 +288,49 @@ fn host_logged<'x, X>(
     devices: Vec<FileDisk<'_, HostRuntime>>,
     told: &'x Vec<FirstFault>,
     log: &'x Lines<'x, X>,
-    look: Look<'x>,
+    process: Process<'x>,
+    place: Option<HttpPlace>,
 ) -> Result<Exit, ServerFault>
 where
     X: Threads + Wait + Clock + Net + Sync + Send + Copy,
     requires order { IsServable order.now }
     requires devices { length devices.items ≡ length order.now.files.items }
     requires uncalled { All IsUncalled devices.items }
-    requires workers { order.now.scanners ≤ look.process.metrics.now.workers }
-    requires segments { length devices.items ≤ look.process.metrics.now.segments }
+    requires workers { order.now.scanners ≤ process.metrics.now.workers }
+    requires segments { length devices.items ≤ process.metrics.now.segments }
 {
-    let Look { process, place } = look;
-    let system = *process.rt;
-    let Ok(devices) = time_all(system.alloc(), devices, system, process.metrics) else {
+    let (system, metrics) = (process.rt, process.metrics);
+    let Ok(devices) = time_all(system.alloc(), devices, *system, metrics) else {
         return Err(ServerFault::NoMemory);
     };
     warn_of_everywhere(log, order);
-    let view = HttpView::at(place, log, process);
-    Ok(host_noted(rt, order, devices, told, log, process, view.as_ref()))
-}
-
-/// Serves these devices, and logs and counts the server's events.
-fn host_noted<'x, X, D, O>(
-    rt: &X,
-    order: &'x ServeOptions<'x>,
-    devices: Vec<D>,
-    told: &'x Vec<FirstFault>,
-    log: &'x Lines<'x, X>,
-    process: Process<'x>,
-    observer: Option<&O>,
-) -> Exit
-where
-    X: Threads + Wait + Clock + Net + Sync + Send + Copy,
-    D: Disk + Send + Drop,
-    O: Observer + Sync,
-    requires order { IsServable order.now }
-    requires devices { length devices.items ≡ length order.now.files.items }
-    requires headroom { All (λ d. D.failure_count d < 2 ^ 64 - 1) devices.items }
-    requires metrics { order.now.scanners ≤ process.metrics.now.workers }
-{
-    let (system, metrics) = (process.rt, process.metrics);
+    let view = place.map(|place| HttpView {
+        log,
+        process,
+        place,
+    });
     let note = |told: &ServerEvent| {
         if let ServerEvent::Ended(_) = told {
             metrics.end();
         }
         log_note(log, told)
     };
+    let idle = order
+        .idle
+        .map(|seconds| Duration::from_secs(u64::from(seconds)));
     let environment = Environment {
         bind: &Network::new(system, u32::from(order.socket_mode)),
         gate: &NoGate,
         note: &note,
         watch: ServerLog { log, process, told },
         metrics,
-        observer,
+        observer: view.as_ref(),
         causes: told,
         clients: most_clients(order),
-        idle: order
-            .idle
-            .map(|seconds| Duration::from_secs(u64::from(seconds))),
+        idle,
     };
     let (mut writer, mut errors) = (system.stdout(), system.stderr());
-    host(
+    Ok(host(
         rt,
         system.alloc(),
         order,
@@ -401,5 +338,5 @@ where
         environment,
         &mut writer,
         &mut errors,
-    )
+    ))
 }

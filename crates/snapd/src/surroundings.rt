@@ -52,10 +52,7 @@ pub struct Process<'a> {
 /// Whether this process ignores SIGINT, as far as the system says. It inherits that: a script has
 /// what it starts with `&` ignore it.
 pub fn ignores_interrupts(rt: &HostRuntime) -> bool {
-    match ignored_signals(rt) {
-        Some(signals) => signals & INTERRUPT != 0,
-        None => false,
-    }
+    ignored_signals(rt).is_some_and(|signals| signals & INTERRUPT != 0)
 }
 
 /// The signals that this process ignores, a bit for each.

@@ -57,7 +57,7 @@ pub fn watch<X: Wait>(
             return Err(Status::Failed);
         }
         let is_late = AtomicBool::new(false);
-        let rows = rows_within(rt, address, watched, &mut link, &screen.shown, &is_late);
+        let rows = rows_now(rt, address, watched, &mut link, &screen.shown, &is_late);
         screen.now = millis_since(rt, began);
         match rows {
             Ok(rows) => screen.show(rt, rows)?,
@@ -89,8 +89,10 @@ fn millis_since(rt: &HostRuntime, began: Option<Instant>) -> u64 {
     }
 }
 
-/// The current rows of the server, by a poll within its time. Sets `is_late` if that was over.
-fn rows_within(
+/// The current rows of the server, by one poll within its time. Sets `is_late` if that was over. If
+/// the connection fails it polls once more on a new one, and then requests the values anyway, since
+/// another server may answer.
+fn rows_now(
     rt: &HostRuntime,
     address: &str,
     watched: Option<SegmentSet>,
@@ -109,21 +111,6 @@ fn rows_within(
         end,
         is_over: is_late,
     };
-    rows_now(rt, address, watched, link, shown, limit)
-}
-
-/// The current rows of the server, by one poll. If the connection fails it polls once more on a new
-/// one, and then requests the values anyway, since another server may answer.
-fn rows_now(
-    rt: &HostRuntime,
-    address: &str,
-    watched: Option<SegmentSet>,
-    link: &mut Option<TcpStream>,
-    shown: &[Row],
-    limit: TimeLimit<'_>,
-) -> Result<Vec<Row>, WatchFault>
-    requires some { IfSome watched (λ set. 0 < set.bits) }
-{
     if let Some(open) = link.take() {
         match rows_by(rt.alloc(), open, watched, link, shown, limit) {
             Err(WatchFault::Lost(fault)) if fault.may_pass() => {}

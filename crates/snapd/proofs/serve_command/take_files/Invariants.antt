@@ -1,6 +1,6 @@
 use Rattle.std.proofs.Common.{◌≡◌, length, All}
 use Rattle.snap_devices.specs.FileDisk.{IsUncalled}
-use Rattle.snapd.proofs.serve_command.open_files.Given as goal
+use Rattle.snapd.proofs.serve_command.take_files.Given as goal
 
 abbrev pub invariant-files : goal.invariant-files
 invariant-files l = record {
