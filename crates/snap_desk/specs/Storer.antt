@@ -14,8 +14,9 @@ pub record StandsAt {D : Type 0} (w : WriterState D) (stands : WriterStatus) : T
   pub number_is : number_of w ≡ stands.number
   pub fence_is : is_some w.segment.begun ≡ stands.is_fenced
 
--- how many updates have arrived at a storer, and how many of them were taken, both modulo 2^64
+-- the segment of a storer's queue, how many updates have arrived, and how many of them were taken, both modulo 2^64
 pub record Queued : Type 0 where
+  pub segment : ℕ
   pub came : ℕ
   pub taken : ℕ
 
@@ -38,7 +39,7 @@ pub record StorerState (D : Type 0) : Type 0 where
 pub record IsNew {D : Type 0} (w : WriterState D) (s : StorerState D) : Type 0 where
   pub here : s.writer ≡ Some w
   pub stands : StandsAt w s.stands
-  pub none_came : s.queue ≡ record { came = 0; taken = 0 }
+  pub none_came : s.queue ≡ record { segment = own_of w.seat; came = 0; taken = 0 }
 
 -- Nothing was done. The writer is unchanged, and no update was taken: none arrived, or it waits.
 pub record IsIdle {D : Type 0} (old new : StorerState D) : Type 0 where

@@ -3,7 +3,8 @@ ghost use Rattle.std.specs.Prelude.{◌≡◌, ℕ, ◌<◌, IfOk, IfSome, IfNon
 ghost use Rattle.snap_memory.specs.Rule.{segments};
 ghost use Rattle.snap_frame.specs.Messages.{IsInLimits};
 ghost use Rattle.snap_service.specs.Memory.{IsOf};
-ghost use Rattle.snap_desk.specs.Handover.{HasHanded, job_of};
+ghost use Rattle.snap_desk.specs.Handover.{HasHanded};
+ghost use Rattle.snap_desk.specs.Job.{job_of};
 ghost use Rattle.snap_desk.specs.Tells.{TellsUpdate};
 ghost use Rattle.snap_service.specs.Counted.{LooksOnce};
 ghost use Rattle.snap_service.specs.Answers.{
@@ -38,7 +39,7 @@ use std::sync::Wait;
 #[derive(Drop)]
 pub struct Desk<R: Wait + Copy, M: Memory, D: Disk + Drop> {
     alloc: Global,
-    outbox: Outbox<R>,
+    outbox: Outbox<R, M>,
     scanner: Scanner,
     of: PhantomData<(M, D)>,
 }
@@ -88,8 +89,8 @@ pub fn answer_outcome<R: Wait + Copy, M: Memory, D: Disk + Drop>(
 
 /// Sends an update to its storer, once, and returns `None`. If it can't be sent, the reply refuses
 /// the place of the update or comes from one look.
-fn ask<R: Wait + Copy + Clock, J: Requested>(
-    outbox: &mut Outbox<R>,
+fn ask<R: Wait + Copy + Clock, M: Memory, J: Requested>(
+    outbox: &mut Outbox<R, M>,
     scanner: &mut Scanner,
     segment: usize,
     number: u64,
@@ -97,7 +98,8 @@ fn ask<R: Wait + Copy + Clock, J: Requested>(
     key: usize,
 ) -> Option<Reply>
     requires handles { length outbox.old.handles ≡ segments scanner.old.plan }
-    requires job { J.job ≡ job_of outbox.old.worker key number value.now }
+    requires job { J.job ≡ job_of outbox.old.worker key segment number value.now }
+    requires asked { M.asked segment number value.now }
     ensures answer { IfSome result (λ r.
         AnswersUpdate scanner.old segment number value.now r scanner.new) }
     ensures looks { LooksOnce scanner.old scanner.new }
@@ -122,7 +124,7 @@ impl<R: Wait + Copy + Clock, M: Memory, D: Disk + Drop> Desk<R, M, D> {
         rt: R,
         alloc: Global,
         worker: usize,
-        handles: Vec<StorerHandle>,
+        handles: Vec<StorerHandle<M>>,
         scanner: Scanner,
     ) -> Desk<R, M, D>
         requires memory { IsOf M.table M.plan scanner }
@@ -196,9 +198,14 @@ impl<R: Wait + Copy + Clock, M: Memory, D: Disk + Drop> Desk<R, M, D> {
 impl<R: Wait + Copy + Clock, M: Memory, D: Disk + Drop> Service for Desk<R, M, D> {
     ghost use Rattle.snap_service.specs.Answers.{Answers};
     ghost use Rattle.snap_service.specs.Counted.{TakesFewLooks};
+    ghost use Rattle.snap_service.specs.Memory.{number_of};
     ghost use Rattle.snap_desk.specs.Tells.{Tells};
 
     type Outcome = Outcome<R, M, D>;
+
+    ghost asked = { M.asked };
+
+    ghost memory = { number_of M.table };
 
     ghost gives = { λ old request reply new. Answers old request reply new
         × TakesFewLooks old request new };
@@ -213,7 +220,7 @@ impl<R: Wait + Copy + Clock, M: Memory, D: Disk + Drop> Service for Desk<R, M, D
                 segment,
                 number,
                 value,
-            } => ask::<R, Brand>(
+            } => ask::<R, M, Brand>(
                 &mut self.outbox,
                 &mut self.scanner,
                 usize::from(*segment),

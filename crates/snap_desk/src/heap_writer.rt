@@ -1,6 +1,8 @@
 //! Writers in allocations of their own.
 ghost use Rattle.std.specs.Prelude.{◌≡◌, IfOk};
 ghost use Rattle.snap_frame.specs.Limits.{IsShort};
+ghost use Rattle.snap_memory.specs.Seat.{own_of};
+ghost use Rattle.snap_service.specs.Asked.{StoresAsked};
 ghost use Rattle.snap_service.specs.Memory.{IsOf};
 ghost use Rattle.snap_service.specs.Settled.{IsTellable};
 ghost use Rattle.snap_service.specs.Updated.{IsUpdated, RepliesTold};
@@ -15,6 +17,8 @@ use std::marker::{Model, PhantomData};
 
 /// A writer of the memory `M` in a heap allocation: lending and returning it moves a pointer
 /// instead of hundreds of bytes.
+///
+/// What it has stored was there at the opening, or was asked for.
 #[derive(Drop)]
 pub struct HeapWriter<M: Memory, D: Disk + Drop> {
     writer: Box<Writer<D>>,
@@ -22,6 +26,7 @@ pub struct HeapWriter<M: Memory, D: Disk + Drop> {
 }
 
 impl<M: Memory, D: Disk + Drop> Model for HeapWriter<M, D> {
+    ghost use Rattle.snap_service.specs.Asked.{StoresAsked};
     ghost use Rattle.snap_service.specs.Memory.{IsOf};
     ghost use Rattle.snap_service.specs.Writer.{WriterState};
 
@@ -29,7 +34,8 @@ impl<M: Memory, D: Disk + Drop> Model for HeapWriter<M, D> {
 
     ghost view = { λ w. w.writer.value };
 
-    ghost invariant = { λ w. IsOf M.table M.plan w.writer.value.seat };
+    ghost invariant = { λ w. IsOf M.table M.plan w.writer.value.seat
+        × StoresAsked M.asked w.writer.value };
 }
 
 impl<M: Memory, D: Disk + Drop> HeapWriter<M, D> {
@@ -37,6 +43,7 @@ impl<M: Memory, D: Disk + Drop> HeapWriter<M, D> {
     /// is dropped.
     pub fn new(alloc: Global, writer: Writer<D>) -> Result<HeapWriter<M, D>, AllocError>
         requires memory { IsOf M.table M.plan writer.seat }
+        requires asked { StoresAsked M.asked writer }
         ensures { IfOk result (λ made. made ≡ writer) }
     {
         match Box::new(alloc, writer) {
@@ -52,6 +59,7 @@ impl<M: Memory, D: Disk + Drop> HeapWriter<M, D> {
     pub fn into_inner(self) -> Writer<D>
         ensures writer { result ≡ self }
         ensures memory { IsOf M.table M.plan result.seat }
+        ensures asked { StoresAsked M.asked result }
     {
         Box::into_inner(self.writer)
     }
@@ -67,6 +75,7 @@ impl<M: Memory, D: Disk + Drop> HeapWriter<M, D> {
     /// Updates the segment by this writer, as [`update`](snap_service::update) does.
     pub fn update(&mut self, number: u64, value: &[u8]) -> Result<u64, Refusal>
         requires size { IsShort value.now }
+        requires asked { M.asked (own_of self.old.seat) number value.now }
         ensures updated { IsUpdated D.Disk self.old self.new number value.now result }
         ensures tellable { IsTellable self.new number value.now result }
     {

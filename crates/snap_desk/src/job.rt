@@ -1,63 +1,103 @@
 //! Jobs: updates that are sent to a storer.
 ghost use Rattle.std.specs.Prelude.{◌≡◌, IfOk};
 ghost use Rattle.snap_frame.specs.Limits.{IsShort};
-ghost use Rattle.snap_desk.specs.declared.job.Job.{Job};
-ghost use Rattle.snap_desk.specs.Handover.{no_job};
+ghost use Rattle.snap_desk.specs.Job.{JobState, job_of, no_job};
 
 use bytes::Bytes;
+use snap_service::Memory;
 use std::alloc::AllocError;
-use std::marker::{Brand, Model};
+use std::marker::{Brand, Model, PhantomData};
 
-/// The value of an update that is sent to a storer. It shares the bytes of the request, so none of
-/// them is copied.
+/// An update that the memory `M` was asked for, and the receiver of its outcome: the desk's worker, and the key of its
+/// request. The value shares the bytes of the request, so none of them is copied.
+///
+/// A job out of a channel is known by its type alone, so the type says that it was asked for.
 #[derive(Drop)]
-pub struct Payload {
-    bytes: Bytes,
+pub struct Job<M: Memory> {
+    worker: usize,
+    key: usize,
+    segment: usize,
+    number: u64,
+    value: Bytes,
+    of: PhantomData<M>,
 }
 
-impl Model for Payload {
-    ghost use Rattle.std.specs.Prelude.{List, ℕ};
+impl<M: Memory> Model for Job<M> {
     ghost use Rattle.snap_frame.specs.Limits.{IsShort};
+    ghost use Rattle.snap_desk.specs.Job.{JobState};
 
-    ghost Value = { List ℕ };
+    ghost Value = { JobState };
 
-    ghost view = { λ v. v.bytes };
+    ghost view = { λ j. record {
+      worker = j.worker;
+      key = j.key;
+      segment = j.segment;
+      number = j.number;
+      value = j.value;
+    } };
 
-    ghost invariant = { λ v. IsShort v.bytes };
+    ghost invariant = { λ j. IsShort j.value × M.asked j.segment j.number j.value };
 }
 
-impl Payload {
-    /// A payload that shares the bytes of `value`.
-    pub fn of(value: &Bytes) -> Result<Payload, AllocError>
-        requires { IsShort value.now }
-        ensures { IfOk result (λ payload. payload ≡ value.now) }
+impl<M: Memory> Job<M> {
+    /// A job for the request under `key` of this worker, which asks for this update.
+    pub fn new(
+        worker: usize,
+        key: usize,
+        segment: usize,
+        number: u64,
+        value: &Bytes,
+    ) -> Result<Job<M>, AllocError>
+        requires size { IsShort value.now }
+        requires asked { M.asked segment number value.now }
+        ensures { IfOk result (λ job. job ≡ job_of worker key segment number value.now) }
     {
-        let bytes: Result<Bytes, AllocError> = value.clone();
-        Ok(Payload { bytes: bytes? })
+        let value: Result<Bytes, AllocError> = value.clone();
+        Ok(Job {
+            worker,
+            key,
+            segment,
+            number,
+            value: value?,
+            of: PhantomData,
+        })
     }
 
-    /// The bytes of the value.
-    pub fn as_slice(&self) -> &[u8]
-        ensures bytes { result.now ≡ self.now }
+    /// The worker and the key of the request.
+    pub fn receiver(&self) -> (usize, usize)
+        ensures { result ≡ (self.now.worker, self.now.key) }
+    {
+        (self.worker, self.key)
+    }
+
+    /// The segment that is updated.
+    pub fn segment(&self) -> usize
+        ensures { result ≡ self.now.segment }
+    {
+        self.segment
+    }
+
+    /// The number of the update.
+    pub fn number(&self) -> u64
+        ensures { result ≡ self.now.number }
+    {
+        self.number
+    }
+
+    /// The value of the update.
+    pub fn value(&self) -> &[u8]
+        ensures value { result.now ≡ self.now.value }
         ensures short { IsShort result.now }
+        ensures asked { M.asked self.now.segment self.now.number self.now.value }
     {
-        self.bytes.as_slice()
+        self.value.as_slice()
     }
-}
-
-/// An update, and the receiver of its outcome: the desk's worker, and the key of its request.
-#[derive(Drop)]
-pub struct Job {
-    pub worker: usize,
-    pub key: usize,
-    pub number: u64,
-    pub value: Payload,
 }
 
 /// A type that names one job, for proofs. It has no values: the proof of a call with `Brand` says
 /// which job it is.
 pub(crate) trait Requested {
-    ghost job: { Job };
+    ghost job: { JobState };
 }
 
 impl Requested for Brand {

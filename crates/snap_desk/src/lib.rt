@@ -20,7 +20,7 @@ mod writer_status;
 
 pub use desk::{Desk, answer_outcome};
 pub use heap_writer::HeapWriter;
-pub use job::{Job, Payload};
+pub use job::Job;
 pub use outbox::StorerHandle;
 pub use read_only_service::ReadOnlyService;
 pub use storer::{Storer, store_one};

@@ -2,13 +2,15 @@
 ghost use Rattle.std.specs.Prelude.{◌≡◌, ◌<◌, length, All, IfOk, IfSome, IfNone};
 ghost use Rattle.snap_frame.specs.Limits.{IsShort};
 ghost use Rattle.snap_frame.specs.Messages.{IsStatus};
-ghost use Rattle.snap_desk.specs.Handover.{HasHanded, job_of};
+ghost use Rattle.snap_desk.specs.Handover.{HasHanded};
+ghost use Rattle.snap_desk.specs.Job.{job_of};
 
-use crate::job::{Job, Payload, Requested};
+use crate::job::{Job, Requested};
 use crate::writer_status::status_in;
 use bytes::Bytes;
 use crossbeam_channel::{SendError, Sender};
 use snap_frame::SegmentStatus;
+use snap_service::Memory;
 use std::alloc::{AllocError, Global};
 use std::marker::{Model, PhantomData};
 use std::rt::Clock;
@@ -44,14 +46,14 @@ pub(crate) struct Sent<J: Requested> {
 ///
 /// Models the segment's index. The storer runs until every handle is dropped.
 #[derive(Drop)]
-pub struct StorerHandle {
+pub struct StorerHandle<M: Memory> {
     segment: usize,
-    jobs: Sender<Job>,
+    jobs: Sender<Job<M>>,
     /// The storer's published status in one word, as [`status_in`] reads it.
     standing: Arc<AtomicU64, Global>,
 }
 
-impl Model for StorerHandle {
+impl<M: Memory> Model for StorerHandle<M> {
     ghost use Rattle.std.specs.Prelude.{ℕ};
 
     ghost Value = { ℕ };
@@ -59,12 +61,12 @@ impl Model for StorerHandle {
     ghost view = { λ w. w.segment };
 }
 
-impl StorerHandle {
+impl<M: Memory> StorerHandle<M> {
     pub(crate) fn new(
         segment: usize,
-        jobs: Sender<Job>,
+        jobs: Sender<Job<M>>,
         standing: Arc<AtomicU64, Global>,
-    ) -> StorerHandle
+    ) -> StorerHandle<M>
         ensures { result ≡ segment }
     {
         StorerHandle {
@@ -79,7 +81,7 @@ impl StorerHandle {
         &self,
         rt: &R,
         segment: usize,
-        job: Job,
+        job: Job<M>,
     ) -> Result<Sent<J>, SendFault>
         requires { job ≡ J.job }
         ensures { IfOk result (λ _. self.now ≡ segment) }
@@ -102,12 +104,12 @@ impl StorerHandle {
     }
 }
 
-impl Clone for StorerHandle {
+impl<M: Memory> Clone for StorerHandle<M> {
     ghost use Rattle.std.specs.Prelude.{◌≡◌};
 
     ghost is_clone = { λ handle copy. copy ≡ handle };
 
-    fn clone(&self) -> Result<StorerHandle, AllocError> {
+    fn clone(&self) -> Result<StorerHandle<M>, AllocError> {
         Ok(StorerHandle {
             segment: self.segment,
             jobs: self.jobs.clone()?,
@@ -120,15 +122,15 @@ impl Clone for StorerHandle {
 ///
 /// Models the worker, the handles' segments, and the number of updates that were sent, modulo 2^64.
 #[derive(Drop)]
-pub(crate) struct Outbox<R: Wait + Copy> {
+pub(crate) struct Outbox<R: Wait + Copy, M: Memory> {
     rt: R,
     alloc: Global,
     worker: usize,
-    handles: Vec<StorerHandle>,
+    handles: Vec<StorerHandle<M>>,
     sent: u64,
 }
 
-impl<R: Wait + Copy> Model for Outbox<R> {
+impl<R: Wait + Copy, M: Memory> Model for Outbox<R, M> {
     ghost use Rattle.snap_desk.specs.Handover.{Handing};
 
     ghost Value = { Handing };
@@ -136,9 +138,14 @@ impl<R: Wait + Copy> Model for Outbox<R> {
     ghost view = { λ o. record { worker = o.worker; handles = o.handles.items; sent = o.sent } };
 }
 
-impl<R: Wait + Copy> Outbox<R> {
+impl<R: Wait + Copy, M: Memory> Outbox<R, M> {
     /// An outbox for `worker` that has sent nothing yet.
-    pub(crate) fn new(rt: R, alloc: Global, worker: usize, handles: Vec<StorerHandle>) -> Outbox<R>
+    pub(crate) fn new(
+        rt: R,
+        alloc: Global,
+        worker: usize,
+        handles: Vec<StorerHandle<M>>,
+    ) -> Outbox<R, M>
         ensures { result ≡ record { worker = worker; handles = handles.items; sent = 0 } }
     {
         Outbox {
@@ -175,7 +182,7 @@ impl<R: Wait + Copy> Outbox<R> {
     }
 }
 
-impl<R: Wait + Copy + Clock> Outbox<R> {
+impl<R: Wait + Copy + Clock, M: Memory> Outbox<R, M> {
     /// Sends an update to its storer, once. `None` if the storer has ended, or if memory runs out
     /// for a tenth of a second; then nothing was sent.
     pub(crate) fn hand_over<J: Requested>(
@@ -185,23 +192,16 @@ impl<R: Wait + Copy + Clock> Outbox<R> {
         value: &Bytes,
         key: usize,
     ) -> Option<Sent<J>>
-        requires job { J.job ≡ job_of self.old.worker key number value.now }
+        requires job { J.job ≡ job_of self.old.worker key segment number value.now }
+        requires asked { M.asked segment number value.now }
         requires segment { segment < length self.old.handles }
         requires size { IsShort value.now }
         ensures handed { IfSome result (λ _. HasHanded self.old segment self.new) }
         ensures unsent { IfNone result (self.new ≡ self.old) }
     {
         for _ in 0..TRIES {
-            let handed = match Payload::of(value) {
-                Ok(value) => {
-                    let job = Job {
-                        worker: self.worker,
-                        key,
-                        number,
-                        value,
-                    };
-                    self.handles[segment].send(&self.rt, segment, job)
-                }
+            let handed = match Job::new(self.worker, key, segment, number, value) {
+                Ok(job) => self.handles[segment].send(&self.rt, segment, job),
                 Err(AllocError) => Err(SendFault::NoMemory),
             };
             match handed {

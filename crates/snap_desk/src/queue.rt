@@ -5,6 +5,7 @@ ghost use Rattle.snap_desk.specs.Storer.{IsWaiting};
 
 use crate::job::Job;
 use crossbeam_channel::{Receiver, TryRecvError};
+use snap_service::Memory;
 use snap_session::Spin;
 use std::marker::Model;
 use std::sync::Wait;
@@ -15,34 +16,37 @@ const SPINS: u32 = 500;
 
 /// A storer's receiving side, with at most one received update that wasn't taken yet.
 ///
-/// Models how many updates arrived and how many were taken, both modulo 2^64: these are equal, or
+/// Models its segment, and how many updates arrived and how many were taken, both modulo 2^64: these are equal, or
 /// one update waits. So a contract can say that no update is dropped.
 #[derive(Drop)]
-pub(crate) struct Queue {
-    jobs: Receiver<Job>,
+pub(crate) struct Queue<M: Memory> {
+    segment: usize,
+    jobs: Receiver<Job<M>>,
     /// The update that has arrived and wasn't taken yet.
-    next: Option<Job>,
+    next: Option<Job<M>>,
     came: u64,
     taken: u64,
 }
 
-impl Model for Queue {
-    ghost use Rattle.std.specs.Prelude.{◌≡◌, is_some};
+impl<M: Memory> Model for Queue<M> {
+    ghost use Rattle.std.specs.Prelude.{◌≡◌, is_some, IfSome};
     ghost use Rattle.snap_desk.specs.Storer.{Queued, came_by};
 
     ghost Value = { Queued };
 
-    ghost view = { λ q. record { came = q.came; taken = q.taken } };
+    ghost view = { λ q. record { segment = q.segment; came = q.came; taken = q.taken } };
 
-    ghost invariant = { λ q. q.came ≡ came_by q.taken (is_some q.next) };
+    ghost invariant = { λ q. (q.came ≡ came_by q.taken (is_some q.next))
+        × IfSome q.next (λ job. job.segment ≡ q.segment) };
 }
 
-impl Queue {
-    /// A queue that receives from `jobs`. No update has arrived yet.
-    pub(crate) fn new(jobs: Receiver<Job>) -> Queue
-        ensures { result ≡ record { came = 0; taken = 0 } }
+impl<M: Memory> Queue<M> {
+    /// A queue of this segment, which receives from `jobs`. No update has arrived yet.
+    pub(crate) fn new(segment: usize, jobs: Receiver<Job<M>>) -> Queue<M>
+        ensures { result ≡ record { segment = segment; came = 0; taken = 0 } }
     {
         Queue {
+            segment,
             jobs,
             next: None,
             came: 0,
@@ -50,14 +54,20 @@ impl Queue {
         }
     }
 
-    /// Stores an update that has arrived, until it is taken.
-    fn keep(&mut self, job: Job)
+    /// Takes in a job that has arrived, which then waits to be taken. `false` if it is of another segment: the handles
+    /// send none.
+    fn keep(&mut self, job: Job<M>) -> bool
         requires { self.old.came ≡ self.old.taken }
-        ensures waits { IsWaiting self.new }
-        ensures taken { self.new.taken ≡ self.old.taken }
+        ensures one { result ≡ true → IsWaiting self.new }
+        ensures rest { self.new ≡ record self.old { came = self.new.came } }
+        ensures none { result ≡ false → self.new ≡ self.old }
     {
+        if job.segment() != self.segment {
+            return false;
+        }
         self.next = Some(job);
         self.came = self.came.wrapping_add(1);
+        true
     }
 
     /// Receives an update without blocking, which then waits to be taken. After an error no update
@@ -65,12 +75,15 @@ impl Queue {
     fn look<R: Wait>(&mut self, rt: &R) -> Result<(), TryRecvError>
         requires { self.old.came ≡ self.old.taken }
         ensures one { OnOk result (IsWaiting self.new) }
-        ensures taken { self.new.taken ≡ self.old.taken }
+        ensures rest { self.new ≡ record self.old { came = self.new.came } }
         ensures none { OnErr result (self.new ≡ self.old) }
     {
         let job = self.jobs.try_recv(rt)?;
-        self.keep(job);
-        Ok(())
+        if self.keep(job) {
+            Ok(())
+        } else {
+            Err(TryRecvError::Disconnected)
+        }
     }
 
     /// Blocks until an update arrives, which then waits to be taken. `false` if none will arrive,
@@ -78,14 +91,11 @@ impl Queue {
     fn sleep<R: Wait>(&mut self, rt: &R) -> bool
         requires { self.old.came ≡ self.old.taken }
         ensures one { result ≡ true → IsWaiting self.new }
-        ensures taken { self.new.taken ≡ self.old.taken }
+        ensures rest { self.new ≡ record self.old { came = self.new.came } }
         ensures none { result ≡ false → self.new ≡ self.old }
     {
         match self.jobs.recv(rt) {
-            Ok(job) => {
-                self.keep(job);
-                true
-            }
+            Ok(job) => self.keep(job),
             Err(_) => false,
         }
     }
@@ -95,7 +105,7 @@ impl Queue {
     fn receive<R: Wait>(&mut self, rt: &R, spin: &mut Spin) -> bool
         requires { self.old.came ≡ self.old.taken }
         ensures one { result ≡ true → IsWaiting self.new }
-        ensures taken { self.new.taken ≡ self.old.taken }
+        ensures rest { self.new ≡ record self.old { came = self.new.came } }
         ensures none { result ≡ false → self.new ≡ self.old }
     {
         if spin.is_due() {
@@ -115,16 +125,17 @@ impl Queue {
     /// dropped.
     pub(crate) fn wait<R: Wait>(&mut self, rt: &R, spin: &mut Spin) -> bool
         ensures one { result ≡ true → IsWaiting self.new }
-        ensures taken { self.new.taken ≡ self.old.taken }
+        ensures rest { self.new ≡ record self.old { came = self.new.came } }
         ensures none { result ≡ false → self.new ≡ self.old }
     {
         self.next.is_some() || self.receive(rt, spin)
     }
 
     /// Takes the waiting update.
-    pub(crate) fn take(&mut self) -> Job
+    pub(crate) fn take(&mut self) -> Job<M>
         requires { IsWaiting self.old }
-        ensures { self.new ≡ record self.old { taken = next_count self.old.taken } }
+        ensures its { result.segment ≡ self.old.segment }
+        ensures taken { self.new ≡ record self.old { taken = next_count self.old.taken } }
     {
         let Some(job) = self.next.take() else {
             unreachable!();

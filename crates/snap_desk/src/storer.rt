@@ -2,6 +2,7 @@
 ghost use Rattle.std.specs.Prelude.{◌≡◌, IfOk, IfSome, IfNone, Some, None};
 ghost use Rattle.snap_frame.specs.Limits.{IsNumber};
 ghost use Rattle.snap_memory.specs.Seat.{own_of};
+ghost use Rattle.snap_service.specs.Asked.{StoresAsked};
 ghost use Rattle.snap_service.specs.Memory.{IsOf};
 ghost use Rattle.snap_service.specs.Updated.{IsUpdated};
 ghost use Rattle.snap_desk.specs.Storer.{IsNew, IsTaken, IsIdle, StandsAt, StoresOne};
@@ -27,21 +28,22 @@ pub fn store_one<R: Wait + Copy, M: Memory, D: Disk + Drop>(
     rt: R,
     home: Sender<HeapWriter<M, D>>,
     mut writer: HeapWriter<M, D>,
-    job: Job,
+    job: Job<M>,
 ) -> Outcome<R, M, D>
+    requires own { own_of writer.seat ≡ job.segment }
     ensures job { result.job ≡ job }
     ensures updated { IsUpdated D.Disk writer result.writer job.number job.value result.told }
 {
-    let told = writer.update(job.number, job.value.as_slice());
+    let told = writer.update(job.number(), job.value());
     Outcome::new(job, told, WriterLease { rt, home, writer })
 }
 
 /// Makes a handle to the storer of a writer with this status, and the two parts that the storer
 /// needs: the receiver of jobs, and the word in which it publishes its status.
-fn handle_of(
+fn handle_of<M: Memory>(
     alloc: Global,
     stands: WriterStatus,
-) -> Result<(StorerHandle, Receiver<Job>, Arc<AtomicU64, Global>), AllocError>
+) -> Result<(StorerHandle<M>, Receiver<Job<M>>, Arc<AtomicU64, Global>), AllocError>
     requires low { IsNumber stands.number }
     ensures { IfOk result (λ made. made.0 ≡ stands.segment) }
 {
@@ -62,7 +64,7 @@ pub struct Storer<R: Wait + Copy, M: Memory, D: Disk + Drop> {
     writer: Option<HeapWriter<M, D>>,
     /// The status of the writer, or the status with which it was lent.
     stands: WriterStatus,
-    queue: Queue,
+    queue: Queue<M>,
     spin: Spin,
     standing: Arc<AtomicU64, Global>,
     home: Sender<HeapWriter<M, D>>,
@@ -78,7 +80,8 @@ impl<R: Wait + Copy, M: Memory, D: Disk + Drop> Model for Storer<R, M, D> {
 
     ghost view = { λ t. record { writer = t.writer; stands = t.stands; queue = t.queue } };
 
-    ghost invariant = { λ t. (w : WriterState D) → t.writer ≡ Some w → StandsAt w t.stands };
+    ghost invariant = { λ t. ((w : WriterState D) → t.writer ≡ Some w → StandsAt w t.stands)
+        × (t.queue.segment ≡ t.stands.segment) };
 }
 
 impl<R: Wait + Copy, M: Memory, D: Disk + Drop> Storer<R, M, D> {
@@ -88,8 +91,9 @@ impl<R: Wait + Copy, M: Memory, D: Disk + Drop> Storer<R, M, D> {
         rt: R,
         alloc: Global,
         writer: Writer<D>,
-    ) -> Result<(Storer<R, M, D>, StorerHandle), AllocError>
+    ) -> Result<(Storer<R, M, D>, StorerHandle<M>), AllocError>
         requires memory { IsOf M.table M.plan writer.seat }
+        requires asked { StoresAsked M.asked writer }
         ensures handle { IfOk result (λ made. made.1 ≡ own_of writer.seat) }
         ensures storer { IfOk result (λ made. IsNew writer made.0) }
     {
@@ -100,7 +104,7 @@ impl<R: Wait + Copy, M: Memory, D: Disk + Drop> Storer<R, M, D> {
             rt,
             writer: Some(HeapWriter::new(alloc, writer)?),
             stands,
-            queue: Queue::new(jobs),
+            queue: Queue::new(stands.segment, jobs),
             spin: Spin::new(),
             standing,
             home,
@@ -131,9 +135,11 @@ impl<R: Wait + Copy, M: Memory, D: Disk + Drop> Storer<R, M, D> {
         &mut self,
         home: Sender<HeapWriter<M, D>>,
         writer: HeapWriter<M, D>,
-        job: Job,
+        job: Job<M>,
     ) -> Completion<Outcome<R, M, D>>
-        requires { self.old.writer ≡ None }
+        requires lent { self.old.writer ≡ None }
+        requires own { own_of writer.seat ≡ job.segment }
+        requires queue { self.old.queue.segment ≡ job.segment }
         ensures worker { result.worker ≡ job.worker }
         ensures key { result.key ≡ job.key }
         ensures job { result.outcome.job ≡ job }
@@ -143,7 +149,7 @@ impl<R: Wait + Copy, M: Memory, D: Disk + Drop> Storer<R, M, D> {
         ensures stands { StandsAt result.outcome.writer self.new.stands }
         ensures queue { self.new.queue ≡ self.old.queue }
     {
-        let (worker, key) = (job.worker, job.key);
+        let (worker, key) = job.receiver();
         let outcome = store_one(self.rt, home, writer, job);
         self.stands = outcome.stands();
         self.standing.store(self.stands.word(), Ordering::SeqCst);
@@ -185,6 +191,7 @@ impl<R: Wait + Copy, M: Memory, D: Disk + Drop> Storer<R, M, D> {
         ensures taken { IfSome result (λ w. IsTaken self w) }
         ensures here { (w : _) → self.writer ≡ Some w → result ≡ Some w }
         ensures memory { IfSome result (λ w. IsOf M.table M.plan w.seat) }
+        ensures asked { IfSome result (λ w. StoresAsked M.asked w) }
     {
         Some(self.take_writer()?.into_inner())
     }

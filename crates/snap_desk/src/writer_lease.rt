@@ -37,7 +37,7 @@ impl<R: Wait + Copy, M: Memory, D: Disk + Drop> Drop for WriterLease<R, M, D> {
 /// The outcome of an update, together with its writer, which is idle until the outcome is dropped.
 #[derive(Drop)]
 pub struct Outcome<R: Wait + Copy, M: Memory, D: Disk + Drop> {
-    job: Job,
+    job: Job<M>,
     told: Result<u64, Refusal>,
     lease: WriterLease<R, M, D>,
 }
@@ -57,7 +57,7 @@ impl<R: Wait + Copy, M: Memory, D: Disk + Drop> Outcome<R, M, D> {
     /// The outcome of `job`: the writer after it, and the writer's result. The clause `IsTellable`
     /// allows a reply by this writer.
     pub fn new(
-        job: Job,
+        job: Job<M>,
         told: Result<u64, Refusal>,
         lease: WriterLease<R, M, D>,
     ) -> Outcome<R, M, D>
@@ -86,7 +86,7 @@ impl<R: Wait + Copy, M: Memory, D: Disk + Drop> Outcome<R, M, D> {
     pub fn number(&self) -> u64
         ensures { result ≡ self.now.job.number }
     {
-        self.job.number
+        self.job.number()
     }
 
     /// Whether this is the outcome of exactly this update: its segment, number and value.
@@ -98,10 +98,10 @@ impl<R: Wait + Copy, M: Memory, D: Disk + Drop> Outcome<R, M, D> {
         ensures short { result ≡ true → IsShort value.now }
         ensures memory { IsOf M.table M.plan self.now.writer.seat }
     {
-        if self.lease.writer.as_ref().segment() != segment || self.job.number != number {
+        if self.lease.writer.as_ref().segment() != segment || self.job.number() != number {
             return false;
         }
-        self.job.value.as_slice() == value
+        self.job.value() == value
     }
 
     /// Makes the reply from the writer's result, and returns the writer to its storer.

@@ -1,6 +1,7 @@
 //! A service that counts its answers.
 ghost use Rattle.std.specs.Prelude.{◌≡◌, ◌-◌, [], ◌∷◌, ◌++◌, IfSome, IfNone};
 ghost use Rattle.snap_frame.specs.Messages.{IsAskable, IsInLimits};
+ghost use Rattle.snap_session.specs.Asked.{WasAsked};
 
 use crate::log::Log;
 use crate::looks::Looking;
@@ -106,6 +107,10 @@ impl<S: Service + Looking + Drop> Service for CountingService<'_, S> {
 
     type Outcome = S::Outcome;
 
+    ghost asked = { S.asked };
+
+    ghost memory = { S.memory };
+
     ghost gives = { λ old q r new. S.gives old.service q r new.service };
 
     ghost hands_over = { S.hands_over };
@@ -116,6 +121,7 @@ impl<S: Service + Looking + Drop> Service for CountingService<'_, S> {
 
     fn answer(&mut self, request: &Request, key: usize) -> Option<Reply>
         requires askable { IsAskable request.now }
+        requires asked { WasAsked S.asked request.now }
         ensures gives { IfSome result (λ r. S.gives self.old.service request.now r self.new.service) }
         ensures limits { IfSome result (λ r. IsInLimits r) }
         ensures later { IfNone result (self.new ≡ self.old) }

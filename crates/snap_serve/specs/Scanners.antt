@@ -3,12 +3,24 @@ use Rattle.std.specs.Prelude.{◌≡◌, ◌+◌, ◌≤◌, ℕ, List, [], ◌�
 use Rattle.snap_memory.specs.Registers.{RegistersId, no_registers}
 use Rattle.snap_memory.specs.plan.Plan.{Plan}
 use Rattle.snap_memory.specs.Seat.{Known}
-use Rattle.snap_service.specs.Memory.{IsOf, no_plan}
+use Rattle.snap_disk.specs.declared.disk.Disk as Disk
+use Rattle.snap_restart.specs.Crash.{AreOpened}
+use Rattle.snap_service.specs.Memory.{IsOf, no_plan, number_of}
+use Rattle.snap_writer.specs.Writer.{WriterState}
 
 -- these are scanners of these registers
 abbrev pub AreScanners : RegistersId → Plan → List Known → Type 0
 AreScanners table plan scanners = (k : ℕ) (b : Known) → slice_get scanners k ≡ Some b
     → IsOf table plan b
+
+-- a listener's connections may be answered from the memory of these scanners
+abbrev pub MayServe : (may_serve : ℕ → Type 0) → List Known → Type 0
+MayServe may_serve scanners = (k : ℕ) (b : Known) → slice_get scanners k ≡ Some b → may_serve (number_of b.table)
+
+-- a listener's connections may be answered from the memory that is opened from these devices
+abbrev pub MayServeOpened : {D : Type 0} (disk : Disk.Ghosts D) (may_serve : ℕ → Type 0) → List D → Type 0
+MayServeOpened {D} disk may_serve devices = (writers : List (WriterState D)) → AreOpened disk devices writers
+    → (i : ℕ) (w : WriterState D) → slice_get writers i ≡ Some w → may_serve (number_of w.seat.table)
 
 -- the registers of the first scanner
 abbrev pub table_of : List Known → RegistersId

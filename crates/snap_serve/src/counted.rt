@@ -32,6 +32,8 @@ impl<'a, L: Drop> CountedListener<'a, L> {
 impl<L: Listen + Drop> Listen for CountedListener<'_, L> {
     ghost accepts = { L.accepts };
 
+    ghost may_serve = { L.may_serve };
+
     ghost refuses = { L.refuses };
 
     fn accept(&mut self) -> Result<Accepted, AcceptFault> {

@@ -1,6 +1,7 @@
 //! Running a server with an observer.
 ghost use Rattle.std.specs.Prelude.{◌≡◌, ◌-◌, ◌≤◌, Some, IfOk, IfErr, length};
 ghost use Rattle.std.specs.Thread.{IsSync, IsSend};
+ghost use Rattle.snap_session.specs.Asked.{AllAsked};
 ghost use Rattle.snap_server.specs.Announced.{Announced};
 ghost use Rattle.snap_server.specs.Deals.{GivesSoMany};
 
@@ -67,7 +68,9 @@ where
     G: Gate + Sync,
     N: Fn(&ServerEvent) + Sync,
     A: Announce<T>,
-    requires { N.IsAlwaysCallable note.now }
+    requires note { N.IsAlwaysCallable note.now }
+    requires requests { AllAsked S.asked }
+    requires memory { L.may_serve S.memory }
     ensures asked { IfOk result (λ k. limits.connections ≡ Some k) }
     ensures accepted { IfOk result (λ k.
         (left : L) × GivesSoMany L.accepts k listener left) }
@@ -83,7 +86,7 @@ where
         move |scope| -> (Result<u64, RunFault>, &mut T)
             requires { IsSync X.row × IsSync O.row × IsSync N.row × IsSync G.row × IsSend S.row
                 × IsSend S.Outcome.row × IsSend B.row × IsSend M.row
-                × N.IsAlwaysCallable note.now }
+                × N.IsAlwaysCallable note.now × AllAsked S.asked × L.may_serve S.memory }
             ensures asked { IfOk result.0 (λ k. limits.connections ≡ Some k) }
             ensures accepted { IfOk result.0 (λ k.
                 (left : L) × GivesSoMany L.accepts k listener left) }

@@ -4,7 +4,8 @@ ghost use Rattle.std.specs.Prelude.{if◌then◌else◌};
 ghost use Rattle.snap_order.specs.Order.{IsServable};
 ghost use Rattle.snap_history.specs.declared.limits.TheConstants.{MAX_SCANNERS};
 ghost use Rattle.snap_restart.specs.Closed.{AreBack};
-ghost use Rattle.snap_serve.specs.Scanners.{HasFigures};
+ghost use Rattle.snap_service.specs.Asked.{AreAsOpened};
+ghost use Rattle.snap_serve.specs.Scanners.{HasFigures, MayServe, MayServeOpened};
 ghost use Rattle.snap_serve.specs.Serve.{EndsHost, EndsServing, IsLengthAt, IsNamed, ListenFails};
 ghost use Rattle.snap_serve.specs.Serve.{TellsItsEnd, addresses_of, failure_of, site_at, unbound_failure};
 
@@ -93,6 +94,7 @@ where
     requires order { IsServable order.now }
     requires devices { length devices.items ≡ length order.now.files.items }
     requires headroom { All (λ d. D.failure_count d < 2 ^ 64 - 1) devices.items }
+    requires memory { MayServeOpened D.Disk B.Listener.Listen.may_serve devices.items }
     requires metrics { order.now.scanners ≤ environment.metrics.now.workers }
     requires note { N.IsAlwaysCallable environment.note.now }
 
@@ -137,6 +139,7 @@ where
     requires order { IsServable order.now }
     requires devices { length devices.items ≡ length order.now.files.items }
     requires headroom { All (λ d. D.failure_count d < 2 ^ 64 - 1) devices.items }
+    requires memory { MayServeOpened D.Disk B.Listener.Listen.may_serve devices.items }
     requires metrics { order.now.scanners ≤ environment.metrics.now.workers }
     requires note { N.IsAlwaysCallable environment.note.now }
     ensures ends { EndsHost D.Disk devices.items
@@ -208,6 +211,8 @@ where
     O: Observer + Sync,
     W: Write,
     requires back { AreBack store.writers.items store.scanners.items }
+    requires opened { AreAsOpened store.writers.items }
+    requires memory { MayServe B.Listener.Listen.may_serve store.scanners.items }
     requires metrics { HasFigures environment.observer (length store.scanners.items) environment.metrics.now.workers }
     requires note { N.IsAlwaysCallable environment.note.now }
     ensures ends { EndsServing

@@ -2,10 +2,12 @@
 ghost use Rattle.std.specs.Prelude.{◌≡◌, ◌+◌, ◌≤◌, ◌∷◌, ◌++◌, [], length, Some, IfOk, IfErr, OnOk};
 ghost use Rattle.snap_memory.specs.Rule.{segments};
 ghost use Rattle.snap_memory.specs.Seat.{own_of};
-ghost use Rattle.snap_service.specs.Memory.{AreWriters, IsOf};
+ghost use Rattle.snap_service.specs.Asked.{AreAsOpened, IsAsOpened};
+ghost use Rattle.snap_service.specs.Memory.{AreWriters, IsOf, number_of};
+ghost use Rattle.snap_session.specs.Asked.{AllAsked};
 ghost use Rattle.snap_restart.specs.Closed.{AreBack};
 ghost use Rattle.snap_serve.specs.Handles.{AreHandles};
-ghost use Rattle.snap_serve.specs.Scanners.{AreScanners, HasFigures};
+ghost use Rattle.snap_serve.specs.Scanners.{AreScanners, HasFigures, MayServe};
 ghost use Rattle.snap_server.specs.Announced.{Announced};
 ghost use Rattle.snap_server.specs.Deals.{GivesSoMany};
 
@@ -56,8 +58,9 @@ fn open_stores<R: Wait + Copy, M: Memory, D: Disk + Drop, H: UpdateObserver + Co
     alloc: Global,
     writers: Vec<Writer<D>>,
     watch: H,
-) -> Result<(Vec<Storing<R, M, D, H>>, Vec<StorerHandle>), AllocError>
-    requires { AreWriters M.table M.plan writers.items }
+) -> Result<(Vec<Storing<R, M, D, H>>, Vec<StorerHandle<M>>), AllocError>
+    requires writers { AreWriters M.table M.plan writers.items }
+    requires opened { AreAsOpened writers.items }
     ensures stores { IfOk result (λ r. length r.0.items ≡ length writers.items) }
     ensures handles { IfOk result (λ r. AreHandles (segments M.plan) r.1.items) }
 {
@@ -76,9 +79,10 @@ fn add_store<R: Wait + Copy, M: Memory, D: Disk + Drop, H: UpdateObserver + Copy
     writer: Writer<D>,
     watch: H,
     stores: &mut Vec<Storing<R, M, D, H>>,
-    handles: &mut Vec<StorerHandle>,
+    handles: &mut Vec<StorerHandle<M>>,
 ) -> Result<(), AllocError>
     requires memory { IsOf M.table M.plan writer.seat }
+    requires opened { IsAsOpened writer }
     ensures stores { OnOk result (length stores.new.items ≡ length stores.old.items + 1) }
     ensures handles { OnOk result
         (handles.new.items ≡ handles.old.items ++ own_of writer.seat ∷ []) }
@@ -98,7 +102,7 @@ fn add_store<R: Wait + Copy, M: Memory, D: Disk + Drop, H: UpdateObserver + Copy
 fn open_desks<R: Wait + Copy + Clock, M: Memory, D: Disk + Drop>(
     rt: R,
     alloc: Global,
-    handles: Vec<StorerHandle>,
+    handles: Vec<StorerHandle<M>>,
     scanners: Vec<Scanner>,
 ) -> Result<Vec<Desk<R, M, D>>, AllocError>
     requires handles { AreHandles (segments M.plan) handles.items }
@@ -117,7 +121,7 @@ fn open_desk<R: Wait + Copy + Clock, M: Memory, D: Disk + Drop>(
     rt: R,
     alloc: Global,
     worker: usize,
-    handles: &Vec<StorerHandle>,
+    handles: &Vec<StorerHandle<M>>,
     scanner: Scanner,
 ) -> Result<Desk<R, M, D>, AllocError>
     requires handles { AreHandles (segments M.plan) handles.now.items }
@@ -140,6 +144,7 @@ where
     D: Disk + Drop,
     H: UpdateObserver + Copy + Drop,
     requires writers { AreWriters M.table M.plan writers.items }
+    requires opened { AreAsOpened writers.items }
     requires scanners { AreScanners M.table M.plan scanners.items }
     ensures desks { IfOk result (λ parts. length parts.0.items ≡ length scanners.items) }
     ensures faults { IfErr result (λ fault. fault ≡ ServerFault.NoMemory) }
@@ -197,7 +202,10 @@ where
     O: Observer + Sync,
     A: Announce<T>,
     requires writers { AreWriters M.table M.plan writers.items }
+    requires opened { AreAsOpened writers.items }
     requires scanners { AreScanners M.table M.plan scanners.items }
+    requires requests { AllAsked M.asked }
+    requires memory { L.may_serve (number_of M.table) }
     requires metrics { HasFigures observer (length scanners.items) metrics.now.workers }
     requires note { N.IsAlwaysCallable note.now }
     ensures asked { IfOk result (λ k. limits.connections ≡ Some k) }
@@ -257,6 +265,8 @@ where
     O: Observer + Sync,
     A: Announce<T>,
     requires back { AreBack store.writers.items store.scanners.items }
+    requires opened { AreAsOpened store.writers.items }
+    requires memory { MayServe L.may_serve store.scanners.items }
     requires metrics { HasFigures observer (length store.scanners.items) metrics.now.workers }
     requires note { N.IsAlwaysCallable note.now }
     ensures asked { IfOk result (λ k. limits.connections ≡ Some k) }

@@ -1,5 +1,6 @@
 //! One connection of a worker: its socket, its session and its state.
 ghost use Rattle.std.specs.Prelude.{◌≡◌, ◌↔◌, ◌≤◌, None, OnSome, IfSome, IsSome, length, true, false};
+ghost use Rattle.snap_session.specs.Asked.{AllAsked};
 ghost use Rattle.snap_session.specs.Talk.{HoldsFrameAnd, start, most_owed};
 ghost use Rattle.snap_session.specs.Turns.{StandsAt, TakesRounds};
 ghost use Rattle.snap_server.specs.Scene.{scene};
@@ -126,6 +127,7 @@ impl Connection {
         key: usize,
         piece: &mut [u8; PIECE],
     ) -> Polled
+        requires { AllAsked S.asked }
         ensures goes { IsTurn S.gives service.old service.new self.old.session self.new.session }
         ensures stands { StandsAt result self.new.session None }
         ensures bounded { length self.old.session.owed ≤ most_owed → length self.new.session.owed ≤ most_owed }

@@ -44,6 +44,10 @@ impl<'a, S: Drop, G> Gated<'a, S, G> {
 impl<S: Service + Drop, G: Gate> Service for Gated<'_, S, G> {
     type Outcome = S::Outcome;
 
+    ghost asked = { S.asked };
+
+    ghost memory = { S.memory };
+
     ghost gives = { λ old q r new. S.gives old.service q r new.service };
 
     ghost hands_over = { S.hands_over };

@@ -1,5 +1,5 @@
 //! Listeners, and the connections that they accept.
-ghost use Rattle.std.specs.Prelude.{◌≡◌, IfErr, List, Result};
+ghost use Rattle.std.specs.Prelude.{◌≡◌, ℕ, IfErr, List, Result};
 ghost use Rattle.snap_server.specs.declared.endpoint.Endpoint.{Endpoint};
 ghost use Rattle.snap_server.specs.declared.listen.Accepted.{Accepted};
 ghost use Rattle.snap_server.specs.declared.listen.AcceptFault.{AcceptFault};
@@ -33,6 +33,10 @@ pub enum AcceptFault {
 pub trait Listen {
     /// The possible results of [`accept`](Listen::accept), with the listener after it.
     ghost accepts: { Self → Result Accepted AcceptFault → Self → Type 0 } = { λ _ _ _. Unit {0} };
+
+    /// Whether its connections may be answered from the memory with this number. Code over any listener can't say so
+    /// of a memory by itself.
+    ghost may_serve: { ℕ → Type 0 } = { λ _. Unit {0} };
 
     /// Whether [`accept`](Listen::accept) may fail.
     ghost refuses: { Self → Type 0 };

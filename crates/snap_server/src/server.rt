@@ -2,6 +2,7 @@
 ghost use Rattle.std.specs.Prelude.{◌≡◌, ◌⊎◌, [], All, IfOk, IfErr, OnOk, Some, map, true, vec_len};
 ghost use Rattle.std.specs.List.{range_with_len};
 ghost use Rattle.std.specs.Thread.{IsSync, IsSend};
+ghost use Rattle.snap_session.specs.Asked.{AllAsked};
 ghost use Rattle.snap_server.specs.Announced.{Announced, end_of, was_announced};
 ghost use Rattle.snap_server.specs.Deals.{Deals, GivesSoMany};
 
@@ -194,7 +195,8 @@ where
     B: Background<Outcome = H::Outcome> + Send + Drop,
     N: Fn(&ServerEvent) + Sync,
     A: Announce<T>,
-    requires { N.IsAlwaysCallable note.now }
+    requires note { N.IsAlwaysCallable note.now }
+    requires needs { K.needs }
     ensures asked { IfOk result (λ k. limits.connections ≡ Some k) }
     ensures deals { IfOk result (λ k.
         (left : L) × Deals L.accepts H.takes senders.now k listener left) }
@@ -214,7 +216,7 @@ where
         rt,
         move |scope| -> (Result<u64, RunFault>, &mut T)
             requires { IsSync X.row × IsSync N.row × IsSync H.row × IsSend K.row
-                × N.IsAlwaysCallable note.now × (threads.items ≡ []) }
+                × N.IsAlwaysCallable note.now × K.needs × (threads.items ≡ []) }
             ensures asked { IfOk result.0 (λ k. limits.connections ≡ Some k) }
             ensures deals { IfOk result.0 (λ k.
                 (left : L) × Deals L.accepts H.takes senders.entry.now k listener left) }
@@ -297,7 +299,9 @@ where
     G: Gate + Sync,
     N: Fn(&ServerEvent) + Sync,
     A: Announce<T>,
-    requires { N.IsAlwaysCallable note.now }
+    requires note { N.IsAlwaysCallable note.now }
+    requires requests { AllAsked S.asked }
+    requires memory { L.may_serve S.memory }
     ensures asked { IfOk result (λ k. limits.connections ≡ Some k) }
     ensures accepted { IfOk result (λ k.
         (left : L) × GivesSoMany L.accepts k listener left) }

@@ -4,6 +4,7 @@ ghost use Rattle.std.specs.Prelude.{Some, None, true, false, option_to_list, []}
 ghost use Rattle.std.specs.VecDeque.{deque_len, deque_capacity};
 ghost use Rattle.std.specs.List.{Contains};
 ghost use Rattle.slab.specs.Slab.{get, slab_len, SameValues};
+ghost use Rattle.snap_session.specs.Asked.{AllAsked};
 ghost use Rattle.snap_session.specs.Talk.{Talk, Moves, start};
 ghost use Rattle.snap_server.specs.SharedService.{AreSessions, IsTurn};
 ghost use Rattle.snap_server.specs.TurnList.{Lists, enlisted, listed_behind, again_behind, KeepsOthers};
@@ -141,8 +142,9 @@ impl<S: Service + Drop> Sessions<S> {
     /// Polls a connection once, and returns its close if it is closed. If it may have more to do at
     /// once, it is appended to the list again.
     pub fn turn(&mut self, key: usize, piece: &mut [u8; PIECE]) -> Option<Closed>
-        requires { (c : Connection) → get self.old.connections key ≡ Some c
+        requires idle { (c : Connection) → get self.old.connections key ≡ Some c
             → c.stage ≡ ConnectionState.Idle }
+        requires asked { AllAsked S.asked }
         ensures ended { IfSome result (λ ended. (c : Connection)
             × (get self.new.connections key ≡ Some c) × HasEnded c ended) }
         ensures waits { IfNone result ((c : Connection) → get self.new.connections key ≡ Some c

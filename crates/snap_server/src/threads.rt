@@ -13,6 +13,9 @@ use std::thread::{Promise, PromisedHandle, Scope, Threads};
 
 /// Work that is done in a thread of its own.
 pub trait Work {
+    /// What has to be so that it can work.
+    ghost needs: { Type 0 };
+
     /// All connections that were delivered to it have been served.
     ghost serves: { Self → Type 0 };
 
@@ -23,7 +26,8 @@ pub trait Work {
         limit: &ConnectionLimit,
         note: &N,
     ) -> bool
-        requires { N.IsAlwaysCallable note.now }
+        requires note { N.IsAlwaysCallable note.now }
+        requires needs { needs }
         ensures { result ≡ true → serves self };
 }
 
@@ -121,13 +125,14 @@ where
     N: Fn(&ServerEvent) + Sync,
     requires none { threads.old.items ≡ [] }
     requires note { N.IsAlwaysCallable note.now }
+    requires needs { K.needs }
     ensures { result ≡ true
         → map (λ thread. thread.promise.worker.value) threads.new.items ≡ workers.items }
 {
     'workers: for worker in workers {
         let worker_then = Snapshot::of(&worker);
         let work = move || -> bool
-            requires { IsSync X.row × IsSync N.row × IsSend K.row × N.IsAlwaysCallable note.now }
+            requires { IsSync X.row × IsSync N.row × IsSend K.row × N.IsAlwaysCallable note.now × K.needs }
             ensures { result ≡ true → K.serves worker }
         { worker.work_off(rt, limit, note) };
         let Some(thread) = start(

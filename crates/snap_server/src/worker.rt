@@ -1,6 +1,7 @@
 //! A worker: one thread that serves many connections.
 ghost use Rattle.std.specs.Prelude.{◌≡◌, ◌⊎◌, ◌++◌, ◌∷◌, ℕ, List, [], Some, OnOk, IfOk, IfErr, true, false};
 ghost use Rattle.slab.specs.Slab.{get, slab_len};
+ghost use Rattle.snap_session.specs.Asked.{AllAsked};
 ghost use Rattle.snap_session.specs.Talk.{Moves};
 ghost use Rattle.snap_server.specs.TurnList.{KeepsOthers};
 ghost use Rattle.snap_server.specs.Turns.{HadTurn, HadItsTurn};
@@ -30,9 +31,9 @@ const MAILBOX: Token = Token(usize::MAX);
 /// The most events of one wait.
 const MAX_EVENTS: usize = 256;
 
-/// Polls without sleeping before a worker blocks: about 40 us, as long as it takes to wake a
+/// Polls without sleeping before a worker blocks: about 80 us, twice as long as it takes to wake a
 /// thread.
-const SPINS: u32 = 100;
+const SPINS: u32 = 200;
 
 /// A thread that serves many connections, and all that it owns.
 #[derive(Drop)]
@@ -228,7 +229,8 @@ where
         limit: &ConnectionLimit,
         note: &N,
     )
-        requires { N.IsAlwaysCallable note.now }
+        requires note { N.IsAlwaysCallable note.now }
+        requires asked { AllAsked S.asked }
         ensures turn { (key : ℕ) → (rest : List ℕ) → self.old.sessions.listed.items ≡ key ∷ rest
             → HadTurn S.gives PIECE key self.old.sessions.service self.new.sessions.service
             self.old.sessions.connections self.new.sessions.connections }
@@ -255,7 +257,8 @@ where
         limit: &ConnectionLimit,
         note: &N,
     )
-        requires { N.IsAlwaysCallable note.now }
+        requires note { N.IsAlwaysCallable note.now }
+        requires asked { AllAsked S.asked }
         ensures turns { (key : ℕ) → (c : Connection) → (d : Connection)
             → get self.old.sessions.connections key ≡ Some c
             → get self.new.sessions.connections key ≡ Some d
@@ -391,7 +394,8 @@ where
         limit: &ConnectionLimit,
         note: &N,
     ) -> Result<(), ServerFault>
-        requires { N.IsAlwaysCallable note.now }
+        requires note { N.IsAlwaysCallable note.now }
+        requires asked { AllAsked S.asked }
         ensures closed { OnOk result (self.new.is_open ≡ false) }
         ensures served { OnOk result (slab_len self.new.sessions.connections ≡ 0) }
         ensures moves { Moves S.gives self.old.sessions.service self.new.sessions.service }
@@ -416,7 +420,10 @@ impl<S: Service + Drop> Work for Worker<S>
 where
     S::Outcome: Drop,
 {
+    ghost use Rattle.snap_session.specs.Asked.{AllAsked};
     ghost use Rattle.snap_server.specs.Work.{HasServed};
+
+    ghost needs = { AllAsked S.asked };
 
     ghost serves = { λ worker. (last : _) × HasServed S.gives worker last };
 

@@ -1,4 +1,5 @@
 pub mod Memory
+pub mod Asked
 pub mod Settled
 pub mod Updated
 pub mod Answers

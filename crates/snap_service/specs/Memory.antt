@@ -11,6 +11,10 @@ pub record IsOf (table : RegistersId) (plan : Plan) (a : Known) : Type 0 where
   pub table_is : a.table ≡ table
   pub plan_is : a.plan ≡ plan
 
+-- the number of the memory with these registers: no other has it
+abbrev pub number_of : RegistersId → ℕ
+number_of table = table.views_name
+
 -- these are the writers of all segments of these registers, in order
 pub record AreWriters {D : Type 0} (table : RegistersId) (plan : Plan)
     (writers : List (WriterState D)) : Type 0 where

@@ -1,9 +1,10 @@
 //! Settling an update: does it by its writer, and replies with the writer's result.
 ghost use Rattle.std.specs.Prelude.{◌≡◌};
-ghost use Rattle.snap_history.specs.Limits.{IsShort};
+ghost use Rattle.snap_history.specs.Limits.{IsNumber, IsShort};
 ghost use Rattle.snap_memory.specs.Seat.{AreTogether, Meets, own_of};
 ghost use Rattle.snap_frame.specs.Messages.{IsInLimits};
 ghost use Rattle.snap_writer.specs.Update.{IsSameSeat};
+ghost use Rattle.snap_writer.specs.Writer.{number_of};
 ghost use Rattle.snap_service.specs.Settled.{IsSettledAt, IsTellable};
 ghost use Rattle.snap_writer.specs.Updated.{IsUpdated};
 ghost use Rattle.snap_service.specs.Updated.{IsUpdatedAndTold, RepliesTold};
@@ -19,6 +20,7 @@ pub fn update<D: Disk>(writer: &mut Writer<D>, number: u64, value: &[u8]) -> Res
     requires size { IsShort value.now }
     ensures updated { IsUpdated D.Disk writer.old writer.new number value.now result }
     ensures tellable { IsTellable writer.new number value.now result }
+    ensures shown { (writer.old.segment.number ≡ number_of writer.old) × IsNumber (number_of writer.old) }
 {
     // Called for their clauses on the writer before and after (docs/DECISIONS.md, 180).
     let _before = writer.number();

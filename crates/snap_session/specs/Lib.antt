@@ -1,3 +1,4 @@
+pub mod Asked
 pub mod Talk
 pub mod Hears
 pub mod Waits

@@ -1,8 +1,9 @@
 //! Services, which answer requests at once or later.
-ghost use Rattle.std.specs.Prelude.{◌≡◌, ℕ, IfSome, IfNone};
+ghost use Rattle.std.specs.Prelude.{◌≡◌, ℕ, List, IfSome, IfNone};
 ghost use Rattle.snap_frame.specs.declared.request.Request.{Request};
 ghost use Rattle.snap_frame.specs.declared.reply.Reply.{Reply};
 ghost use Rattle.snap_frame.specs.Messages.{IsAskable, IsInLimits};
+ghost use Rattle.snap_session.specs.Asked.{WasAsked};
 
 use snap_disk::Refusal;
 use snap_frame::{Reply, Request};
@@ -12,6 +13,13 @@ use snap_frame::{Reply, Request};
 pub trait Service {
     /// The outcome of a request that was handed over.
     type Outcome;
+
+    /// Which updates were asked for: a segment, a number and a value. Nothing else makes such a fact, so a service that
+    /// hands on no update without it stores nothing that nobody asked for.
+    ghost asked: { ℕ → ℕ → List ℕ → Type 0 } = { λ _ _ _. Unit {0} };
+
+    /// The number of the memory from which it answers.
+    ghost memory: { ℕ } = { 0 };
 
     /// The replies that it may give: in the old state the request may get this reply and leave the
     /// new state.
@@ -32,6 +40,7 @@ pub trait Service {
     /// `key` is the connection's key. A scan of some segments names at least one.
     fn answer(&mut self, request: &Request, key: usize) -> Option<Reply>
         requires askable { IsAskable request.now }
+        requires asked { WasAsked Self.asked request.now }
         ensures gives { IfSome result (λ r. Self.gives self.old request.now r self.new) }
         ensures limits { IfSome result (λ r. IsInLimits r) }
         ensures later { IfNone result (self.new ≡ self.old) }

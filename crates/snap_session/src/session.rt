@@ -21,6 +21,7 @@ ghost use Rattle.snap_session.specs.Talk.{
   most_answers,
 };
 ghost use Rattle.snap_session.specs.Waits.{WaitsFor};
+ghost use Rattle.snap_session.specs.Asked.{AreAsked};
 ghost use Rattle.snap_session.specs.Hears.{Hears};
 
 use crate::service::Service;
@@ -218,6 +219,8 @@ impl Session {
     fn answer_one<S: Service>(&mut self, service: &mut S, key: usize) -> WaitingFor
         requires going { self.old.over ≡ None }
         requires free { self.old.asked ≡ None }
+        requires asked { AreAsked S.asked self.old.held }
+        ensures asked { self.new.over ≡ None → AreAsked S.asked self.new.held }
         ensures goes { GoesBy 1 Stays S.gives service.old service.new self.old [] [] self.new }
         ensures wants { WaitsFor (S.hands_over × S.hands_over_under key) result self.new }
         ensures bounded { length self.new.owed ≤ length self.old.owed + longest_frame }
@@ -260,7 +263,8 @@ impl Session {
     /// the session is over. `key` is the connection's key, with which requests are handed over. Not
     /// to be called on a session that is over.
     pub fn answer<S: Service>(&mut self, service: &mut S, key: usize) -> WaitingFor
-        requires { self.old.over ≡ None }
+        requires going { self.old.over ≡ None }
+        requires asked { AreAsked S.asked self.old.held }
         ensures goes { Goes Stays S.gives service.old service.new self.old [] [] self.new }
         ensures few { GoesBy most_answers Stays S.gives service.old service.new
             self.old [] [] self.new }

@@ -1,5 +1,6 @@
 //! Turns: runs a session over any reader and writer, a limited number of rounds at a time.
 ghost use Rattle.std.specs.Prelude.{◌≡◌, ◌<◌, ◌≤◌, ◌↔◌, length, [], None, OnSome};
+ghost use Rattle.snap_session.specs.Asked.{AllAsked};
 ghost use Rattle.snap_session.specs.Talk.{Stays, most_owed, HoldsFrameAnd};
 ghost use Rattle.snap_session.specs.Turns.{Turns, Sends, StandsAt, Serves, TakesRounds};
 
@@ -87,7 +88,8 @@ pub fn proceed<R: Read, W: Write, S: Service>(
     key: usize,
     piece: &mut [u8],
 ) -> Polled
-    requires { 0 < length piece.old }
+    requires room { 0 < length piece.old }
+    requires asked { AllAsked S.asked }
     ensures goes { Turns Stays S.gives service.old service.new session.old
         (R.remaining reader.old) (R.remaining reader.new)
         (W.contents writer.old) (W.contents writer.new) session.new }
@@ -167,7 +169,8 @@ pub fn serve<X: Wait, R: Read, W: Write, S: Service>(
     writer: &mut W,
     service: &mut S,
 ) -> End
-    requires { S.hands_over → ⊥ }
+    requires alone { S.hands_over → ⊥ }
+    requires asked { AllAsked S.asked }
     ensures { Serves S.gives service.old service.new
         (R.remaining reader.old) (R.remaining reader.new)
         (W.contents writer.old) (W.contents writer.new) result }

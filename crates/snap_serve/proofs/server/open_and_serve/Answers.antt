@@ -1,4 +1,5 @@
 use Rattle.snap_serve.specs.Serve.{addresses_of, site_at}
+use Rattle.snap_serve.proofs.Memories.{as_opened, may_serve}
 use Rattle.snap_serve.proofs.Ends.{ends_opened, reported}
 use Rattle.snap_serve.proofs.server.open_and_serve.Goals as goal
 
@@ -14,3 +15,13 @@ returns-in-Ok g c =
       ends = ends_opened g.D.Disk c.args.devices.items site c.args.order.now.connections
           c.in-Ok.report o n c.serve_opened.result is c.serve_opened.ensures.ends;
     }
+
+pub serve_opened-requires-clause-opened : goal.serve_opened-requires-clause-opened
+serve_opened-requires-clause-opened g c = λ κs within. as_opened g.D.Disk c.args.devices.items
+    c.in-Ok.store.writers.items c.in-Ok.store.scanners.items c.in-Ok.ensures.opened c.in-Ok.ensures.crash
+    c.in-Ok.ensures.back
+
+pub serve_opened-requires-clause-memory : goal.serve_opened-requires-clause-memory
+serve_opened-requires-clause-memory g c = λ κs within. may_serve g.D.Disk g.B.Listener.Listen.may_serve
+    c.args.devices.items c.in-Ok.store.writers.items c.in-Ok.store.scanners.items c.requires.memory
+    c.in-Ok.ensures.crash c.in-Ok.ensures.back

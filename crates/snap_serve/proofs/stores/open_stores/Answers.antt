@@ -12,7 +12,10 @@ add_store-requires g c =
     let ws = c.args.writers.items in
     let k : ℕ = length c.writers.yielded in
     let next = taken k ws _ _ _ c.writers.invariant.rest c.in-Some.ensures.steps.0 in
-    record { memory = (c.requires.each k c.in-Some.writer next.at).0 }
+    record {
+      memory = (c.requires.writers.each k c.in-Some.writer next.at).0;
+      opened = c.requires.opened k c.in-Some.writer next.at;
+    }
 
 pub writers-init : goal.writers-init
 writers-init g c = record {
@@ -42,7 +45,7 @@ writers-preserved g c =
           let short = ap length c.in-Some.ensures.steps.0 in omega arith);
       within = omega arith;
       stores = (let was = inv.stores in omega (arith, added.stores));
-      handles = (let own = (c.requires.each k c.in-Some.writer next.at).1 in
+      handles = (let own = (c.requires.writers.each k c.in-Some.writer next.at).1 in
           let more = length_push c.writers.handles.items (own_of c.in-Some.writer.seat) in
           let long = ap length added.handles in
           let was = inv.handles.all in record {
@@ -62,5 +65,5 @@ returns g c =
     let inv = c.writers.invariant in
     record {
       stores = inv.stores ∙ end.1;
-      handles = record { all = inv.handles.all ∙ end.1 ∙ c.requires.all; each = inv.handles.each };
+      handles = record { all = inv.handles.all ∙ end.1 ∙ c.requires.writers.all; each = inv.handles.each };
     }

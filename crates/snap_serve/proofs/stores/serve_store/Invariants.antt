@@ -5,4 +5,5 @@ abbrev pub ghosts-serve_memory : goal.ghosts-serve_memory
 ghosts-serve_memory g a = record {
   table = table_of a.scanners.items;
   plan = plan_of a.scanners.items;
+  asked = λ i k v. Unit {0};
 }

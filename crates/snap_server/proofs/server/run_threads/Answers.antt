@@ -15,7 +15,8 @@ scoped-ended-requires g c = record {
         owned = c.type_bounds.send-K.owned;
         leaving = λ k. Quiet-if (k (of_param 2)) unseen unseen (λ x w. tt) (λ x w. tt);
       },
-      c.requires,
+      c.requires.note,
+      c.requires.needs,
       c.in-Ok.ensures.items,
     ),
     (

@@ -11,3 +11,8 @@ returns-clause-tellable g c = let u = c.update-told.ensures.updated in
     (sym before.stored ∙ before.number) (sym after.stored ∙ after.number)
     (sym c.value-value.ensures.stored ∙ c.value-value.ensures.value)
     u.judged u.unchanged u.advances u.fails
+
+pub returns-clause-shown : goal.returns-clause-shown
+returns-clause-shown g c =
+    let before = c.number-before.ensures in
+    (sym before.stored ∙ before.number, omega (arith, before.number, before.low))

@@ -11,6 +11,7 @@ use Rattle.snap_session.specs.declared.turns.End.TheVariants.{WriteFailed}
 use Rattle.snap_session.specs.declared.turns.Polled.{Polled}
 use Rattle.snap_session.specs.declared.turns.Polled.TheVariants.{Again, NeedsInput, NeedsRoom, NeedsOutcome, Over}
 use Rattle.std.proofs.KnownBytes.{Consumes-kept}
+use Rattle.snap_session.proofs.Asked.{asked_anyway}
 use Rattle.snap_session.proofs.Known.{consumes_none}
 use Rattle.snap_session.proofs.Held.{holds_sent, holds_answered, holds_taken}
 use Rattle.snap_session.proofs.Rounds.{scene, only_sends, reads_nothing, answers_some, reads_some, one_more, and_last}
@@ -265,7 +266,7 @@ returns-in-Ok-eq0 g c =
       said.2,
       (c.is_between.ensures.0 c.if-is_between.true).1,
       read.1 c.in-Ok-eq0.field-0-test (subst (λ n. 0 < n)
-          (sym (c.read.auto.buf ∙ c.loop.auto.piece)) c.requires),
+          (sym (c.read.auto.buf ∙ c.loop.auto.piece)) c.requires.room),
     )
 
 pub returns-in-Ok-eq0-2 : goal.returns-in-Ok-eq0-2
@@ -282,7 +283,7 @@ returns-in-Ok-eq0-2 g c =
       said,
       λ empty. true≢false (sym (c.is_between.ensures.1 (said.0, empty))
           ∙ c.if-is_between.false),
-      read.1 zero (subst (λ n. 0 < n) (sym (c.read.auto.buf ∙ c.loop.auto.piece)) c.requires),
+      read.1 zero (subst (λ n. 0 < n) (sym (c.read.auto.buf ∙ c.loop.auto.piece)) c.requires.room),
     )
 
 pub returns-in-Err : goal.returns-in-Err
@@ -310,3 +311,6 @@ returns g c =
     (g.W.Write.contents c.args.writer.now))
     (scene c.loop.service c.loop.session (g.R.Read.remaining c.loop.reader)
     (g.W.Write.contents c.loop.writer))) all c.loop.invariant.rounds) tt
+
+pub answer-requires-clause-asked : goal.answer-requires-clause-asked
+answer-requires-clause-asked g c = asked_anyway g.S.Service.asked _ c.requires.asked

@@ -15,7 +15,7 @@ loop-preserved g c = (
   (tt, tt),
   then_turns g.S.Service.gives _ _ _ _ _ _ _ _ _ _ _ _ c.loop.invariant.1
       c.proceed.ensures.goes,
-  c.proceed.ensures.free c.requires c.loop.invariant.2,
+  c.proceed.ensures.free c.requires.alone c.loop.invariant.2,
 )
 
 pub returns-in-NeedsInput : goal.returns-in-NeedsInput

@@ -1,7 +1,7 @@
 use Rattle.std.proofs.Common.{◌≡◌, inr, sym, subst, ap, ◌∙◌}
 use Rattle.snap_service.specs.Counted.{next_count}
 use Rattle.snap_service.specs.Updated.{IsUpdated}
-use Rattle.snap_desk.specs.declared.job.Job.{Job}
+use Rattle.snap_desk.specs.Job.{JobState}
 use Rattle.snap_desk.specs.Storer.{StorerState, Queued, IsTaken, IsIdle, IsWaiting}
 use Rattle.snap_desk.proofs.Idle.{lent_still, if_none}
 use Rattle.snap_desk.proofs.storer.Storer.next.Goals as goal
@@ -10,7 +10,7 @@ pub returns-in_default-clause-none : goal.returns-in_default-clause-none
 returns-in_default-clause-none g c = record {
   writer = ap (λ (s : StorerState _). s.writer) c.self.view_is;
   stands = ap (λ (s : StorerState _). s.stands) c.self.view_is;
-  taken = c.wait.ensures.taken ∙ ap (λ (s : StorerState _). s.queue.taken) c.self.view_is;
+  taken = ap (λ (q : Queued). q.taken) c.wait.ensures.rest ∙ ap (λ (s : StorerState _). s.queue.taken) c.self.view_is;
   waits = inr (c.wait.ensures.one c.if-not-wait.false);
 }
 
@@ -23,7 +23,7 @@ returns-in_err-writer-clause-none g c =
           ∙ ap (λ (s : StorerState _). s.writer) c.self.view_is;
       stands = ap (λ (s : StorerState _). s.stands) left
           ∙ ap (λ (s : StorerState _). s.stands) c.self.view_is;
-      taken = ap (λ (s : StorerState _). s.queue.taken) left ∙ c.wait.ensures.taken
+      taken = ap (λ (s : StorerState _). s.queue.taken) left ∙ ap (λ (q : Queued). q.taken) c.wait.ensures.rest
           ∙ ap (λ (s : StorerState _). s.queue.taken) c.self.view_is;
       waits = inr (subst IsWaiting (sym (ap (λ (s : StorerState _). s.queue) left))
           (c.wait.ensures.one c.if-not-wait.false));
@@ -36,7 +36,7 @@ returns-clause-stored g c =
     let came = c.store.result.outcome in
     let taken = c.in_ok-writer.ensures.taken in
     let P : StorerState _ → Type 0 = λ s. IsTaken s w in
-    let Q : Job → Type 0 = λ job. IsUpdated g.D.Disk w came.writer job.number job.value
+    let Q : JobState → Type 0 = λ job. IsUpdated g.D.Disk w came.writer job.number job.value
     came.told in
     let updated = subst Q (sym c.store.ensures.job) c.store.ensures.updated in
     let same_queue : c.self-2.inside.queue ≡ c.wait.new.self =
@@ -44,7 +44,7 @@ returns-clause-stored g c =
     ∙ ap (λ (s : StorerState _). s.queue) c.take_writer.ensures.left in
     let waiting : IsWaiting c.self-2.inside.queue =
     subst IsWaiting (sym same_queue) (c.wait.ensures.one c.if-not-wait.false) in
-    let after = c.store.ensures.queue ∙ c.take-job.ensures in
+    let after = c.store.ensures.queue ∙ c.take-job.ensures.taken in
     record {
       writer = w;
       taken = subst P c.self.view_is (record { here = taken.here; stands = taken.stands });
@@ -54,7 +54,7 @@ returns-clause-stored g c =
       same = sym c.store.ensures.stands.own ∙ updated.same_seat.low ∙ taken.stands.own
           ∙ ap (λ (s : StorerState _). s.stands.segment) c.self.view_is;
       one = ap (λ (q : Queued). q.taken) after
-          ∙ ap next_count (ap (λ (q : Queued). q.taken) same_queue ∙ c.wait.ensures.taken
+          ∙ ap next_count (ap (λ (q : Queued). q.taken) same_queue ∙ ap (λ (q : Queued). q.taken) c.wait.ensures.rest
           ∙ ap (λ (s : StorerState _). s.queue.taken) c.self.view_is);
       no_more = ap (λ (q : Queued). q.came) after ∙ waiting ∙ sym (ap (λ (q : Queued). q.taken) after);
     }

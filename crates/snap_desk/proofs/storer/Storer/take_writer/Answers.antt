@@ -10,5 +10,5 @@ returns-in-Some-clause-taken g c =
     let was : c.self.inside.writer ≡ Some w = sym c.take.ensures.value ∙ c.in-Some.is in
     subst P c.self.view_is (record {
       here = λ x h. same_Some w x (sym was ∙ h);
-      stands = c.self.invariant w was;
+      stands = c.self.invariant.0 w was;
     })

@@ -34,7 +34,7 @@ pub invariant_of-self-in-Over : goal.invariant_of-self-in-Over
 invariant_of-self-in-Over g c =
     let at = sym c.in_ok-connection.ensures.value in
     rw c.end.ensures.over (still_holds c.args.self.now _ (written _ c.args.key _ _ at)
-    c.go_on.ensures.goes (ends_idle (c.requires _ at) refl))
+    c.go_on.ensures.goes (ends_idle (c.requires.idle _ at) refl))
 
 pub returns-in_err-connection-clause-moves : goal.returns-in_err-connection-clause-moves
 returns-in_err-connection-clause-moves g c = ([], [], refl)
@@ -59,7 +59,7 @@ returns-in-Again g c =
     let at = sym c.in_ok-connection.ensures.value in
     let there = written c.args.self.now.connections c.args.key c.in_ok-connection.connection.now
     c.go_on.new.self at in
-    let idle = c.go_on.ensures.stage ∙ c.requires _ at in
+    let idle = c.go_on.ensures.stage ∙ c.requires.idle _ at in
     let step = then_listed there c.list.new.self.connections (ap enlisted idle)
     c.list.ensures.listed c.list.ensures.others c.list.ensures.count in
     rw c.list.ensures.service (record {
@@ -83,7 +83,7 @@ returns-in-NeedsInput g c =
     let at = sym c.in_ok-connection.ensures.value in
     let step = written c.args.self.now.connections c.args.key c.in_ok-connection.connection.now
     c.go_on.new.self at in
-    let idle = c.go_on.ensures.stage ∙ c.requires _ at in
+    let idle = c.go_on.ensures.stage ∙ c.requires.idle _ at in
     record {
       ended = tt;
       waits = of_new _ step

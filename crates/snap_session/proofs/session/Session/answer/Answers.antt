@@ -15,6 +15,7 @@ returns-then-not-is_free-clause-few g c =
 pub loop-init : goal.loop-init
 loop-init g c = record {
   goes = rests g.S.Service.gives _ _;
+  asked = λ going. c.requires.asked;
   free = c.is_free.ensures.free c.if-not-is_free.false;
   bounded = λ few. few;
   held = λ going. omega arith;
@@ -42,6 +43,7 @@ pub loop-preserved : goal.loop-preserved
 loop-preserved g c = record {
   goes = goes_more g.S.Service.gives _ _ _ _ _ _ _ 1 c.loop.invariant.goes
       c.answer_one.ensures.goes;
+  asked = c.answer_one.ensures.asked;
   free = c.in-Turn.ensures.wants.0;
   bounded = λ few. omega (
     arith,
@@ -56,3 +58,7 @@ loop-preserved g c = record {
   );
   some = λ ran. c.in-Turn.ensures.wants.1;
 }
+
+pub answer_one-requires-clause-asked : goal.answer_one-requires-clause-asked
+answer_one-requires-clause-asked g c =
+    c.loop.invariant.asked (sym c.over.ensures ∙ still_going _ _ c.is_some.ensures c.if-is_some.false)

@@ -1,7 +1,9 @@
 use Rattle.std.proofs.Common.{◌≡◌, [], length, refl, ap, subst, sym, inl, inr, ◌∙◌, Some, None, arith}
 use Rattle.snap_frame.specs.declared.frame_buffer.Failure.TheVariants.{NoMemory}
-use Rattle.snap_session.specs.Talk.{refused_malformed, refused_too_large}
+use Rattle.snap_session.specs.Asked.{AreAsked}
+use Rattle.snap_session.specs.Talk.{Talk, refused_malformed, refused_too_large}
 use Rattle.snap_frame.specs.Messages.{says}
+use Rattle.snap_session.proofs.Asked.{asked_behind, owes_held}
 use Rattle.snap_session.proofs.Steps.{rests, by_more, gives_up, answers, refuses, found_first, hands, came_free}
 use Rattle.snap_session.proofs.Steps.{owes_turn}
 use Rattle.snap_session.proofs.Steps.{asked_of}
@@ -91,3 +93,27 @@ returns-in-NoMemory-clause-wants g c = (
   c.in-NoMemory.ensures.2 ∙ c.requires.free,
   λ going none. let both : Some NoMemory ≡ None = sym c.in-NoMemory.ensures.1 ∙ going in absurd cc,
 )
+
+-- what is held behind the request that was answered
+pub answer-requires-clause-asked : goal.answer-requires-clause-asked
+answer-requires-clause-asked g c =
+    let h = c.in-Asked.ensures in c.requires.asked [] h.0 _ _ h.1.split h.2
+
+pub returns-in-Some-clause-asked : goal.returns-in-Some-clause-asked
+returns-in-Some-clause-asked g c going =
+    let h = c.in-Asked.ensures in
+    subst (AreAsked g.S.Service.asked) (sym (owes_held _ _ _ _ c.owe.ensures.owes))
+    (asked_behind g.S.Service.asked _ h.0 _ h.1 c.requires.asked)
+
+pub returns-in-None-clause-asked : goal.returns-in-None-clause-asked
+returns-in-None-clause-asked g c going =
+    let h = c.in-Asked.ensures in
+    subst (AreAsked g.S.Service.asked) (sym (ap (λ (z : Talk). z.held) c.keep.ensures))
+    (asked_behind g.S.Service.asked _ h.0 _ h.1 c.requires.asked)
+
+pub returns-in-Malformed-clause-asked : goal.returns-in-Malformed-clause-asked
+returns-in-Malformed-clause-asked g c going =
+    let h = c.in-Malformed.ensures in
+    subst (AreAsked g.S.Service.asked) (sym (owes_held c.hear.new.self refused_malformed
+    c.owe-in-Malformed.new.self c.owe-in-Malformed.result c.owe-in-Malformed.ensures.owes))
+    (asked_behind g.S.Service.asked _ h.0 _ h.1 c.requires.asked)
