@@ -6,3 +6,4 @@ pub mod Gathers
 pub mod Stands
 pub mod Steps
 pub mod Fresh
+pub mod Halt

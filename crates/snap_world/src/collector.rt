@@ -1,8 +1,7 @@
 //! One scan in progress: its double collects, and the values that it saw last.
-#![tactic(auto, using(crate::proofs::Looks::look_facts))]
-
-ghost use Rattle.std.specs.Prelude.{◌≡◌, ◌<◌, ℕ, length, map, IfOk, MatchBool};
-ghost use Rattle.snap_scan.specs.Sets.{IsAt, named};
+ghost use Rattle.std.specs.Prelude.{◌≡◌, ◌↔◌, ◌<◌, ℕ, length, map, IfOk, IsTrue, MatchBool};
+ghost use Rattle.snap_scan.specs.Looks.{IsDecided};
+ghost use Rattle.snap_scan.specs.Sets.{IsAt, named, size};
 ghost use Rattle.snap_world.specs.Answers.{pair_of};
 ghost use Rattle.snap_world.specs.inside.Gathers.{IsLookOf, IsUnderWay, MayLook, entry_in};
 
@@ -50,6 +49,8 @@ impl Collector {
     /// Whether the scan has its answer.
     pub fn is_done(&self) -> bool
         ensures under_way { MatchBool result (IsUnderWay self.now → ⊥) (IsUnderWay self.now) }
+        ensures decided { IsTrue result
+            ↔ IsDecided (size self.now.scan.set) self.now.scan.told }
     {
         match self.scan.next() {
             Next::Look(_) => false,
