@@ -1,13 +1,11 @@
 -- Elements of a list: of one that was written, of one that a function made, of one with a partner
 -- at each place.
 use Rattle.std.proofs.Common.{◌≡◌, ◌≢◌, ℕ, zero, suc, ◌<◌, List, [], ◌∷◌, length, map, get_or, replicate, Some}
-use Rattle.std.proofs.Common.{slice_get, slice_set, refl}
-use Rattle.std.proofs.Common.{ap, sym, ◌∙◌, subst, arith}
+use Rattle.std.proofs.Common.{slice_get, slice_set, refl, ap, sym, ◌∙◌, subst, arith}
 use Rattle.std.specs.Prelude.{option_map}
 use Rattle.std.proofs.lemmas.List.{length-map}
 use Rattle.std.proofs.lemmas.Option.{slice_get-map, slice_get_read, slice_get_within, same_Some}
-use Rattle.snap_history.specs.Pairs.{Pairs}
-use Rattle.snap_history.proofs.Pairs.{element}
+use Rattle.snap_history.{specs.Pairs.Pairs, proofs.Pairs.element}
 
 -- what holds for the element that was written and for all others holds for each element
 pub each-set : {A : Type 0} (P : ℕ → A → Type 0) (xs : List A) (i : ℕ) (x : A) → P i x
@@ -26,6 +24,13 @@ pub set_is : {A : Type 0} (xs : List A) (i : ℕ) (x y : A) → slice_get (slice
 set_is [] i x y e = cc
 set_is (z ∷ xs) zero x y e = cc
 set_is (z ∷ xs) (suc i) x y e = set_is xs i x y e
+
+-- an element that is written where it was
+pub set_same : {A : Type 0} (xs : List A) (i : ℕ) (x : A) → slice_get xs i ≡ Some x
+    → slice_set xs i x ≡ xs
+set_same [] i x e = refl
+set_same (z ∷ xs) zero x e = cc
+set_same (z ∷ xs) (suc i) x e = let rest = set_same xs i x e in cc
 
 -- two reads of one place
 pub same_read : {A : Type 0} (xs : List A) (i : ℕ) (a b : A) → i < length xs → a ≡ get_or xs i a

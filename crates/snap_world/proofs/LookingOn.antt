@@ -1,36 +1,143 @@
--- One look of a writer's embedded scan, or of a scanner, as a step of the actors.
-use Rattle.std.proofs.Common.{◌≡◌, ◌⊎◌, ℕ, ◌≤◌, inl, inr, List, [], ◌∷◌, ◌++◌, get_or, Some, refl, ap, sym, ◌∙◌, subst}
-use Rattle.std.proofs.Math.Logic.{∥∥₁_map}
-use Rattle.std.proofs.lemmas.Option.{same_Some}
-use Rattle.snap_scan.specs.Looks.{IsDecided}
-use Rattle.snap_scan.specs.Sets.{size}
-use Rattle.snap_world.specs.Answers.{ScanState, number_at, all_of, set_of}
-use Rattle.snap_world.specs.inside.Gathers.{Gathers, IsLookOf, IsUnderWay, MayLook, RegistersStand}
-use Rattle.snap_world.specs.Machine.{State, WriterState, ScannerState, Closed, Opened, IsLook, with_writer}
-use Rattle.snap_world.specs.Machine.{with_scanner}
-use Rattle.snap_world.specs.NodePhases.{WorldPhases, LooksOn, up}
-use Rattle.snap_world.specs.Phases.{WriterIs, ScannerIs, writer_to, scanner_to}
+-- The events of a scan as steps of the actors: what a scanner is asked for, one look, also of a writer's embedded
+-- scan, and the reply.
+use Rattle.std.proofs.Common.{◌≡◌, ℕ, suc, ◌^◌, ◌<◌, ◌≤◌, List, [], ◌∷◌, length, map, take, Some, slice_get, refl, ap}
+use Rattle.std.proofs.Common.{sym, ◌∙◌, subst, arith, ◌⊎◌, inl, inr, ◌++◌, get_or}
+use Rattle.std.proofs.{Math.Nat.pow-le-pow_right, lemmas.Nat.pow_pos, Math.Logic.∥∥₁_map}
+use Rattle.std.specs.Global.{Vec}
+use Rattle.std.proofs.lemmas.Option.{get_or_from_slice_get, slice_get_within, same_Some}
+use Rattle.snap_history.specs.History.{Update, from_nothing, IsMemory}
+use Rattle.snap_scan.{specs.declared.set.SegmentSet.SegmentSet, proofs.Sets.some, specs.Looks.IsDecided}
+use Rattle.snap_scan.specs.Sets.{named, size, IsAt}
+use Rattle.snap_world.specs.Answers.{ScanState, scan_from, IsAnswer, all_of, set_of, value_at, entry_at, part_at}
+use Rattle.snap_world.specs.Answers.{number_at}
+use Rattle.snap_world.specs.inside.Gathers.{IsSeen, entry_in, value_in, Gathers, IsLookOf, IsUnderWay, MayLook}
+use Rattle.snap_world.specs.inside.Gathers.{RegistersStand}
+use Rattle.snap_world.specs.Machine.{State, Closed, Opened, with_scanner, WriterState, ScannerState, IsLook}
+use Rattle.snap_world.specs.Machine.{with_writer}
+use Rattle.snap_world.specs.{NodePhases.WorldPhases, NodePhases.MayCome, NodePhases.LooksOn, inside.NodeStands.IsUp}
+use Rattle.snap_world.specs.{inside.NodeSteps.IsActorsStep, inside.Drives.DriveStands, inside.Steps.phases_of_actors}
+use Rattle.snap_world.specs.{inside.Steps.asking, inside.Steps.IsReplyOf, declared.scanner.ScannerPhase.ScannerPhase}
+use Rattle.snap_world.specs.Phases.{ScannerIs, scanner_to, WriterIs, writer_to}
+use Rattle.snap_world.specs.declared.{actors.Actors.Actors, drive.Drive.Drive, event.Reply.Reply, scanner.Asked.Asked}
+use Rattle.snap_world.specs.declared.{scanner.Scanner.Scanner, collector.Collector.Collector}
+use Rattle.snap_world.specs.declared.{register.Register.Register, writer.Writer.Writer, writer.WriterPhase.WriterPhase}
+use Rattle.snap_world.specs.declared.event.Event.TheVariants.{Answer, Look}
+use Rattle.snap_world.specs.declared.event.Reply.TheVariants.{ScanBegun, Memory, Part, Number}
+use Rattle.snap_world.specs.declared.scanner.Asked.TheVariants.{All, Only}
+use Rattle.snap_world.proofs.Events.{up_at, came, store_begins, writer_goes, scanner_goes}
+use Rattle.snap_world.proofs.Moves.{whole, WriterFound, ScannerFound, the_writer, the_scanner, within, answered}
+use Rattle.snap_world.proofs.PhaseMoves.{with_actors_scanner, scanner_moved, writers_phases, writer_read, scanner_read}
+use Rattle.snap_world.proofs.PhaseMoves.{scanner_there, with_actors_writer, writer_moved, writer_kept, scanner_kept}
 use Rattle.snap_world.specs.inside.Stands.{ActorsStand, Stand, WriterStands, ScannerStands, HasBegun, IsAtPhase}
 use Rattle.snap_world.specs.inside.Stands.{IsScannerAt, is_fenced}
-use Rattle.snap_world.specs.inside.Steps.{IsActorsStep, phases_of_actors}
-use Rattle.snap_world.specs.declared.event.Actor.TheVariants as actor
-use Rattle.snap_world.specs.declared.event.Event.TheVariants.{Look}
-use Rattle.snap_world.specs.declared.event.Reply.TheVariants.{Number}
-use Rattle.snap_world.specs.declared.collector.Collector.{Collector}
-use Rattle.snap_world.specs.declared.actors.Actors.{Actors}
-use Rattle.snap_world.specs.declared.register.Register.{Register}
-use Rattle.snap_world.specs.declared.writer.Writer.{Writer}
-use Rattle.snap_world.specs.declared.writer.WriterPhase.{WriterPhase}
-use Rattle.snap_world.specs.declared.writer.WriterPhase.TheVariants as writer
-use Rattle.snap_world.specs.declared.scanner.Scanner.{Scanner}
-use Rattle.snap_world.specs.declared.scanner.ScannerPhase.{ScannerPhase}
+use Rattle.snap_world.proofs.Looks.{undecided, decided, look_from}
 use Rattle.snap_world.specs.declared.scanner.ScannerPhase.TheVariants as scanner
-use Rattle.snap_world.proofs.ScanEnds.{undecided, look_from}
-use Rattle.snap_world.proofs.Moves.{WriterFound, ScannerFound, the_writer, the_scanner, within, writer_moves}
-use Rattle.snap_world.proofs.Moves.{scanner_moves, has_answer}
-use Rattle.snap_world.proofs.PhaseMoves.{writer_read, scanner_read, scanner_there, with_actors_writer}
-use Rattle.snap_world.proofs.PhaseMoves.{with_actors_scanner}
-use Rattle.snap_world.proofs.PhaseMoves.{writer_moved, writer_kept, scanner_moved, scanner_kept, came}
+use Rattle.snap_world.specs.declared.event.Actor.TheVariants as actor
+use Rattle.snap_world.specs.declared.writer.WriterPhase.TheVariants as writer
+
+-- a scan of all segments names existing ones
+pub all_among : (n : ℕ) → all_of n < 2 ^ n
+all_among n = let pos : 0 < 2 ^ n = pow_pos n in omega arith
+
+pub some_named : (n set : ℕ) → n ≤ 16 → 0 < set → set < 2 ^ n → 0 < size set
+some_named n set most pos among =
+    let most_sets : 2 ^ n ≤ 2 ^ 16 = pow-le-pow_right (omega arith) most in
+    some set (omega arith) pos
+
+-- the answer of a scan in other words
+IsAnswer-as : {set : ℕ} {h : List Update} {s : ScanState} {Is : ℕ → Type 0}
+    (a : IsAnswer set h s Is) (As : ℕ → Type 0) → As a.p → IsAnswer set h s As
+IsAnswer-as a As is = record { p = a.p; moment = a.moment; is_moment = a.is_moment; is = is }
+
+pub asked_idle : (x : State) (i : ℕ) (asked : Asked) (p : WorldPhases) → MayCome x p (asking i asked)
+    → ScannerIs p.actors i scanner.Idle
+asked_idle x i All p may = may.1
+asked_idle x i (Only set) p may = may.1
+
+-- the entries of the memory are those of the moment
+entries : (h : List Update) (set : ℕ) (memory : List (List ℕ)) (p : ℕ) → IsSeen set h memory p
+    → map (entry_in memory) (named set) ≡ part_at set h p
+entries h set memory p seen = same (named set) (λ place j at.
+    get_or_from_slice_get memory j (value_at h p j) [] (seen place j at))
+  where
+    same : (js : List ℕ)
+        → ((place j : ℕ) → slice_get js place ≡ Some j → value_in memory j ≡ value_at h p j)
+        → map (entry_in memory) js ≡ map (entry_at h p) js
+    same [] alike = refl
+    same (j ∷ js) alike =
+        ap (λ v. (let e : ℕ × List ℕ = (j, v) in e) ∷ map (entry_in memory) js) (alike 0 j refl)
+        ∙ ap (λ es. entry_at h p j ∷ es) (same js (λ place l at. alike (suc place) l at))
+
+module _ (w : Actors) (i : ℕ) (a : Scanner) where
+  moves : (p : ScannerPhase) → a.phase ≡ p → (ds : Vec Drive)
+      → up_at ds (phases_of_actors (with_actors_scanner w i a))
+      ≡ up_at ds (scanner_to (phases_of_actors w) i p)
+  moves p e ds =
+      ap (up_at ds) (scanner_moved w i a ∙ ap (scanner_to (phases_of_actors w) i) e)
+
+  -- a scanner begins a scan of what it is asked for
+  pub asks : (asked : Asked) → ScannerIs (phases_of_actors w) i scanner.Idle
+      → 0 < set_of w.segments asked → set_of w.segments asked < 2 ^ w.segments
+      → a.phase ≡ scanner.Scanning
+      → ((ds : List Drive) (x : State) → IsUp w ds x → (slice_get x.scanners i ≡ Some Closed)
+      × IsUp (with_actors_scanner w i a) ds
+      (with_scanner x i (Opened asked (scan_from (length x.history)))))
+      → IsActorsStep w (asking i asked) ScanBegun (with_actors_scanner w i a)
+  asks All is some among phase goes = came w _ _ _ (λ e. cc) (λ _ _ _ _ _ _. (refl, tt)) refl
+      (λ ds x up. (let f = goes ds x up in (_, (f.0, refl), f.1))) (λ ds x stands. (refl, is))
+      (λ ds x stands. moves scanner.Scanning phase ds)
+  asks (Only set) is some among phase goes = came w _ _ _ (λ e. cc) (λ _ _ _ _ _ _. (refl, tt)) refl
+      (λ ds x up. (let f = goes ds x up in (_, (f.0, refl), f.1)))
+      (λ ds x stands.
+      (refl, is, (some, subst (λ m. set.bits < 2 ^ m) (sym (writers_phases w x stands)) among)))
+      (λ ds x stands. moves scanner.Scanning phase ds)
+
+  -- a scanner answers what it was asked for
+  pub answers : (asked : Asked) (memory : List (List ℕ)) (reply : Reply)
+      → IsReplyOf asked memory reply → ScannerIs (phases_of_actors w) i scanner.Ready
+      → a.phase ≡ scanner.Idle
+      → ((ds : List Drive) (x : State) → IsUp w ds x → (scan : ScanState)
+      × (slice_get x.scanners i ≡ Some (Opened asked scan))
+      × IsAnswer (set_of w.segments asked) x.history scan
+      (IsSeen (set_of w.segments asked) x.history memory)
+      × (length memory ≡ w.segments) × IsUp (with_actors_scanner w i a) ds (with_scanner x i Closed))
+      → IsActorsStep w (Answer i) reply (with_actors_scanner w i a)
+  answers All memory (Memory m) is ready phase goes =
+      came w _ _ _ (λ e. cc) (λ _ _ _ _ _ _. (refl, tt)) refl
+      (λ ds x up. (let f = goes ds x up in (
+        _,
+        (
+          f.0,
+          f.1,
+          IsAnswer-as f.2 _ (subst (IsMemory w.segments from_nothing (take f.2.p x.history))
+              (sym is) (whole w.segments x.history memory f.2.p up.actors_stand.most f.3 f.2.is)),
+          refl,
+        ),
+        f.4,
+      )))
+      (λ ds x stands. (refl, ready))
+      (λ ds x stands. moves scanner.Idle phase ds)
+  answers (Only set) memory (Part m) is ready phase goes =
+      came w _ _ _ (λ e. cc) (λ _ _ _ _ _ _. (refl, tt)) refl
+      (λ ds x up. (let f = goes ds x up in (
+        _,
+        (set, f.0, f.1, IsAnswer-as f.2 _ (is ∙ entries x.history set.bits memory f.2.p f.2.is), refl),
+        f.4,
+      )))
+      (λ ds x stands. (refl, ready))
+      (λ ds x stands. moves scanner.Idle phase ds)
+  answers All memory reply is ready phase goes = absurd is
+  answers (Only set) memory reply is ready phase goes = absurd is
+
+-- each segment of an answer's set exists
+pub seen_within : (n : ℕ) (h : List Update) (scan : ScanState) (memory : List (List ℕ))
+    (asked : Asked)
+    → IsAnswer (set_of n asked) h scan (IsSeen (set_of n asked) h memory)
+    → (set : SegmentSet) → asked ≡ Only set
+    → (place i : ℕ) → IsAt set.bits place i → i < length memory
+seen_within n h scan memory asked a set e place i at =
+    slice_get_within memory i (value_at h a.p i)
+    (a.is place i (subst (λ (z : Asked). IsAt (set_of n z) place i) (sym e) at))
 
 -- the registers and the collector represent a state and a scan, which has a look to make
 abbrev LooksNext : List Register → Collector → Type 0
@@ -47,16 +154,12 @@ can_look rs c is = (
 -- answer, and the owner is in phase r
 abbrev pub Ends : {P : Type 0} → Collector → P → P → P → Type 0
 Ends c p r q = (IsUnderWay c × (q ≡ p))
-    ⊎ ((IsUnderWay c → ⊥) × IsDecided (size c.scan.set) c.scan.told × (q ≡ r))
+    ⊎ ((IsUnderWay c → ⊥) × (q ≡ r))
 
 module _ {n set k : ℕ} {x : State} {s t : ScanState} {c : Collector} (look : IsLook set x s k t)
     (gathers : Gathers n set x.history t c) where
   start_is : t.start ≡ s.start
   start_is = ap (λ (z : ScanState). z.start) look.after
-
-  decided : IsDecided (size c.scan.set) c.scan.told → IsDecided (size set) t.told
-  decided tells = subst (IsDecided (size set)) gathers.told
-      (subst (λ m. IsDecided (size m) c.scan.told) gathers.set_is tells)
 
   -- the phases that the actors then have
   looks_on : {P Q : Type 0} (phases : P → Q) (p r q : P) (now next : Q) → phases p ≡ now
@@ -72,8 +175,9 @@ module _ {n set k : ℕ} {x : State} {s t : ScanState} {c : Collector} (look : I
             record { ends = λ has. absurd (open_still has); goes_on = λ _. same; either = inr same })
         | inr done ↦ (
             let has : IsDecided (size set) (s.told ++ k ∷ []) =
-            subst (IsDecided (size set)) told (decided done.1) in
-            let same : phases q ≡ next = ap phases done.2 ∙ moved in
+            subst (IsDecided (size set)) told
+            (decided set t.told c.scan.next gathers.next (λ j e. done.0 (j, e))) in
+            let same : phases q ≡ next = ap phases done.1 ∙ moved in
             record { ends = λ _. same; goes_on = λ none. absurd (none has); either = inl same })
       ]
 
@@ -118,7 +222,7 @@ module _ (w : Actors) (i : ℕ) (is : WriterIs (phases_of_actors w) i writer.Sca
       abbrev next : WriterState
       next = record (at x stands).state { scan = told.0 }
 
-      begun : HasBegun w.segments x.history stands.since i (writer_in q) next
+      begun : HasBegun w.segments x.history stands.since i old.value c next
       begun =
           let before = (at x stands).phase.0 in
           let start = start_is told.1 told.2 in
@@ -143,40 +247,53 @@ module _ (w : Actors) (i : ℕ) (is : WriterIs (phases_of_actors w) i writer.Sca
             }
             | inr done ↦ record {
               size = told.2.size;
-              fenced = (at x stands).fenced ∙ ap is_fenced (sym done.2);
-              phase = subst At (sym done.2) (
+              fenced = (at x stands).fenced ∙ ap is_fenced (sym done.1);
+              phase = subst At (sym done.1) (
                 begun,
-                has_answer w.segments (all_of w.segments) x.history told.0 c told.2
-                    (decided told.1 told.2 done.1) done.0,
+                answered (all_of w.segments) x.history told.0 c.memory.items c.scan.next
+                    (λ j e. done.0 (j, e)) told.2.gathered,
               );
             }
           ]
 
+      -- the device is ready, also for a store of any value
+      device_on : (d : Drive) → DriveStands w.segments x.history i writer.Scanning next.pending d
+          → DriveStands w.segments x.history i q next.pending d
+      device_on d ready =
+          let At : WriterPhase → Type 0 =
+          λ p. DriveStands w.segments x.history i p next.pending d in
+          elim ends [
+            | inl goes ↦ subst At (sym goes.1) ready
+            | inr done ↦ subst At (sym done.1) (λ v begun. store_begins i w.segments _ _ v _ _ ready)
+          ]
+
     pub writer_looks : IsActorsStep w (Look (actor.Writer i)) (Number k)
         (with_actors_writer w i (record old { phase = q; collector = c }))
-    writer_looks =
-        let p = phases_of_actors w in
-        let after : WriterPhase → WorldPhases =
-        λ z. up (phases_of_actors (with_actors_writer w i (writer_in z))) in
-        came w _ _ _ (λ e. cc) refl
-        (λ x stands. (
+    writer_looks = came w _ _ _ (λ e. cc) (λ _ _ _ _ _ _. (refl, tt)) refl
+        (λ ds x up. (
+        let stands = up.actors_stand in
         let a = at x stands in
         let t = told x stands in (
           with_writer x i (next x stands),
           (a.state, a.there, t.0, t.1, refl),
-          writer_moves w x stands i (writer_in q) a.state (next x stands)
-              (within w x stands i is) a.there refl (stands_on x stands),
+          writer_goes w ds x up i (writer_in q) a.state (next x stands) (within w x stands i is)
+              a.there refl (stands_on x stands)
+              (λ d ed. device_on x stands d (up.drives_stand i d a.state writer.Scanning ed a.there is)),
         )))
-        (λ x stands. (refl, is))
-        (λ x stands s e. (
+        (λ ds x stands. (refl, is))
+        (λ ds x stands s e. (
         let a = at x stands in
         let t = told x stands in
-        subst (λ (z : WriterState). LooksOn (all_of w.segments) (z.scan.told ++ k ∷ []) (up p)
-        (up (writer_to p i writer.Storing)) (after q)) (same_Some a.state s (sym a.there ∙ e))
-        (looks_on t.1 t.2 after writer.Scanning writer.Storing q (up p)
-        (up (writer_to p i writer.Storing))
-        (ap up (writer_kept w i (writer_in writer.Scanning) old read (sym (writer_read w i is old read).1)))
-        (ap up (writer_moved w i (writer_in writer.Storing))) ends)))
+        let p = up_at ds (phases_of_actors w) in
+        let next = up_at ds (writer_to (phases_of_actors w) i writer.Storing) in
+        let after : WriterPhase → WorldPhases =
+        λ z. up_at ds (phases_of_actors (with_actors_writer w i (writer_in z))) in
+        subst (λ (z : WriterState). LooksOn (all_of w.segments) (z.scan.told ++ k ∷ []) p next (after q))
+        (same_Some a.state s (sym a.there ∙ e))
+        (looks_on t.1 t.2 after writer.Scanning writer.Storing q p next
+        (ap (up_at ds) (writer_kept w i (writer_in writer.Scanning) old read
+        (sym (writer_read w i is old read).1)))
+        (ap (up_at ds) (writer_moved w i (writer_in writer.Storing))) ends)))
 
 -- a property of the set and of the numbers read of a scanner's scan, if it has one
 abbrev OfScan : ℕ → (ℕ → List ℕ → Type 0) → ScannerState → Type 0
@@ -223,39 +340,38 @@ module _ (w : Actors) (i : ℕ) (is : ScannerIs (phases_of_actors w) i scanner.S
             size = t.2.size;
             phase = elim ends [
               | inl goes ↦ subst At (sym goes.1) (t.0, refl, born, t.2, goes.0)
-              | inr done ↦ subst At (sym done.2) (
+              | inr done ↦ subst At (sym done.1) (
                 t.0,
                 refl,
                 t.2.end,
-                has_answer w.segments set x.history t.0 c t.2 (decided t.1 t.2 done.1) done.0,
+                answered set x.history t.0 c.memory.items c.scan.next (λ j e. done.0 (j, e)) t.2.gathered,
               )
             ];
           }
 
     pub scanner_looks : IsActorsStep w (Look (actor.Scanner i)) (Number k)
         (with_actors_scanner w i (record old { phase = q; collector = c }))
-    scanner_looks =
-        let p = phases_of_actors w in
-        let after : ScannerPhase → WorldPhases =
-        λ z. up (phases_of_actors (with_actors_scanner w i (scanner_in z))) in
-        came w _ _ _ (λ e. cc) refl
-        (λ x stands. (
+    scanner_looks = came w _ _ _ (λ e. cc) (λ _ _ _ _ _ _. (refl, tt)) refl
+        (λ ds x up. (
+        let stands = up.actors_stand in
         let a = scanner_at x stands in
         let t = scanner_told x stands in (
           with_scanner x i (Opened old.asked t.0),
           (old.asked, a.phase.0, a.there ∙ ap (λ z. Some z) a.phase.1, t.0, t.1, refl),
-          scanner_moves w x stands i (scanner_in q) (Opened old.asked t.0) (scanner_there w i is)
+          scanner_goes w ds x up i (scanner_in q) (Opened old.asked t.0) (scanner_there w i is)
               (scanner_stands_on x stands),
         )))
-        (λ x stands. (refl, is))
-        (λ x stands asked s e. (
+        (λ ds x stands. (refl, is))
+        (λ ds x stands asked s e. (
         let a = scanner_at x stands in
         let t = scanner_told x stands in
-        subst (OfScan w.segments (λ m told. LooksOn m (told ++ k ∷ []) (up p)
-        (up (scanner_to p i scanner.Ready)) (after q)))
+        let p = up_at ds (phases_of_actors w) in
+        let next = up_at ds (scanner_to (phases_of_actors w) i scanner.Ready) in
+        let after : ScannerPhase → WorldPhases =
+        λ z. up_at ds (phases_of_actors (with_actors_scanner w i (scanner_in z))) in
+        subst (OfScan w.segments (λ m told. LooksOn m (told ++ k ∷ []) p next (after q)))
         (sym a.phase.1 ∙ same_Some a.state (Opened asked s) (sym a.there ∙ e))
-        (looks_on t.1 t.2 after scanner.Scanning scanner.Ready q (up p)
-        (up (scanner_to p i scanner.Ready))
-        (ap up (scanner_kept w i (scanner_in scanner.Scanning) old read
+        (looks_on t.1 t.2 after scanner.Scanning scanner.Ready q p next
+        (ap (up_at ds) (scanner_kept w i (scanner_in scanner.Scanning) old read
         (sym (scanner_read w i is old read).1)))
-        (ap up (scanner_moved w i (scanner_in scanner.Ready))) ends)))
+        (ap (up_at ds) (scanner_moved w i (scanner_in scanner.Ready))) ends)))

@@ -1,30 +1,112 @@
--- One look of a collector is a look of the abstract machine.
-use Rattle.std.proofs.Common.{◌≡◌, ℕ, ◌+◌, ◌<◌, ◌≤◌, inl, inr, List, [], ◌∷◌, ◌++◌, length, take, get_or, Option}
-use Rattle.std.proofs.Common.{Some, None, slice_get}
-use Rattle.std.proofs.Common.{slice_set, slice_index, refl, ap, sym, ◌∙◌, subst, arith}
-use Rattle.std.proofs.Math.Logic.{∥∥₁_elim}
-use Rattle.std.proofs.Props.{props}
-use Rattle.std.proofs.lemmas.Option.{slice_get_read, slice_get-get_or, same_Some}
-use Rattle.std.proofs.lemmas.List.{length-set}
+-- One look of a collector is a look of the abstract machine; the next step of a scan, by the numbers that it
+-- has read; a memory's values at the places of a set.
+use Rattle.std.specs.Prelude.{option_map, unwrap_or}
+use Rattle.std.proofs.Common.{◌≡◌, ℕ, ◌+◌, ◌*◌, ◌<◌, List, [], inl, inr, slice_index, refl, arith, length, get_or, Some}
+use Rattle.std.proofs.Common.{slice_get, slice_set, ap, sym, ◌∙◌, subst, ◌≤◌, ◌∷◌, ◌++◌, take, Option, None}
+use Rattle.std.proofs.{Math.Logic.∥∥₁_elim, Props.props, lemmas.Bool.cases_eq}
+use Rattle.snap_scan.specs.Looks.{IsDecided, IsClean, IsBorrow, IsTurn, IsNoFall}
+use Rattle.snap_scan.specs.Course.{IsNext, Course, Borrows}
+use Rattle.snap_scan.{specs.Sets.named, specs.Sets.size, specs.Sets.IsAt, specs.declared.next.Next.Next}
+use Rattle.snap_scan.proofs.Sets.{at_some, at_once, at_within, at_is, at_below}
+use Rattle.snap_scan.specs.declared.next.Next.TheVariants.{Look, Clean, Borrow}
+use Rattle.std.proofs.lemmas.List.{length-map, length-set, ext_get_or}
+use Rattle.std.proofs.lemmas.Option.{slice_get-map, get_or_from_slice_get, unwrap_or-slice_get, same_Some}
+use Rattle.std.proofs.lemmas.Option.{slice_get_read, slice_get-get_or}
+use Rattle.snap_history.{proofs.Lists.get-set_same, proofs.Lists.get-set_other, proofs.Pairs.partner}
+use Rattle.snap_world.specs.inside.Gathers.{value_in, picked, MayLook, Gathers, Gathered, RegisterStands, ViewStands}
+use Rattle.snap_world.specs.inside.Gathers.{RegistersStand}
 use Rattle.snap_history.specs.History.{Update, from_nothing, number_after, value_after, IsMemory}
 use Rattle.snap_history.proofs.Moments.{number-le, value_same, take-now}
-use Rattle.snap_history.proofs.Pairs.{partner}
-use Rattle.snap_scan.specs.Looks.{IsClean, IsBorrow, IsTurn, IsNoFall}
-use Rattle.snap_scan.specs.Course.{Course, IsNext, Borrows}
-use Rattle.snap_scan.specs.Sets.{named, size, IsAt}
-use Rattle.snap_scan.proofs.Sets.{at_is, at_some, at_once, at_within, at_below}
-use Rattle.snap_scan.specs.declared.next.Next.{Next}
-use Rattle.snap_scan.specs.declared.next.Next.TheVariants.{Look, Clean, Borrow}
 use Rattle.snap_scan.specs.Collects.{IsRising, IsKept, Collects}
 use Rattle.snap_scan.proofs.Collects.{same_turn, Collects-push, no_fall, rose, borrow_moment, clean_moment}
 use Rattle.snap_world.specs.Answers.{ScanState, number_at, value_at, numbers_of, values_of}
-use Rattle.snap_world.specs.inside.Gathers.{MayLook, Gathers, Gathered, RegisterStands, ViewStands, RegistersStand}
-use Rattle.snap_world.specs.inside.Gathers.{picked}
 use Rattle.snap_world.specs.Machine.{State, WriterState, ShownWith, Decides, looked, IsLook}
-use Rattle.snap_world.specs.declared.register.Register.{Register}
-use Rattle.snap_world.specs.declared.collector.Collector.{Collector}
-use Rattle.snap_world.proofs.ScanEnds.{undecided}
-use Rattle.snap_world.proofs.Picked.{picked_at, picked_size, picked-set}
+use Rattle.snap_world.specs.declared.{register.Register.Register, collector.Collector.Collector}
+
+-- a scan that has a look to make has no answer, and any other one has
+pub undecided : (set : ℕ) (L : List ℕ) (v : Next) (j : ℕ) → IsNext set L v → v ≡ Look j
+    → IsDecided (size set) L → ⊥
+undecided set L v j is e (inl clean) = let f : v ≡ Clean = is.clean.1 clean in cc
+undecided set L v j is e (inr borrow) =
+    let i = slice_index (named set) borrow.0 in
+    let at = at_some set borrow.0 borrow.1.segment in
+    let f : v ≡ Borrow i = (is.borrow i).1 (borrow.0, at, borrow.1) in
+    cc
+
+pub decided : (set : ℕ) (L : List ℕ) (v : Next) → IsNext set L v → ((j : ℕ) → v ≡ Look j → ⊥)
+    → IsDecided (size set) L
+decided set L (Look j) is none = absurd (none j refl)
+decided set L Clean is none = inl (is.clean.0 refl)
+decided set L (Borrow j) is none =
+    let borrows = (is.borrow j).0 refl in
+    inr (borrows.0, borrows.2)
+
+-- a scan that has read no number has a look to make
+pub first_look : (set : ℕ) (v : Next) → 0 < size set → IsNext set [] v → (j : ℕ) × (v ≡ Look j)
+first_look set (Look j) pos is = (j, refl)
+first_look set Clean pos is =
+    let clean = is.clean.0 refl in
+    let long : 0 ≡ (clean.rounds.0 + 2) * size set = clean.rounds.1 in
+    absurd (omega arith)
+first_look set (Borrow j) pos is =
+    let borrows = (is.borrow j).0 refl in
+    let long : 0 ≡ borrows.2.last.0 * size set + borrows.0 + 1 = borrows.2.last.1 in
+    absurd (omega arith)
+
+-- the segment of the look follows from the fact that there is one
+pub look_from : (v : Next) → ∥ ((j : ℕ) × (v ≡ Look j)) ∥₁ → (j : ℕ) × (v ≡ Look j)
+look_from (Look j) some = (j, refl)
+look_from Clean some = absurd (∥∥₁_elim some (hlevel props) (λ q. (let e : Clean ≡ Look q.0 = q.1 in
+    cc)))
+look_from (Borrow j) some =
+    absurd (∥∥₁_elim some (hlevel props) (λ q. (let e : Borrow j ≡ Look q.0 = q.1 in cc)))
+
+-- equal elements are read alike
+read_alike : (xs ys : List (List ℕ)) (i j : ℕ) → slice_get xs i ≡ slice_get ys j
+    → get_or xs i [] ≡ get_or ys j []
+read_alike xs ys i j e =
+    sym (unwrap_or-slice_get xs i []) ∙ ap (λ v. unwrap_or v []) e ∙ unwrap_or-slice_get ys j []
+
+module _ (set : ℕ) (memory : List (List ℕ)) where
+  pub picked_at : (p i : ℕ) → IsAt set p i
+      → slice_get (picked set memory) p ≡ Some (value_in memory i)
+  picked_at p i at = slice_get-map (value_in memory) (named set) p
+      ∙ ap (option_map (value_in memory)) at
+
+  pub picked_size : length (picked set memory) ≡ size set
+  picked_size = length-map (named set) (value_in memory)
+
+-- a value that is written at a segment of the set is written at its place
+pub picked-set : (set : ℕ) (memory : List (List ℕ)) (p j : ℕ) (v : List ℕ) → IsAt set p j
+    → j < length memory
+    → picked set (slice_set memory j v) ≡ slice_set (picked set memory) p v
+picked-set set memory p j v at l =
+    let new = slice_set memory j v in
+    let old = picked set memory in
+    let long : length (picked set new) ≡ size set = picked_size set new in
+    let same_long : length old ≡ size set = picked_size set memory in
+    ext_get_or [] (picked set new) (slice_set old p v)
+    (long ∙ sym (length-set old p v ∙ same_long))
+    (λ q inside. (
+    let i = slice_index (named set) q in
+    let at_q : IsAt set q i = at_some set q (omega arith) in
+    let left = picked_at set new q i at_q in
+    let within : p < size set = at_within set p j at in
+    read_alike (picked set new) (slice_set old p v) q q (elim (cases_eq q p) [
+      | inl e ↦ (
+          let i_is : i ≡ j =
+          same_Some i j (sym at_q ∙ ap (slice_get (named set)) e ∙ at) in
+          let value : value_in new i ≡ v =
+          ap (value_in new) i_is ∙ get_or_from_slice_get new j v [] (get-set_same memory j v l) in
+          left ∙ ap (λ z. Some z) value ∙ sym (get-set_same old p v (omega arith))
+          ∙ ap (slice_get (slice_set old p v)) (sym e))
+      | inr ne ↦ (
+          let other : value_in new i ≡ value_in memory i =
+          read_alike new memory i i (get-set_other memory j i v (λ e.
+          ne (at_once set q p j (subst (IsAt set q) e at_q) at))) in
+          left ∙ ap (λ z. Some z) other ∙ sym (picked_at set memory q i at_q)
+          ∙ sym (get-set_other old p q v ne))
+    ])))
 
 pub number_now : (h : List Update) (i : ℕ)
     → number_at h (length h) i ≡ number_after from_nothing h i
@@ -283,3 +365,5 @@ module _ (rs : List Register) (col : Collector) (may : MayLook rs col) (j : ℕ)
         let within = turn_within q.0 q.1 q.2 q.3 q.4 col q.7 j turn in
         told_fits q.0 q.1 q.2 q.3 q.4 col q.7 j turn r.number
         (register_at q.0 q.2 q.3 rs j r q.6 within read).number))
+
+pub ruleset look_facts = (register_there, number_fits, view_fits)

@@ -1,45 +1,33 @@
 -- The parts of a world that stay when one writer, one scanner or the history changes.
-use Rattle.std.proofs.Common.{◌≡◌, ◌≢◌, ℕ, ◌+◌, ◌^◌, ◌<◌, ◌≤◌, List, [], ◌∷◌, ◌++◌, length, take, get_or, Option}
-use Rattle.std.proofs.Common.{Some, slice_index}
-use Rattle.std.proofs.Common.{slice_get, refl, ap, sym, ◌∙◌, subst, arith}
+use Rattle.std.proofs.Common.{◌≡◌, ◌≢◌, ℕ, ◌+◌, ◌^◌, ◌<◌, ◌≤◌, List, [], ◌∷◌, ◌++◌, length, take, get_or, Option, Some}
+use Rattle.std.proofs.Common.{slice_index, slice_get, refl, ap, sym, ◌∙◌, subst, arith}
 use Rattle.std.specs.Vec.{with_item}
 use Rattle.std.proofs.lemmas.List.{length-set, length_push}
 use Rattle.std.proofs.lemmas.Option.{slice_get_read, same_Some}
 use Rattle.snap_history.specs.History.{Update, from_nothing, number_after, value_after, IsMemory}
 use Rattle.snap_history.proofs.Moments.{number-push, number-push_other, value-push, value-push_other, take-push}
 use Rattle.snap_history.proofs.Moments.{number-le}
-use Rattle.snap_history.proofs.Pairs.{partner, Pairs-set, Pairs-left, Pairs-right, Pairs-map}
-use Rattle.snap_scan.specs.Course.{IsNext}
-use Rattle.snap_scan.specs.Sets.{named, size}
-use Rattle.snap_scan.proofs.Sets.{all_at}
+use Rattle.snap_history.proofs.Pairs.{partner, Pairs-set, Pairs-right, Pairs-map}
+use Rattle.snap_scan.{specs.Course.IsNext, specs.Sets.named, specs.Sets.size, proofs.Sets.all_at}
 use Rattle.snap_scan.specs.declared.next.Next.{Next}
 use Rattle.snap_scan.specs.declared.next.Next.TheVariants.{Look, Clean, Borrow}
-use Rattle.snap_scan.specs.Looks.{IsDecided}
 use Rattle.snap_scan.proofs.Collects.{Collects-none, Collects-same, IsMoment-same}
-use Rattle.snap_world.specs.Answers.{ScanState, scan_from, IsAnswer, number_at, value_at, all_of, set_of}
-use Rattle.snap_world.specs.Answers.{numbers_of, values_of}
+use Rattle.snap_world.specs.Answers.{ScanState, scan_from, IsAnswer, number_at, value_at, all_of, set_of, numbers_of}
+use Rattle.snap_world.specs.Answers.{values_of}
 use Rattle.snap_world.specs.inside.Gathers.{Gathers, Gathered, IsSeen, picked, IsUnderWay, RegisterStands, IsView}
 use Rattle.snap_world.specs.inside.Gathers.{ViewStands}
-use Rattle.snap_world.specs.inside.Gathers.{RegistersStand}
 use Rattle.snap_world.specs.Machine.{State, WriterState, ScannerState, with_writer, with_scanner, with_update}
-use Rattle.snap_world.specs.Phases.{WriterIs, ScannerIs}
-use Rattle.snap_world.specs.inside.Stands.{HasBegun, HasAnswer, WriterStands, ScannerStands, ActorsStand, IsAtPhase}
-use Rattle.snap_world.specs.inside.Stands.{IsScannerAt, is_fenced}
-use Rattle.snap_world.specs.inside.Steps.{phases_of_actors}
-use Rattle.snap_world.specs.declared.register.Register.{Register}
-use Rattle.snap_world.specs.declared.collector.Collector.{Collector}
-use Rattle.snap_world.specs.declared.actors.Actors.{Actors}
-use Rattle.snap_world.specs.declared.writer.Writer.{Writer}
-use Rattle.snap_world.specs.declared.scanner.Scanner.{Scanner}
-use Rattle.snap_world.specs.declared.writer.WriterPhase.{WriterPhase}
-use Rattle.snap_world.specs.declared.writer.WriterPhase.TheVariants as writer
+use Rattle.snap_world.specs.{Phases.WriterIs, Phases.ScannerIs, inside.Steps.phases_of_actors}
+use Rattle.snap_world.specs.inside.Stands.{HasBegun, WriterStands, ScannerStands, ActorsStand, IsAtPhase, IsScannerAt}
+use Rattle.snap_world.specs.inside.Stands.{is_fenced}
+use Rattle.snap_world.specs.declared.{register.Register.Register, collector.Collector.Collector, actors.Actors.Actors}
+use Rattle.snap_world.specs.declared.{writer.Writer.Writer, scanner.Scanner.Scanner, writer.WriterPhase.WriterPhase}
 use Rattle.snap_world.specs.declared.scanner.ScannerPhase.{ScannerPhase}
-use Rattle.snap_world.specs.declared.scanner.ScannerPhase.TheVariants as scanner
-use Rattle.snap_world.proofs.Elements.{each-set}
-use Rattle.snap_world.proofs.Looks.{number_now}
+use Rattle.snap_world.proofs.{Elements.each-set, Looks.number_now, Looks.first_look}
 use Rattle.snap_world.proofs.PhaseMoves.{writer_there, writer_read, scanner_read, with_actors_writer}
 use Rattle.snap_world.proofs.PhaseMoves.{with_actors_scanner}
-use Rattle.snap_world.proofs.ScanEnds.{first_look}
+use Rattle.snap_world.specs.declared.writer.WriterPhase.TheVariants as writer
+use Rattle.snap_world.specs.declared.scanner.ScannerPhase.TheVariants as scanner
 
 -- a scan that has read no number
 pub Gathers-none : (n set : ℕ) (h : List Update) (c : Collector) → 0 < size set → set < 2 ^ n
@@ -128,57 +116,32 @@ module _ (w : Actors) (x : State) (stands : ActorsStand w x) where
   the_register i r l e = stands.registers.each i r
       (slice_get_read w.registers.items w.segments i r (sym stands.registers.size) l e)
 
-  -- the registers after a writer whose view stayed
-  registers_stay : (i : ℕ) (old s : WriterState) → i < w.segments → slice_get x.writers i ≡ Some old
-      → s.view ≡ old.view → RegistersStand w.segments
-      (with_writer x i s) stands.since w.registers.items
-  registers_stay i old s l there same =
-      let size : length w.writers.items ≡ w.segments = stands.writers_n in
-      let long : length w.writers.items ≡ length x.writers = stands.writers.size in
-      record {
-        size = stands.registers.size;
-        each = stands.registers.each;
-        views = Pairs-right (λ j r (z : WriterState).
-            ViewStands w.segments x.history stands.since j r z.view) w.registers.items x.writers i s
-            (omega arith)
-            (λ r er. subst (ViewStands w.segments x.history stands.since i r) (sym same)
-            (stands.registers.views.each i r old er there)) stands.registers.views;
-      }
-
+  -- a writer whose view stayed
   pub writer_moves : (i : ℕ) (a : Writer) (old s : WriterState) → i < w.segments
       → slice_get x.writers i ≡ Some old → s.view ≡ old.view
       → WriterStands w.segments x.history stands.since i a s
       → ActorsStand (with_actors_writer w i a) (with_writer x i s)
   writer_moves i a old s l there same here =
       let size : length w.writers.items ≡ w.segments = stands.writers_n in
+      let long : length w.writers.items ≡ length x.writers = stands.writers.size in
+      let regs = stands.registers in
       record {
         least = stands.least;
         most = stands.most;
         since = stands.since;
         within = stands.within;
-        registers = registers_stay i old s l there same;
+        registers = record {
+          size = regs.size;
+          each = regs.each;
+          views = Pairs-right (λ j r (z : WriterState).
+              ViewStands w.segments x.history stands.since j r z.view) w.registers.items x.writers i s
+              (omega arith) (λ r er. subst (ViewStands w.segments x.history stands.since i r) (sym same)
+              (regs.views.each i r old er there)) regs.views;
+        };
         writers_n = length-set w.writers.items i a ∙ size;
         writers = Pairs-set (WriterStands w.segments x.history stands.since)
             (WriterStands w.segments x.history stands.since) w.writers.items x.writers i a s
             (omega arith) (λ j c d ne r. r) here stands.writers;
-        scanners = stands.scanners;
-      }
-
-  -- a writer that represents the same state
-  pub writer_stays : (i : ℕ) (a : Writer) → i < w.segments → (s : WriterState)
-      → slice_get x.writers i ≡ Some s → WriterStands w.segments x.history stands.since i a s
-      → ActorsStand (with_actors_writer w i a) x
-  writer_stays i a l s e here =
-      let size : length w.writers.items ≡ w.segments = stands.writers_n in
-      record {
-        least = stands.least;
-        most = stands.most;
-        since = stands.since;
-        within = stands.within;
-        registers = stands.registers;
-        writers_n = length-set w.writers.items i a ∙ size;
-        writers = Pairs-left (WriterStands w.segments x.history stands.since) w.writers.items
-            x.writers i a s (omega arith) e here stands.writers;
         scanners = stands.scanners;
       }
 
@@ -232,10 +195,6 @@ module _ (h : List Update) (u : Update) where
               ∙ ap (λ v. Some v) (sym (values_stay s.last end a.p i until));
         }
 
-    HasAnswer-grow : (c : Collector) → HasAnswer set h s c → HasAnswer set (h ++ u ∷ []) s c
-    HasAnswer-grow c a =
-        record { decided = a.decided; answer = IsAnswer-grow c.memory.items a.answer }
-
     Gathered-grow : (memory : List (List ℕ)) (v : Next) → Gathered set h s memory v
         → Gathered set (h ++ u ∷ []) s memory v
     Gathered-grow memory (Look j) g = (
@@ -264,7 +223,8 @@ module _ (h : List Update) (u : Update) where
     }
 
     module _ (since i : ℕ) (w : Writer) (s : WriterState) (ne : u.segment ≢ i) where
-      HasBegun-grow : HasBegun n h since i w s → HasBegun n (h ++ u ∷ []) since i w s
+      HasBegun-grow : HasBegun n h since i w.value w.collector s
+          → HasBegun n (h ++ u ∷ []) since i w.value w.collector s
       HasBegun-grow g =
           let same : number_after from_nothing (h ++ u ∷ []) i ≡ number_after from_nothing h i =
           number-push_other from_nothing h u i ne in
@@ -283,9 +243,9 @@ module _ (h : List Update) (u : Update) where
       phase-grow writer.Idle g = g
       phase-grow writer.Scanning g = (HasBegun-grow g.0, g.1)
       phase-grow writer.Storing g =
-          (HasBegun-grow g.0, HasAnswer-grow (all_of n) s.scan g.0.gathers.end w.collector g.1)
+          (HasBegun-grow g.0, IsAnswer-grow (all_of n) s.scan g.0.gathers.end w.collector.memory.items g.1)
       phase-grow writer.Stored g =
-          (HasBegun-grow g.0, HasAnswer-grow (all_of n) s.scan g.0.gathers.end w.collector g.1)
+          (HasBegun-grow g.0, IsAnswer-grow (all_of n) s.scan g.0.gathers.end w.collector.memory.items g.1)
       phase-grow writer.Shown g = g
       phase-grow writer.Fenced g = g
 
@@ -300,7 +260,7 @@ module _ (h : List Update) (u : Update) where
       scanner_phase-grow scanner.Scanning g =
           (g.0, g.1, g.2, Gathers-grow (set_of n c.asked) g.0 c.collector g.3, g.4)
       scanner_phase-grow scanner.Ready g =
-          (g.0, g.1, later h u g.0.last g.2, HasAnswer-grow (set_of n c.asked) g.0 g.2 c.collector g.3)
+          (g.0, g.1, later h u g.0.last g.2, IsAnswer-grow (set_of n c.asked) g.0 g.2 c.collector.memory.items g.3)
 
       ScannerStands-grow : ScannerStands n h since i c s → ScannerStands n (h ++ u ∷ []) since i c s
       ScannerStands-grow g = record { size = g.size; phase = scanner_phase-grow c.phase g.phase }
@@ -396,19 +356,12 @@ module _ (w : Actors) (x : State) (stands : ActorsStand w x) (i : ℕ) (v : List
       }
 
 -- a scan whose machine has no look to make has its answer
-answered : (set : ℕ) (h : List Update) (s : ScanState) (memory : List (List ℕ)) (v : Next)
+pub answered : (set : ℕ) (h : List Update) (s : ScanState) (memory : List (List ℕ)) (v : Next)
     → ((j : ℕ) → v ≡ Look j → ⊥) → Gathered set h s memory v
     → IsAnswer set h s (IsSeen set h memory)
 answered set h s memory (Look j) done g = absurd (done j refl)
 answered set h s memory Clean done g = g
 answered set h s memory (Borrow j) done g = g
-
-pub has_answer : (n set : ℕ) (h : List Update) (s : ScanState) (c : Collector)
-    → Gathers n set h s c → IsDecided (size set) s.told → (IsUnderWay c → ⊥) → HasAnswer set h s c
-has_answer n set h s c g decided done = record {
-  decided = decided;
-  answer = answered set h s c.memory.items c.scan.next (λ j e. done (j, e)) g.gathered;
-}
 
 -- what was seen of all segments is the memory
 pub whole : (n : ℕ) (h : List Update) (memory : List (List ℕ)) (p : ℕ) → n ≤ 16
@@ -418,7 +371,7 @@ whole n h memory p most long seen =
 
 -- the moment of the answer is after the writer's update before, and the writer has had no update since
 pub own_moment : (n : ℕ) (h : List Update) (since i : ℕ) (a : Writer) (s : WriterState)
-    (begun : HasBegun n h since i a s) (p : ℕ) → s.scan.start ≤ p → p ≤ s.scan.last
+    (begun : HasBegun n h since i a.value a.collector s) (p : ℕ) → s.scan.start ≤ p → p ≤ s.scan.last
     → number_at h p i ≡ number_after from_nothing h i
 own_moment n h since i a s begun p lo hi =
     let x : number_at h s.scan.start i ≤ number_at h p i =

@@ -1,34 +1,68 @@
--- A new world represents the start.
-use Rattle.std.proofs.Common.{◌≡◌, ℕ, ◌<◌, ◌≤◌, [], length, map, replicate, ap, sym, ◌∙◌, subst}
+-- Idle actors: those of a new world, and those after a restart.
+use Rattle.std.proofs.Common.{◌≡◌, ℕ, ◌<◌, ◌≤◌, length, map, replicate, Some, None, slice_get, ap, sym, ◌∙◌, subst}
 use Rattle.std.proofs.Common.{arith}
 use Rattle.std.proofs.lemmas.List.{length-replicate}
-use Rattle.snap_world.specs.Machine.{WriterState, ScannerState, Closed, resting}
-use Rattle.snap_world.specs.inside.Stands.{ActorsStand, WriterStands, ScannerStands, IsAtPhase, IsScannerAt, is_fenced}
+use Rattle.snap_history.{specs.History.from_nothing, specs.History.number_after, proofs.Lists.get-replicate}
+use Rattle.snap_world.specs.Machine.{State, WriterState, ScannerState, Closed, resting}
+use Rattle.snap_world.specs.inside.Stands.{ActorsStand, IsAtPhase, IsScannerAt, is_fenced}
 use Rattle.snap_world.specs.inside.Fresh.{Each, IsFreshRegister, IsFreshWriter, IsFreshScanner}
-use Rattle.snap_world.specs.Start.{start_state, start_phases}
-use Rattle.snap_world.specs.inside.Steps.{phases_of_actors}
-use Rattle.snap_world.specs.declared.actors.Actors.{Actors}
-use Rattle.snap_world.specs.declared.writer.Writer.{Writer}
-use Rattle.snap_world.specs.declared.scanner.Scanner.{Scanner}
+use Rattle.snap_world.specs.inside.NodeStands.{IsSized, ActorsRest}
+use Rattle.snap_world.specs.{inside.Gathers.RegisterStands, Answers.number_at, Start.start_state, Start.start_phases}
+use Rattle.snap_world.specs.{inside.Steps.phases_of_actors, declared.register.Register.Register}
+use Rattle.snap_world.specs.declared.{actors.Actors.Actors, writer.Writer.Writer, scanner.Scanner.Scanner}
+use Rattle.snap_world.proofs.{Elements.all_same, Looks.number_now}
 use Rattle.snap_world.specs.declared.writer.WriterPhase.TheVariants as writer
 use Rattle.snap_world.specs.declared.scanner.ScannerPhase.TheVariants as scanner
-use Rattle.snap_history.proofs.Lists.{get-replicate}
-use Rattle.snap_world.proofs.Elements.{all_same}
 
-fresh_writer : (n i : ℕ) (a : Writer) (s : WriterState) → IsFreshWriter n a → resting ≡ s
-    → WriterStands n [] 0 i a s
-fresh_writer n i a s f e = record {
-  size = f.size;
-  fenced = sym (ap is_fenced f.phase ∙ ap (λ (v : WriterState). v.fenced) e);
-  phase = subst (IsAtPhase n [] 0 i a s) (sym f.phase) (ap (λ v. v.pending) (sym e));
-}
-
-fresh_scanner : (n i : ℕ) (a : Scanner) (s : ScannerState) → IsFreshScanner n a → Closed ≡ s
-    → ScannerStands n [] 0 i a s
-fresh_scanner n i a s f e = record {
-  size = f.size;
-  phase = subst (IsScannerAt n [] 0 a s) (sym f.phase) (sym e);
-}
+-- idle actors, whose registers have what the history says, represent it: nothing was shown since now
+pub idle_stand : (w : Actors) (x : State) → ActorsRest w x
+    → ((i : ℕ) (r : Register) → slice_get w.registers.items i ≡ Some r
+    → RegisterStands w.segments x.history i r)
+    → ((i : ℕ) (s : WriterState) → slice_get x.writers i ≡ Some s → resting ≡ s)
+    → ((i : ℕ) (s : ScannerState) → slice_get x.scanners i ≡ Some s → Closed ≡ s)
+    → ActorsStand w x
+idle_stand w x rest registers writers scanners =
+    let is : IsSized w x = rest.sized in
+    let h = x.history in
+    record {
+      least = is.least;
+      most = is.most;
+      since = length h;
+      within = omega arith;
+      registers = record {
+        size = is.registers_n;
+        each = registers;
+        views = record {
+          size = is.registers_n ∙ sym is.writers_n ∙ is.writers;
+          each = λ i r s er es. (
+              let none : s.view ≡ None = ap (λ (z : WriterState). z.view) (sym (writers i s es)) in
+              let number : r.number ≡ number_after from_nothing h i = (registers i r er).number in
+              let now : number_at h (length h) i ≡ number_after from_nothing h i = number_now h i in
+              record { kept = λ above. absurd (omega arith); is_view = λ p e. cc });
+        };
+      };
+      writers_n = is.writers_n;
+      writers = record {
+        size = is.writers;
+        each = λ i a s ea es. (
+            let idle : a.phase ≡ writer.Idle = rest.writers i a ea in
+            let new : resting ≡ s = writers i s es in
+            record {
+              size = is.writers_memory i a ea;
+              fenced = ap (λ (z : WriterState). z.fenced) (sym new) ∙ ap is_fenced (sym idle);
+              phase = subst (IsAtPhase w.segments h (length h) i a s) (sym idle)
+                  (ap (λ (z : WriterState). z.pending) (sym new));
+            });
+      };
+      scanners = record {
+        size = is.scanners;
+        each = λ i a s ea es. record {
+          size = is.scanners_memory i a ea;
+          phase = subst (IsScannerAt w.segments h (length h) a s) (sym (rest.scanners i a ea))
+              (sym (scanners i s es));
+        };
+      };
+    }
 
 pub starts : (w : Actors) (scanners : ℕ) → 0 < w.segments → w.segments ≤ 16
     → length w.registers.items ≡ w.segments → length w.writers.items ≡ w.segments
@@ -37,40 +71,28 @@ pub starts : (w : Actors) (scanners : ℕ) → 0 < w.segments → w.segments ≤
     → Each (IsFreshWriter w.segments) w.writers.items
     → Each (IsFreshScanner w.segments) w.scanners.items
     → ActorsStand w (start_state w.segments scanners)
-starts w count least most nr nw ns regs writers scanners = record {
-  least = least;
-  most = most;
-  since = 0;
-  within = omega arith;
-  registers = record {
-    size = nr;
-    each = λ i r e. (let f = regs i r e in record {
-      number = f.number;
-      value = f.value;
-      size = f.size;
-    });
-    views = record {
-      size = nr ∙ sym (length-replicate w.segments _);
-      each = λ i r s er es. (
-          let z : r.number ≡ 0 = (regs i r er).number in
-          let new : resting ≡ s = get-replicate w.segments i _ s es in
-          record { kept = λ above. absurd (omega arith); is_view = λ p e. cc });
-    };
-  };
-  writers_n = nw;
-  writers = record {
-    size = nw ∙ sym (length-replicate w.segments _);
-    each =
-        λ i a s ea es. fresh_writer w.segments i a s (writers i a ea)
-        (get-replicate w.segments i _ s es);
-  };
-  scanners = record {
-    size = ns ∙ sym (length-replicate count _);
-    each =
-        λ i a s ea es. fresh_scanner w.segments i a s (scanners i a ea)
-        (get-replicate count i _ s es);
-  };
-}
+starts w count least most nr nw ns regs writers scanners =
+    idle_stand w (start_state w.segments count) (record {
+      sized = record {
+        least = least;
+        most = most;
+        registers_n = nr;
+        views_n = λ i r e. (regs i r e).size;
+        writers_n = nw;
+        writers = nw ∙ sym (length-replicate w.segments _);
+        writers_memory = λ i a e. (writers i a e).size;
+        scanners = ns ∙ sym (length-replicate count _);
+        scanners_memory = λ i a e. (scanners i a e).size;
+      };
+      writers = λ i a e. (writers i a e).phase;
+      scanners = λ i a e. (scanners i a e).phase;
+    })
+    (λ i r e. record {
+      number = (regs i r e).number;
+      value = (regs i r e).value;
+      size = (regs i r e).size;
+    })
+    (λ i s e. get-replicate w.segments i _ s e) (λ i s e. get-replicate count i _ s e)
 
 -- if all actors are idle
 pub phases_idle : (w : Actors) (segments count : ℕ) → length w.writers.items ≡ segments

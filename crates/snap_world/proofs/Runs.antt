@@ -1,26 +1,20 @@
 -- One more step at the end of a run.
-use Rattle.std.proofs.Common.{◌≡◌, ℕ, ◌+◌, ◌<◌, List, [], ◌∷◌, ◌++◌, length, take, get_or, Result, Ok, Err, IfOk}
-use Rattle.std.proofs.Common.{refl, ap, sym, ◌∙◌}
-use Rattle.std.proofs.Common.{subst}
+use Rattle.std.proofs.Common.{◌≡◌, ℕ, ◌+◌, ◌<◌, List, [], ◌∷◌, ◌++◌, length, take, get_or, Result, Ok, Err, IfOk, refl}
+use Rattle.std.proofs.Common.{ap, sym, ◌∙◌, subst}
 use Rattle.std.proofs.lemmas.List.{take_more}
 use Rattle.std.specs.declared.alloc.AllocError.{AllocError}
-use Rattle.snap_history.specs.History.{IsBeginning}
-use Rattle.snap_history.proofs.Beginnings.{beginning-self, beginning-trans}
+use Rattle.snap_history.{specs.History.IsBeginning, proofs.Beginnings.beginning-self, proofs.Beginnings.beginning-trans}
 use Rattle.snap_world.specs.Machine.{State, Step, chosen}
-use Rattle.snap_world.specs.inside.NodeSteps.{IsNodeStep}
-use Rattle.snap_world.specs.Runs.{Configuration, Run}
+use Rattle.snap_world.specs.{inside.NodeSteps.IsNodeStep, Runs.Configuration, Runs.Run}
 use Rattle.snap_world.specs.Surface.{StandsFor, IsRun, segments_of, configuration}
 use Rattle.snap_world.specs.declared.event.Actor.TheVariants.{Writer, Scanner}
-use Rattle.snap_world.specs.declared.event.Event.{Event}
-use Rattle.snap_world.specs.declared.event.Event.TheVariants.{Begin, Look, Call, Fail, Show, Acknowledge, Scan}
-use Rattle.snap_world.specs.declared.event.Event.TheVariants.{Pick, Answer, Crash}
-use Rattle.snap_world.specs.declared.event.Event.TheVariants.{Restart, RestartCall, RestartFail, Serve}
+use Rattle.snap_world.specs.declared.{event.Event.Event, event.Reply.Reply, world.World.World}
+use Rattle.snap_world.specs.declared.event.Event.TheVariants.{Begin, Look, Call, Fail, Show, Acknowledge, Scan, Pick}
+use Rattle.snap_world.specs.declared.event.Event.TheVariants.{Answer, Crash, Restart, RestartCall, RestartFail, Serve}
 use Rattle.snap_world.specs.declared.event.Reply.TheVariants.{Begun as Begun_reply, Number, Called, DeviceFailed}
-use Rattle.snap_world.specs.declared.event.Reply.TheVariants.{Shown as Shown_reply}
-use Rattle.snap_world.specs.declared.event.Reply.TheVariants.{Stored, ScanBegun, Memory, Part, Crashed, Restarting}
-use Rattle.snap_world.specs.declared.event.Reply.TheVariants.{NotNow}
-use Rattle.snap_world.specs.declared.event.Reply.{Reply}
-use Rattle.snap_world.specs.declared.world.World.{World}
+use Rattle.snap_world.specs.declared.event.Reply.TheVariants.{Shown as Shown_reply, Stored, ScanBegun, Memory, Part}
+use Rattle.snap_world.specs.declared.event.Reply.TheVariants.{Crashed, Restarting, NotNow}
+use Rattle.snap_world.proofs.Fills.{no_bytes_left_out}
 
 stays : (x y : State) → y.history ≡ x.history → IsBeginning x.history y.history
 stays x y e = subst (IsBeginning x.history) (sym e) (beginning-self x.history)
@@ -125,3 +119,6 @@ pub take-event : (events : List Event) (i : ℕ) (event : Event) → i < length 
     → event ≡ get_or events i event → take i events ++ event ∷ [] ≡ take (i + 1) events
 take-event events i event l e = ap (λ v. take i events ++ v ∷ []) e
     ∙ sym (take_more events i event l)
+
+-- what `World::step` and `World::run` rest on
+pub ruleset run_facts = (no_bytes_left_out, IsRun-step, IsRun-grows)

@@ -1,45 +1,158 @@
--- The end of a restart, as a step of the node.
-use Rattle.std.proofs.Common.{◌≡◌, ℕ, ◌+◌, ◌%◌, ◌<◌, ◌≤◌, ◌⊎◌, inl, inr, Bool, List, length, map, Option, Some}
-use Rattle.std.proofs.Common.{None, slice_get}
-use Rattle.std.proofs.Common.{refl, ap, sym, ◌∙◌, subst, arith}
-use Rattle.std.specs.Prelude.{option_map, unwrap_or}
+-- The begun updates that a restart takes, and the end of a restart as a step of the node.
+use Rattle.std.proofs.Common.{◌≡◌, ◌≢◌, ℕ, zero, suc, ◌+◌, ◌<◌, ◌⊎◌, inl, inr, Bool, true, false, List, [], ◌∷◌, ◌++◌}
+use Rattle.std.proofs.Common.{Option, Some, None, slice_get, refl, ap, ◌∙◌, arith, ◌%◌, ◌≤◌, length, map, sym, subst}
+use Rattle.std.specs.Prelude.{◌==◌, if◌then◌else◌, unwrap_or, option_map}
+use Rattle.std.proofs.{lemmas.Bool.Decides.nat_tests, Props.props, lemmas.List.length-map}
+use Rattle.snap_history.specs.History.{Update, Start, updates_of, last_value, number_after, value_after, from_nothing}
+use Rattle.snap_history.specs.History.{IsMemory}
+use Rattle.snap_history.proofs.Moments.{updates-append, last-append, last_none}
+use Rattle.snap_world.specs.Machine.{WriterState, Pending, Free, Begun, Shown, begun_update, chosen, State}
+use Rattle.snap_world.specs.Machine.{ScannerState, Closed, resting, history_with, served}
+use Rattle.std.proofs.Math.Logic.{∥∥₁_elim, ∥∥₁_map}
 use Rattle.std.specs.Global.{Vec}
-use Rattle.std.proofs.lemmas.List.{length-map}
 use Rattle.std.proofs.lemmas.Option.{slice_get-map, slice_get_within, same_Some}
-use Rattle.snap_disk.specs.Device.{Device, IsSettled}
-use Rattle.snap_disk.specs.Image.{image_device}
-use Rattle.snap_slot.specs.Findings.{IsFound}
-use Rattle.snap_slot.specs.Layout.{Holds, IsSpare}
-use Rattle.snap_slot.specs.States.{IsAtRest}
-use Rattle.snap_slot.proofs.Readings.{holds_same}
-use Rattle.snap_slot.proofs.Whole.{found_is, found_holds, found_rests}
-use Rattle.snap_history.specs.History.{Update, from_nothing, number_after, value_after, IsMemory}
-use Rattle.snap_history.specs.Pairs.{Pairs}
-use Rattle.snap_history.proofs.Pairs.{element, partner}
-use Rattle.snap_world.specs.Answers.{number_at}
-use Rattle.snap_persist.specs.Stage.{store_calls}
-use Rattle.snap_world.specs.Devices.{IsServed, AreServed}
+use Rattle.snap_disk.{specs.Device.Device, specs.Device.IsSettled, specs.Image.image_device}
+use Rattle.snap_slot.{specs.Findings.IsFound, specs.States.IsAtRest, proofs.Readings.holds_same, specs.Layout.Holds}
+use Rattle.snap_slot.{specs.Layout.IsSpare, proofs.Whole.found_is, proofs.Whole.found_holds, proofs.Whole.found_rests}
+use Rattle.snap_history.{specs.Pairs.Pairs, proofs.Pairs.element}
+use Rattle.snap_world.specs.{Devices.IsServed, Devices.AreServed, inside.Gathers.RegisterStands, NodePhases.all_idle}
+use Rattle.snap_world.specs.{inside.NodeSteps.store_left, inside.Steps.phases_of_actors, inside.Stands.ActorsStand}
+use Rattle.snap_world.specs.declared.{node.NodePhase.TheVariants.Ready, drive.Drive.Drive, node.Node.Node}
+use Rattle.snap_world.specs.declared.{actors.Actors.Actors, register.Register.Register, writer.Writer.Writer}
+use Rattle.snap_persist.{specs.Stage.store_calls, specs.declared.persist.NextCall.NextCall}
 use Rattle.snap_world.specs.inside.Drives.{IsReady, DriveStands, DrivesStand, HoldsEither, device_of}
-use Rattle.snap_world.specs.inside.Gathers.{RegisterStands, ViewStands}
-use Rattle.snap_world.specs.Machine.{State, WriterState, ScannerState, Begun, Closed, resting, history_with, served}
-use Rattle.snap_world.specs.NodePhases.{all_idle}
-use Rattle.snap_world.specs.inside.NodeStands.{NodeStands, WriterRests, ScannerRests, IsRecovering, IsNodeAt}
-use Rattle.snap_world.specs.inside.NodeSteps.{store_left}
-use Rattle.snap_world.specs.inside.Recovery.{found_value, IsReadable, IsResumed, IsRecovered, AreRecovered}
-use Rattle.snap_world.specs.inside.Stands.{ActorsStand, WriterStands, ScannerStands, IsAtPhase, IsScannerAt, is_fenced}
-use Rattle.snap_world.specs.inside.Steps.{phases_of_actors}
-use Rattle.snap_world.specs.declared.drive.Drive.{Drive}
-use Rattle.snap_persist.specs.declared.persist.NextCall.{NextCall}
-use Rattle.snap_world.specs.declared.node.Node.{Node}
-use Rattle.snap_world.specs.declared.node.NodePhase.TheVariants.{Ready}
-use Rattle.snap_world.specs.declared.actors.Actors.{Actors}
-use Rattle.snap_world.specs.declared.register.Register.{Register}
-use Rattle.snap_world.specs.declared.writer.Writer.{Writer}
-use Rattle.snap_world.specs.declared.scanner.Scanner.{Scanner}
-use Rattle.snap_world.proofs.Looks.{number_now}
-use Rattle.snap_world.proofs.Served.{Given, marks-exist, served-is, times, taken}
+use Rattle.snap_world.specs.inside.NodeStands.{NodeStands, NodeStand, IsSized, ActorsRest, IsRecovering, IsNodeAt}
+use Rattle.snap_world.specs.inside.Recovery.{found_value, IsReadable, AllReadable, IsResumed, IsRecovered, AreRecovered}
+use Rattle.snap_world.proofs.Restarts.{sized, few_drives, opening_within, opening_fits, some_file}
+use Rattle.snap_world.proofs.NewWorld.{phases_idle, idle_stand}
 use Rattle.snap_world.proofs.Elements.{map_element, map_same, origin}
-use Rattle.snap_world.proofs.NewWorld.{phases_idle}
+
+abbrev begun_value : Pending → Option (List ℕ)
+begun_value Free = None
+begun_value (Begun v) = Some v
+begun_value (Shown v) = None
+
+-- the value that segment i gets by the marked updates
+abbrev pub taken : List WriterState → List Bool → ℕ → Option (List ℕ)
+taken [] marks i = None
+taken (s ∷ ss) [] i = None
+taken (s ∷ ss) (false ∷ marks) zero = None
+taken (s ∷ ss) (true ∷ marks) zero = begun_value s.pending
+taken (s ∷ ss) (mark ∷ marks) (suc i) = taken ss marks i
+
+-- how many updates it gets by them, and its value if d is the one before
+abbrev pub times : Option (List ℕ) → ℕ
+times None = 0
+times (Some v) = 1
+
+-- the begun update is of its segment alone
+begun-other : (i j : ℕ) (p : Pending) → i ≢ j → updates_of j (begun_update i p) ≡ 0
+begun-other i j Free ne = refl
+begun-other i j (Begun v) ne = grind (arith, nat_tests)
+begun-other i j (Shown v) ne = refl
+
+begun-same : (i j : ℕ) (p : Pending) (d : List ℕ) → i ≡ j
+    → (updates_of j (begun_update i p) ≡ times (begun_value p))
+    × (last_value d j (begun_update i p) ≡ unwrap_or (begun_value p) d)
+begun-same i j Free d e = (refl, refl)
+begun-same i j (Begun v) d e =
+    let test : (i == j) ≡ true = grind (arith, nat_tests) in
+    (grind (arith, nat_tests), ap (λ t. if t then v else d) test)
+begun-same i j (Shown v) d e = (refl, refl)
+
+chosen-below : (ss : List WriterState) (marks : List Bool) (k j : ℕ) → j < k
+    → updates_of j (chosen k ss marks) ≡ 0
+chosen-below [] marks k j l = refl
+chosen-below (s ∷ ss) [] k j l = refl
+chosen-below (s ∷ ss) (false ∷ marks) k j l = chosen-below ss marks (suc k) j (omega arith)
+chosen-below (s ∷ ss) (true ∷ marks) k j l =
+    let a : updates_of j (begun_update k s.pending ++ chosen (suc k) ss marks)
+    ≡ updates_of j (begun_update k s.pending) + updates_of j (chosen (suc k) ss marks) =
+    updates-append j (begun_update k s.pending) (chosen (suc k) ss marks) in
+    let ne : k ≢ j = omega arith in
+    let b : updates_of j (begun_update k s.pending) ≡ 0 = begun-other k j s.pending ne in
+    let c : updates_of j (chosen (suc k) ss marks) ≡ 0 =
+    chosen-below ss marks (suc k) j (omega arith) in
+    omega arith
+
+-- a segment has the update that it takes, once and last
+chosen-is : (ss : List WriterState) (marks : List Bool) (k i j : ℕ) (d : List ℕ) → j ≡ k + i
+    → (updates_of j (chosen k ss marks) ≡ times (taken ss marks i))
+    × (last_value d j (chosen k ss marks) ≡ unwrap_or (taken ss marks i) d)
+chosen-is [] marks k i j d e = (refl, refl)
+chosen-is (s ∷ ss) [] k i j d e = (refl, refl)
+chosen-is (s ∷ ss) (false ∷ marks) k zero j d e =
+    let none = chosen-below ss marks (suc k) j (omega arith) in
+    (none, last_none d j (chosen (suc k) ss marks) none)
+chosen-is (s ∷ ss) (false ∷ marks) k (suc i) j d e =
+    chosen-is ss marks (suc k) i j d (omega arith)
+chosen-is (s ∷ ss) (true ∷ marks) k zero j d e =
+    let rest = chosen (suc k) ss marks in
+    let here = begun-same k j s.pending d (omega arith) in
+    let count : updates_of j (begun_update k s.pending) ≡ times (begun_value s.pending) = here.0 in
+    let none : updates_of j rest ≡ 0 = chosen-below ss marks (suc k) j (omega arith) in
+    let sum = updates-append j (begun_update k s.pending) rest in (
+      omega arith,
+      last-append d j (begun_update k s.pending) rest
+          ∙ last_none (last_value d j (begun_update k s.pending)) j rest none ∙ here.1,
+    )
+chosen-is (s ∷ ss) (true ∷ marks) k (suc i) j d e =
+    let rest = chosen (suc k) ss marks in
+    let ne : k ≢ j = omega arith in
+    let none : updates_of j (begun_update k s.pending) ≡ 0 = begun-other k j s.pending ne in
+    let more = chosen-is ss marks (suc k) i j d (omega arith) in
+    let count : updates_of j rest ≡ times (taken ss marks i) = more.0 in
+    let sum = updates-append j (begun_update k s.pending) rest in (
+      omega arith,
+      last-append d j (begun_update k s.pending) rest
+          ∙ ap (λ w. last_value w j rest) (last_none d j (begun_update k s.pending) none) ∙ more.1,
+    )
+
+-- the number and value of segment i after a restart
+pub served-is : (start : Start) (h : List Update) (ss : List WriterState) (marks : List Bool) (i : ℕ)
+    → (number_after start (h ++ chosen 0 ss marks) i
+    ≡ number_after start h i + times (taken ss marks i))
+    × (value_after start (h ++ chosen 0 ss marks) i
+    ≡ unwrap_or (taken ss marks i) (value_after start h i))
+served-is start h ss marks i =
+    let all = chosen 0 ss marks in
+    let is = chosen-is ss marks 0 i i (last_value (start i).1 i h) (omega arith) in
+    let count : updates_of i all ≡ times (taken ss marks i) = is.0 in
+    let sum = updates-append i h all in
+    (omega arith, last-append (start i).1 i h all ∙ is.1)
+
+-- If each segment's device gives either the history's part or the begun one, some marks give exactly these.
+
+abbrev pub Given : (A : ℕ → Type 0) → (B : ℕ → List ℕ → Type 0) → List WriterState → List Bool → ℕ
+    → Type 0
+Given A B ss marks i = ((taken ss marks i ≡ None) × A i)
+    ⊎ ((v : List ℕ) × (taken ss marks i ≡ Some v) × B i v)
+
+given_cons : (A : ℕ → Type 0) (B : ℕ → List ℕ → Type 0) (s : WriterState) (ss : List WriterState)
+    (mark : Bool) (marks : List Bool) → Given A B (s ∷ ss) (mark ∷ marks) 0
+    → ((i : ℕ) (t : WriterState) → slice_get ss i ≡ Some t
+    → Given (λ k. A (suc k)) (λ k. B (suc k)) ss marks i)
+    → (i : ℕ) (t : WriterState) → slice_get (s ∷ ss) i ≡ Some t
+    → Given A B (s ∷ ss) (mark ∷ marks) i
+given_cons A B s ss mark marks here rest zero t e = here
+given_cons A B s ss false marks here rest (suc i) t e = rest i t e
+given_cons A B s ss true marks here rest (suc i) t e = rest i t e
+
+pub marks-exist : (A : ℕ → Type 0) (B : ℕ → List ℕ → Type 0) (ss : List WriterState)
+    → ((i : ℕ) (s : WriterState) → slice_get ss i ≡ Some s → A i
+    ⊎ ((v : List ℕ) × (s.pending ≡ Begun v) × B i v))
+    → (marks : List Bool) × ((i : ℕ) (s : WriterState) → slice_get ss i ≡ Some s
+    → Given A B ss marks i)
+marks-exist A B [] given = ([], λ i s e. cc)
+marks-exist A B (s ∷ ss) given =
+    let rest = marks-exist (λ k. A (suc k)) (λ k. B (suc k)) ss (λ i t e. given (suc i) t e) in
+    elim (given 0 s refl) [
+      | inl a ↦ (false ∷ rest.0, given_cons A B s ss false rest.0 (inl (refl, a)) rest.1)
+      | inr b ↦ (
+        true ∷ rest.0,
+        given_cons A B s ss true rest.0 (inr (b.0, ap begun_value b.1, b.2)) rest.1,
+      )
+    ]
 
 module _ (w : Node) (x : State) (stands : NodeStands w x) (is_ready : w.phase ≡ Ready) where
   abbrev pub n : ℕ
@@ -53,6 +166,12 @@ module _ (w : Node) (x : State) (stands : NodeStands w x) (is_ready : w.phase �
 
   size : length ds ≡ n
   size = stands.drives_n
+
+  rest : ActorsRest w.actors x
+  rest = at.down.actors_rest
+
+  sizes : IsSized w.actors x
+  sizes = rest.sized
 
   module _ (i : ℕ) (d : Drive) (there : slice_get ds i ≡ Some d) where
     low : i < n
@@ -70,9 +189,8 @@ module _ (w : Node) (x : State) (stands : NodeStands w x) (is_ready : w.phase �
     pub state : (s : WriterState) × (slice_get x.writers i ≡ Some s)
     state =
         let l : i < n = low in
-        let a : length w.actors.writers.items ≡ length x.writers =
-        at.down.actors_rest.writers.size in
-        let b : length w.actors.writers.items ≡ n = at.down.actors_rest.writers_n in
+        let a : length w.actors.writers.items ≡ length x.writers = sizes.writers in
+        let b : length w.actors.writers.items ≡ n = sizes.writers_n in
         element x.writers i (omega arith)
 
     pub either : (s : WriterState) → slice_get x.writers i ≡ Some s
@@ -119,8 +237,8 @@ module _ (w : Node) (x : State) (stands : NodeStands w x) (is_ready : w.phase �
       ⊎ ((v : List ℕ) × (s.pending ≡ Begun v) × Taken i v)
   given i s es =
       let l : i < length x.writers = slice_get_within x.writers i s es in
-      let a : length w.actors.writers.items ≡ length x.writers = at.down.actors_rest.writers.size in
-      let b : length w.actors.writers.items ≡ n = at.down.actors_rest.writers_n in
+      let a : length w.actors.writers.items ≡ length x.writers = sizes.writers in
+      let b : length w.actors.writers.items ≡ n = sizes.writers_n in
       let c : length ds ≡ n = size in
       let d = element ds i (omega arith) in
       let k = number_after from_nothing x.history i in
@@ -191,7 +309,7 @@ module _ (w : Node) (x : State) (stands : NodeStands w x) (is_ready : w.phase �
         let o = origin i r recovered er in
         let l : i < length w.actors.registers.items =
         slice_get_within w.actors.registers.items i o.0 o.1 in
-        let t : length w.actors.registers.items ≡ n = at.down.actors_rest.registers_n in
+        let t : length w.actors.registers.items ≡ n = sizes.registers_n in
         let c : length ds ≡ n = size in
         let d = element ds i (omega arith) in
         let is : IsRecovered d.0 o.0 r = o.2 d.0 d.1 in
@@ -199,78 +317,28 @@ module _ (w : Node) (x : State) (stands : NodeStands w x) (is_ready : w.phase �
         record {
           number = is.number ∙ after.0;
           value = is.value ∙ after.1;
-          size = ap (λ v. length v.items) is.view ∙ at.down.actors_rest.views_n i o.0 o.1;
+          size = ap (λ v. length v.items) is.view ∙ sizes.views_n i o.0 o.1;
         }
-
-    abbrev free : WriterState
-    free = resting
 
     -- nothing was shown since the restart
-    view_stands : (i : ℕ) (r : Register) (s : WriterState)
-        → slice_get registers.items i ≡ Some r
-        → slice_get (map (λ (z : WriterState). free) x.writers) i ≡ Some s
-        → ViewStands n h (length h) i r s.view
-    view_stands i r s er es =
-        let old = map_element (λ (z : WriterState). free) x.writers i s es in
-        let none : s.view ≡ None = ap (λ (z : WriterState). z.view) (sym old.2) in
-        let number : r.number ≡ number_after from_nothing h i = (register_stands i r er).number in
-        let now : number_at h (length h) i ≡ number_after from_nothing h i = number_now h i in
-        record { kept = λ above. absurd (omega arith); is_view = λ p e. cc }
-
-    writer_stands : (i : ℕ) (a : Writer) (s : WriterState)
-        → slice_get w.actors.writers.items i ≡ Some a
-        → slice_get (map (λ (z : WriterState). free) x.writers) i ≡ Some s
-        → WriterStands n h (length h) i a s
-    writer_stands i a s ea es =
-        let old = map_element (λ (z : WriterState). free) x.writers i s es in
-        let rest : WriterRests n a old.0 = at.down.actors_rest.writers.each i a old.0 ea old.1 in
-        record {
-          size = rest.size;
-          fenced = ap (λ (z : WriterState). z.fenced) (sym old.2) ∙ ap is_fenced (sym rest.idle);
-          phase = subst (IsAtPhase n h (length h) i a s) (sym rest.idle)
-              (ap (λ (z : WriterState). z.pending) (sym old.2));
-        }
-
-    scanner_stands : (i : ℕ) (a : Scanner) (s : ScannerState)
-        → slice_get w.actors.scanners.items i ≡ Some a
-        → slice_get (map (λ (z : ScannerState). Closed) x.scanners) i ≡ Some s
-        → ScannerStands n h (length h) i a s
-    scanner_stands i a s ea es =
-        let old = map_element (λ (z : ScannerState). Closed) x.scanners i s es in
-        let rest : ScannerRests n a old.0 = at.down.actors_rest.scanners.each i a old.0 ea old.1 in
-        record {
-          size = rest.size;
-          phase = subst (IsScannerAt n h (length h) a s) (sym rest.idle) (sym old.2);
-        }
-
     pub actors_stand : ActorsStand actors y
-    actors_stand = record {
-      least = at.down.actors_rest.least;
-      most = at.down.actors_rest.most;
-      since = length h;
-      within = omega arith;
-      registers = record {
-        size = sym recovered.size ∙ at.down.actors_rest.registers_n;
-        each = register_stands;
-        views = record {
-          size = sym recovered.size ∙ at.down.actors_rest.registers_n
-              ∙ sym at.down.actors_rest.writers_n ∙ at.down.actors_rest.writers.size
-              ∙ sym (length-map x.writers (λ (z : WriterState). free));
-          each = view_stands;
-        };
+    actors_stand = idle_stand actors y (record {
+      sized = record {
+        least = sizes.least;
+        most = sizes.most;
+        registers_n = sym recovered.size ∙ sizes.registers_n;
+        views_n = λ i r e. (register_stands i r e).size;
+        writers_n = sizes.writers_n;
+        writers = sizes.writers ∙ sym (length-map x.writers (λ (z : WriterState). resting));
+        writers_memory = sizes.writers_memory;
+        scanners = sizes.scanners ∙ sym (length-map x.scanners (λ (z : ScannerState). Closed));
+        scanners_memory = sizes.scanners_memory;
       };
-      writers_n = at.down.actors_rest.writers_n;
-      writers = record {
-        size = at.down.actors_rest.writers.size
-            ∙ sym (length-map x.writers (λ (z : WriterState). free));
-        each = writer_stands;
-      };
-      scanners = record {
-        size = at.down.actors_rest.scanners.size
-            ∙ sym (length-map x.scanners (λ (z : ScannerState). Closed));
-        each = scanner_stands;
-      };
-    }
+      writers = rest.writers;
+      scanners = rest.scanners;
+    }) register_stands
+        (λ i s e. (map_element (λ (z : WriterState). resting) x.writers i s e).2)
+        (λ i s e. (map_element (λ (z : ScannerState). Closed) x.scanners i s e).2)
 
     ready : (i : ℕ) (e : Drive) → slice_get es i ≡ Some e
         → IsReady i n (number_after from_nothing h i) (value_after from_nothing h i)
@@ -297,10 +365,7 @@ module _ (w : Node) (x : State) (stands : NodeStands w x) (is_ready : w.phase �
         (phases_of_actors actors).writers es
     drives_stand i e s phase ee es_ ep =
         let a = map_element (λ (z : Writer). z.phase) w.actors.writers.items i phase ep in
-        let old = map_element (λ (z : WriterState). free) x.writers i s es_ in
-        let rest : WriterRests n a.0 old.0 =
-        at.down.actors_rest.writers.each i a.0 old.0 a.1 old.1 in
-        subst (λ z. DriveStands n h i z s.pending e) (sym rest.idle ∙ a.2) (ready i e ee)
+        subst (λ z. DriveStands n h i z s.pending e) (sym (rest.writers i a.0 a.1) ∙ a.2) (ready i e ee)
 
     pub same_devices : map device_of es ≡ map device_of ds
     same_devices = map_same device_of es ds (sym resumed.size) (λ i e d ee ed.
@@ -346,7 +411,22 @@ module _ (w : Node) (x : State) (stands : NodeStands w x) (is_ready : w.phase �
         (length (phases_of_actors w.actors).scanners)
         (sym (length-map w.actors.writers.items (λ v. v.phase)))
         (sym (length-map w.actors.scanners.items (λ v. v.phase)))
-        (λ i z e. (partner (λ j. WriterRests n) w.actors.writers.items x.writers i z
-        at.down.actors_rest.writers e).2.idle)
-        (λ i z e. (partner (λ j. ScannerRests n) w.actors.scanners.items x.scanners i z
-        at.down.actors_rest.scanners e).2.idle)
+        rest.writers rest.scanners
+
+-- the facts for the code
+module _ (w : Node) (t : NodeStand w) where
+  pub all_readable : w.phase ≡ Ready → ∥ AllReadable w.drives.items ∥₁
+  all_readable is = ∥∥₁_map t (λ q. readable w q.0 q.1 is)
+
+  pub registers_there : length w.actors.registers.items ≡ length w.drives.items
+  registers_there = ∥∥₁_elim t (hlevel props) (λ q.
+      (sized w.actors w.drives.items q.0 w.phase q.1.at).registers_n ∙ sym q.1.drives_n)
+
+pub ruleset restart_facts = (
+  few_drives,
+  opening_within,
+  opening_fits,
+  some_file,
+  all_readable,
+  registers_there,
+)

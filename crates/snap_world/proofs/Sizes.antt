@@ -1,13 +1,9 @@
 -- The sizes of actors that represent some state.
 use Rattle.std.proofs.Common.{◌≡◌, ℕ, ◌<◌, ◌≤◌, length, arith}
 use Rattle.std.specs.Vec.{vec_len}
-use Rattle.std.proofs.Math.Logic.{∥∥₁_elim}
-use Rattle.std.proofs.Props.{props}
-use Rattle.snap_world.specs.Phases.{WriterIs}
-use Rattle.snap_world.specs.inside.Stands.{Stand}
-use Rattle.snap_world.specs.inside.Steps.{phases_of_actors}
-use Rattle.snap_world.specs.declared.actors.Actors.{Actors}
-use Rattle.snap_world.specs.declared.writer.WriterPhase.{WriterPhase}
+use Rattle.std.proofs.{Math.Logic.∥∥₁_elim, Props.props, lemmas.Nat.pow_below}
+use Rattle.snap_world.specs.{Answers.all_of, Phases.WriterIs, inside.Stands.Stand, inside.Steps.phases_of_actors}
+use Rattle.snap_world.specs.declared.{actors.Actors.Actors, writer.WriterPhase.WriterPhase}
 use Rattle.snap_world.proofs.PhaseMoves.{writer_fits}
 
 module _ (w : Actors) (t : Stand w) where
@@ -36,3 +32,10 @@ module _ (w : Actors) (t : Stand w) where
       let registers : length w.registers.items ≡ w.segments = registers_size in
       let fits = writer_fits w i is in
       omega (arith, w.writers.ok.0, w.registers.ok.0)
+
+-- a scan of all segments names at least one
+pub all_some : (n : ℕ) → 0 < n → 0 < all_of n
+all_some n pos = let more = pow_below 0 n pos in omega arith
+
+-- the sizes that the code relies on
+pub ruleset sizes = (segments_least, segments_most, register_fits, all_some)

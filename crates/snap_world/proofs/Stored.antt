@@ -1,48 +1,129 @@
--- A device call of a store, as a step of the node.
-use Rattle.std.proofs.Common.{◌≡◌, ◌≢◌, ℕ, ◌+◌, ◌%◌, ◌^◌, ◌<◌, ◌≤◌, true, List, [], ◌∷◌, length, map, get_or, Some}
-use Rattle.std.proofs.Common.{slice_get}
-use Rattle.std.proofs.Common.{slice_set, refl, ap, sym, ◌∙◌, subst, arith}
-use Rattle.std.proofs.Math.Logic.{∥∥₁_elim}
-use Rattle.std.proofs.Props.{props}
-use Rattle.std.specs.Vec.{with_item, vec_len}
-use Rattle.std.proofs.lemmas.List.{length-set, map-set}
-use Rattle.std.proofs.lemmas.Option.{slice_get_read, get_or_from_slice_get, same_Some}
-use Rattle.snap_disk.specs.Device.{MayLeave}
-use Rattle.snap_disk.specs.declared.fill.Fill.{Fill}
-use Rattle.snap_slot.specs.Layout.{body_block}
-use Rattle.snap_slot.specs.States.{IsEither}
-use Rattle.snap_persist.specs.Stage.{PersistState, calls_left, first_stage, after_call}
-use Rattle.snap_persist.specs.declared.persist.Stage.TheVariants as stage
-use Rattle.snap_history.specs.History.{from_nothing, number_after, value_after}
-use Rattle.snap_history.proofs.Lists.{get-set_other}
+-- One device call of a store, also as a step of the node.
+use Rattle.std.proofs.Common.{◌≡◌, ◌≢◌, ℕ, ◌+◌, ◌%◌, ◌^◌, ◌<◌, ◌≤◌, inl, inr, true, List, [], ◌∷◌, length, refl, ap}
+use Rattle.std.proofs.Common.{sym, ◌∙◌, subst, map, get_or, Some, slice_get, slice_set, arith}
+use Rattle.snap_disk.{specs.Device.Device, specs.Device.MayLeave, specs.Device.IsTouched, specs.declared.fill.Fill.Fill}
+use Rattle.snap_slot.{specs.Layout.body_block, specs.States.IsEither, proofs.Blocks.length-body_block}
+use Rattle.snap_persist.specs.Device.{IsAtStage, write_at, write_bytes, write_len}
+use Rattle.snap_persist.specs.Stage.{PersistState, calls_left, first_call, first_stage, after_call, store_calls}
+use Rattle.snap_persist.{specs.declared.persist.Write.Write, specs.declared.persist.Stage.Stage}
 use Rattle.snap_persist.specs.declared.persist.NextCall.{NextCall}
-use Rattle.snap_persist.specs.Stage.{store_calls}
-use Rattle.snap_world.specs.Calls.{store_call}
+use Rattle.snap_persist.proofs.Stages.{stage_leaves, write_leaves, write_goes, sync_goes, sync_leaves}
 use Rattle.snap_world.specs.Devices.{IsMade, IsMissed, Changes, DevicesMove}
 use Rattle.snap_world.specs.inside.Drives.{IsReady, IsStoreUnderWay, DriveStands, DrivesStand, device_of}
+use Rattle.std.proofs.{Math.Logic.∥∥₁_elim, Props.props, lemmas.List.length-set, lemmas.List.map-set}
+use Rattle.std.specs.Vec.{with_item, vec_len}
+use Rattle.std.proofs.lemmas.Option.{slice_get_read, get_or_from_slice_get, same_Some}
+use Rattle.snap_history.specs.History.{from_nothing, number_after, value_after}
+use Rattle.snap_history.proofs.Lists.{get-set_other}
+use Rattle.snap_world.specs.{Calls.store_call, Phases.Phases, Phases.writer_to, inside.Steps.phases_of_actors}
 use Rattle.snap_world.specs.Machine.{State, WriterState, Begun, Step, with_writer}
 use Rattle.snap_world.specs.NodePhases.{WorldPhases, AfterCall, PhasesMove}
 use Rattle.snap_world.specs.inside.NodeStands.{NodeStands, NodeStand, IsUp, IsNodeAt}
 use Rattle.snap_world.specs.inside.NodeSteps.{MayStore, phases_of_node, devices_of_node, store_left}
-use Rattle.snap_world.specs.Phases.{Phases, writer_to}
 use Rattle.snap_world.specs.inside.Stands.{ActorsStand, HasBegun}
-use Rattle.snap_world.specs.inside.Steps.{phases_of_actors}
-use Rattle.snap_world.specs.declared.drive.Drive.{Drive}
+use Rattle.snap_world.specs.declared.{drive.Drive.Drive, event.Kind.Kind, node.Node.Node, actors.Actors.Actors}
+use Rattle.snap_world.specs.declared.{register.Register.Register, writer.Writer.Writer, writer.WriterPhase.WriterPhase}
 use Rattle.snap_world.specs.declared.event.Event.TheVariants.{Call, Fail}
-use Rattle.snap_world.specs.declared.event.Kind.{Kind}
 use Rattle.snap_world.specs.declared.event.Reply.TheVariants.{Called, DeviceFailed}
-use Rattle.snap_world.specs.declared.node.Node.{Node}
-use Rattle.snap_world.specs.declared.actors.Actors.{Actors}
-use Rattle.snap_world.specs.declared.register.Register.{Register}
-use Rattle.snap_world.specs.declared.writer.Writer.{Writer}
-use Rattle.snap_world.specs.declared.writer.WriterPhase.{WriterPhase}
-use Rattle.snap_world.specs.declared.writer.WriterPhase.TheVariants as writer
-use Rattle.snap_world.proofs.Events.{is_up, same_phases}
-use Rattle.snap_world.proofs.Calls.{stage_size, store_goes, store_ends, store_missed}
-use Rattle.snap_world.proofs.Devices.{SameBut, drives_change, nothing_grows, device_changes}
+use Rattle.snap_world.proofs.Events.{is_up, actors_of, same_phases, SameBut, drives_change, device_changes}
 use Rattle.snap_world.proofs.Elements.{set_is, same_read, map_element, map_at}
 use Rattle.snap_world.proofs.Moves.{WriterFound, within, the_writer, the_register}
-use Rattle.snap_world.proofs.PhaseMoves.{writer_there}
+use Rattle.snap_world.proofs.{PhaseMoves.writer_there, PhaseMoves.writer_fits, Sizes.register_fits}
+use Rattle.snap_persist.specs.declared.persist.Write.TheVariants as write
+use Rattle.snap_persist.specs.declared.persist.NextCall.TheVariants as next
+use Rattle.snap_persist.specs.declared.persist.Stage.TheVariants as stage
+use Rattle.snap_world.specs.declared.writer.WriterPhase.TheVariants as writer
+
+-- the device of a store has the length of a file
+pub stage_size : (i n k : ℕ) (u v : List ℕ) (at : Stage) (d : Device) → k + 1 < 2 ^ 63
+    → length v ≤ 4080 → IsAtStage i n k u v at d → length d.bytes ≡ 28672
+stage_size i n k u v at d small fits is =
+    either_size (stage_leaves i n k u v small fits at d is d.bytes (record {
+      size = refl;
+      elsewhere = λ p closed. refl;
+    }))
+  where
+    either_size : IsEither i n k u v d.bytes → length d.bytes ≡ 28672
+    either_size (inl file) = file.size
+    either_size (inr file) = file.size
+
+module _ (i n k : ℕ) (u v : List ℕ) (small : k + 1 < 2 ^ 63) (fits : length v ≤ 4080)
+    (d e : Device) where
+  -- the stage after a call that succeeded
+  made_goes : (at : Stage) (call : NextCall) (rest : List NextCall) → calls_left at ≡ call ∷ rest
+      → IsAtStage i n k u v at d → IsMade ((k + 1) % 3) (body_block (k + 1) v) call d e
+      → IsAtStage i n k u v (after_call at) e
+  made_goes at (next.Write w) rest asked is made =
+      write_goes i n k u v small fits d e at w (ap first_call asked) is made.touched made.stands
+  made_goes at next.Sync rest asked is made =
+      sync_goes i n k u v small fits d e at (ap first_call asked) is made
+  made_goes at next.Done rest asked is made = absurd made
+
+  written : (w : Write) → length (write_bytes (body_block (k + 1) v) w) ≡ write_len w
+  written write.Close = refl
+  written write.Body = length-body_block (k + 1) v fits
+  written write.Open = refl
+
+  -- after a call that failed a crash leaves either value
+  missed_leaves : (at : Stage) (fill : Fill) (call : NextCall) (rest : List NextCall)
+      → calls_left at ≡ call ∷ rest → IsAtStage i n k u v at d
+      → IsMissed ((k + 1) % 3) fill call d e
+      → (b : List ℕ) → MayLeave e b → IsEither i n k u v b
+  missed_leaves at fill (next.Write w) rest asked is missed =
+      write_leaves i n k u v small fits d e at w (ap first_call asked) is
+      (subst (λ m. IsTouched (write_at ((k + 1) % 3) w) m d e) (sym (written w)) missed.touched)
+  missed_leaves at fill next.Sync rest asked is missed =
+      sync_leaves i n k u v small fits d e at is missed.left
+  missed_leaves at fill next.Done rest asked is missed = absurd missed
+
+  pub store_missed : (persist : PersistState) (fill : Fill) (call : NextCall) (rest : List NextCall)
+      → calls_left persist.stage ≡ call ∷ rest → IsStoreUnderWay i n k u v d persist
+      → IsMissed persist.slot fill call d e
+      → (b : List ℕ) → MayLeave e b → IsEither i n k u v b
+  store_missed persist fill call rest asked is missed =
+      missed_leaves persist.stage fill call rest asked is.at_stage
+      (subst (λ s. IsMissed s fill call d e) is.slot missed)
+
+  pub store_goes : (persist next : PersistState) (call : NextCall)
+      → calls_left persist.stage ≡ call ∷ calls_left next.stage → next.slot ≡ persist.slot
+      → next.stage ≡ after_call persist.stage → calls_left next.stage ≢ []
+      → IsStoreUnderWay i n k u v d persist → IsMade persist.slot (body_block (k + 1) v) call d e
+      → IsStoreUnderWay i n k u v e next
+  store_goes persist next call asked slot stage going is made = record {
+    slot = slot ∙ is.slot;
+    going = going;
+    at_stage = let At : Stage → Type 0 = λ at. IsAtStage i n k u v at e in
+        subst At (sym stage) (made_goes persist.stage call (calls_left next.stage) asked is.at_stage
+        (subst (λ s. IsMade s (body_block (k + 1) v) call d e) is.slot made));
+  }
+
+  -- after the last call the device is ready for the next store
+  pub store_ends : (persist next after : PersistState) (call : NextCall)
+      → calls_left persist.stage ≡ call ∷ calls_left next.stage
+      → next.stage ≡ after_call persist.stage → next.stage ≡ stage.Stored
+      → after.stage ≡ first_stage true → after.slot ≡ (k + 1 + 1) % 3
+      → IsStoreUnderWay i n k u v d persist → IsMade persist.slot (body_block (k + 1) v) call d e
+      → IsReady i n (k + 1) v e after
+  store_ends persist next after call asked stage done first slot is made = record {
+    spare_open = true;
+    rest = let At : Stage → Type 0 = λ at. IsAtStage i n k u v at e in
+        subst At (sym stage ∙ done)
+        (made_goes persist.stage call (calls_left next.stage) asked is.at_stage
+        (subst (λ s. IsMade s (body_block (k + 1) v) call d e) is.slot made));
+    slot = slot;
+    stage = first;
+  }
+
+-- a current store without a call left is stored
+pub going_done : (at : Stage) → calls_left at ≢ []
+    → first_call (calls_left (after_call at)) ≡ next.Done → after_call at ≡ stage.Stored
+going_done stage.Opening going done = refl
+going_done stage.Stored going done = absurd (going refl)
+going_done stage.Fenced going done = absurd (going refl)
+going_done at going done = cc
+
+pub not_done : (at : Stage) → (first_call (calls_left at) ≡ next.Done → ⊥) → calls_left at ≢ []
+not_done at not none = not (ap first_call none)
 
 -- the node with one device and its actors changed
 abbrev pub with_drive : Node → ℕ → Drive → Actors → Node
@@ -72,7 +153,7 @@ module _ (w : Node) (x : State) (stands : NodeStands w x) (i : ℕ) (may : MaySt
   at : WriterFound n x.history up.actors_stand.since i x.writers found.0 writer.Storing
   at = the_writer w.actors x up.actors_stand i may.1 found.0 found.1
 
-  begun : HasBegun n x.history up.actors_stand.since i found.0 at.state
+  begun : HasBegun n x.history up.actors_stand.since i found.0.value found.0.collector at.state
   begun = at.phase.0
 
   abbrev v : List ℕ
@@ -115,7 +196,7 @@ module _ (w : Node) (x : State) (stands : NodeStands w x) (i : ℕ) (may : MaySt
         let drives : DrivesStand n x.history parts p.writers es =
         drives_change n x.history x.history x.writers parts (phases_of_actors w.actors).writers
         p.writers w.drives.items es i same_parts same_phases
-        (λ j ne. get-set_other w.drives.items i j e ne) (nothing_grows x.history i)
+        (λ j ne. get-set_other w.drives.items i j e ne) (λ j ne. (refl, refl))
         (λ f t phase ef et ep. subst (λ z. DriveStands n x.history i phase t.pending z)
         (set_is w.drives.items i e f ef) (here t phase et ep)) up.drives_stand in
         let now : IsUp actors es (record x { writers = parts }) = record {
@@ -296,6 +377,10 @@ module _ (w : Node) (i : ℕ) (may : MayStore w i) (t : NodeStand w) where
   pub segment_there : i < w.actors.segments
   segment_there = ∥∥₁_elim t (hlevel props) (λ q. store_within w q.0 q.1 i may)
 
+  pub indices_fit : (i < vec_len w.actors.registers) × (i < vec_len w.actors.writers)
+  indices_fit =
+      (register_fits w.actors (actors_of w may.0 t) i may.1, writer_fits w.actors i may.1)
+
   pub drive_fits : i < vec_len w.drives
   drive_fits = ∥∥₁_elim t (hlevel props) (λ q. (
       let low : i < w.actors.segments = store_within w q.0 q.1 i may in
@@ -333,3 +418,15 @@ module _ (w : Node) (i : ℕ) (may : MayStore w i) (t : NodeStand w) where
     pub call_left : calls_left d.persist.stage ≢ []
     call_left none =
         ∥∥₁_elim t (hlevel props) (λ q. (storing w q.0 q.1 i may d read).going none)
+
+pub ruleset store_facts = (
+  actors_of,
+  segment_there,
+  indices_fit,
+  drive_fits,
+  number_room,
+  value_fits,
+  drive_size,
+  slot_low,
+  call_left,
+)

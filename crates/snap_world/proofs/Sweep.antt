@@ -1,10 +1,9 @@
 -- A list of which each element is changed, one after the other.
-use Rattle.std.proofs.Common.{◌≡◌, ℕ, ◌+◌, ◌<◌, ◌≤◌, List, length, get_or, Some, slice_get, slice_set, refl, sym}
-use Rattle.std.proofs.Common.{◌∙◌, subst, arith}
+use Rattle.std.proofs.Common.{◌≡◌, ℕ, ◌+◌, ◌<◌, ◌≤◌, List, length, get_or, Some, slice_get, slice_set, refl, sym, ◌∙◌}
+use Rattle.std.proofs.Common.{subst, arith}
 use Rattle.std.proofs.lemmas.List.{length-set}
 use Rattle.std.proofs.lemmas.Option.{slice_get_read, slice_get_within, same_Some}
-use Rattle.snap_history.proofs.Lists.{get-set_other}
-use Rattle.snap_history.specs.Pairs.{Pairs}
+use Rattle.snap_history.{proofs.Lists.get-set_other, specs.Pairs.Pairs}
 use Rattle.snap_world.proofs.Elements.{each-set}
 
 -- the first k elements have changed

@@ -6,4 +6,3 @@ pub mod Gathers
 pub mod Stands
 pub mod Steps
 pub mod Fresh
-pub mod Halt

@@ -1,13 +1,13 @@
 //! Writers and scanners, and the registers between them: a node's memory.
+#![tactic(auto, using(crate::proofs::Sizes::sizes))]
+
 ghost use Rattle.std.specs.Prelude.{◌≡◌, ◌↔◌, ◌<◌, ◌≤◌, IfOk, IsTrue};
-ghost use Rattle.snap_history.specs.declared.limits.TheConstants.{MAX_COUNT};
-ghost use Rattle.snap_world.specs.Phases.{WriterIs, ScannerIs};
-ghost use Rattle.snap_world.specs.Start.{start_state, start_phases};
+ghost use Rattle.snap_history.specs.{declared.limits.TheConstants.MAX_COUNT, Pairs.Pairs};
+ghost use Rattle.snap_world.specs.{Phases.WriterIs, Phases.ScannerIs, Start.start_state};
+ghost use Rattle.snap_world.specs.{Start.start_phases, declared.event.Event.Event};
 ghost use Rattle.snap_world.specs.inside.Stands.{ActorsStand, Stand};
-ghost use Rattle.snap_world.specs.inside.Halt.{IsHalted, IsScannerHalted};
-ghost use Rattle.snap_history.specs.Pairs.{Pairs};
-ghost use Rattle.snap_world.specs.inside.Steps.{IsActorsStep, phases_of_actors};
-ghost use Rattle.snap_world.specs.declared.event.Event.{Event};
+ghost use Rattle.snap_world.specs.inside.{Fresh.IsHalted, Fresh.IsScannerHalted};
+ghost use Rattle.snap_world.specs.inside.{Steps.phases_of_actors, NodeSteps.IsActorsStep};
 
 mod scans;
 mod updates;

@@ -1,7 +1,8 @@
 //! One scan in progress: its double collects, and the values that it saw last.
-ghost use Rattle.std.specs.Prelude.{◌≡◌, ◌↔◌, ◌<◌, ℕ, length, map, IfOk, IsTrue, MatchBool};
-ghost use Rattle.snap_scan.specs.Looks.{IsDecided};
-ghost use Rattle.snap_scan.specs.Sets.{IsAt, named, size};
+#![tactic(auto, using(crate::proofs::Looks::look_facts))]
+
+ghost use Rattle.std.specs.Prelude.{◌≡◌, ◌<◌, ℕ, length, map, IfOk, MatchBool};
+ghost use Rattle.snap_scan.specs.Sets.{IsAt, named};
 ghost use Rattle.snap_world.specs.Answers.{pair_of};
 ghost use Rattle.snap_world.specs.inside.Gathers.{IsLookOf, IsUnderWay, MayLook, entry_in};
 
@@ -49,8 +50,6 @@ impl Collector {
     /// Whether the scan has its answer.
     pub fn is_done(&self) -> bool
         ensures under_way { MatchBool result (IsUnderWay self.now → ⊥) (IsUnderWay self.now) }
-        ensures decided { IsTrue result
-            ↔ IsDecided (size self.now.scan.set) self.now.scan.told }
     {
         match self.scan.next() {
             Next::Look(_) => false,

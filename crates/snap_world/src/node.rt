@@ -63,7 +63,7 @@ impl Node {
     }
 
     /// Does one event. Writers and scanners act only while the node is up.
-    #[tactic(auto, using(crate::proofs::Events::actors_of))]
+    #[tactic(auto, using(crate::proofs::Events::node_acts))]
     pub fn step(&mut self, alloc: Global, event: &Event) -> Result<Reply, AllocError>
         requires stands { NodeStand self.old }
         ensures step { IfOk result (λ reply. IsNodeStep self.old event.now reply self.new) }

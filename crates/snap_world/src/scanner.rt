@@ -2,8 +2,7 @@
 ghost use Rattle.std.specs.Prelude.{◌≡◌, ℕ, ◌<◌, ◌≤◌, length, IfOk};
 ghost use Rattle.snap_history.specs.declared.limits.TheConstants.{MAX_COUNT};
 ghost use Rattle.snap_scan.specs.Sets.{IsAt};
-ghost use Rattle.snap_world.specs.Answers.{set_of};
-ghost use Rattle.snap_world.specs.inside.Steps.{IsReplyOf};
+ghost use Rattle.snap_world.specs.{Answers.set_of, inside.Steps.IsReplyOf};
 
 use crate::collector::{Collector, bytes_of_all, entries_of};
 use crate::event::Reply;

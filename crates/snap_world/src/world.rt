@@ -1,4 +1,6 @@
 //! A world, which always represents some state of the abstract machine.
+#![tactic(auto, using(crate::proofs::Runs::run_facts))]
+
 ghost use Rattle.std.specs.Prelude.{◌≡◌, ℕ, ◌<◌, ◌≤◌, List, [], ◌∷◌, length, take};
 ghost use Rattle.std.specs.Prelude.{IfOk, IfErr, OnErr};
 ghost use Rattle.snap_history.specs.declared.limits.TheConstants.{MAX_COUNT};
@@ -96,7 +98,6 @@ impl World {
     ///
     /// The memory of the list of replies is taken before the first event. If memory runs out, there or at
     /// an `Answer` or a `Serve`, the result is [`Stopped`], and all this holds of the events already done.
-    #[tactic(auto, using(crate::proofs::Fills::no_bytes_left_out))]
     pub fn run(&mut self, events: &[Event]) -> Result<Vec<Reply>, Stopped>
         ensures run { IfOk result (λ replies. IsRun self.old events.now replies.items self.new) }
         ensures stopped { IfErr result (λ stopped. (stopped.done ≤ length events.now)

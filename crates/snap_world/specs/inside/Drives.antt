@@ -1,18 +1,14 @@
 -- The device of a segment while its writer is in each phase, and after a crash.
 use Rattle.std.specs.Prelude.{◌≡◌, ◌≢◌, ◌⊎◌, ℕ, ◌+◌, Bool, false, List, [], Some, slice_get}
-use Rattle.snap_disk.specs.Device.{Device, MayLeave, IsUnsynced}
-use Rattle.snap_disk.specs.Fill.{IsFilled}
-use Rattle.snap_disk.specs.declared.fill.Fill.{Fill}
-use Rattle.snap_disk.specs.Image.{image_device}
-use Rattle.snap_slot.specs.Layout.{IsFileOf, slot_of}
-use Rattle.snap_slot.specs.States.{IsAtRest, IsEither}
+use Rattle.snap_disk.specs.Device.{Device, MayLeave}
+use Rattle.snap_world.specs.{Devices.IsRefilled, Machine.WriterState, Machine.Pending, Machine.Begun}
+use Rattle.snap_disk.{specs.declared.fill.Fill.Fill, specs.Image.image_device}
+use Rattle.snap_slot.{specs.Layout.IsFileOf, specs.Layout.slot_of, specs.States.IsAtRest, specs.States.IsEither}
 use Rattle.snap_persist.specs.Device.{IsAtStage}
 use Rattle.snap_persist.specs.Stage.{PersistState, calls_left, first_stage}
 use Rattle.snap_history.specs.History.{Update, from_nothing, number_after, value_after}
 use Rattle.snap_history.specs.Pairs.{Pairs}
-use Rattle.snap_world.specs.Machine.{WriterState, Pending, Begun}
-use Rattle.snap_world.specs.declared.drive.Drive.{Drive}
-use Rattle.snap_world.specs.declared.writer.WriterPhase.{WriterPhase}
+use Rattle.snap_world.specs.declared.{drive.Drive.Drive, writer.WriterPhase.WriterPhase}
 use Rattle.snap_world.specs.declared.writer.WriterPhase.TheVariants as writer
 
 abbrev pub device_of : Drive → Device
@@ -85,8 +81,7 @@ AllReady n drives = (i : ℕ) (d : Drive) → slice_get drives i ≡ Some d → 
 
 -- a device crashed: its open places have the fill
 pub record IsCrashed (fill : Fill) (d e : Drive) : Type 0 where
-  pub left : IsUnsynced (device_of d) (device_of e)
-  pub filled : IsFilled fill (device_of d).is_open (device_of d).bytes (device_of e).bytes
+  pub refilled : IsRefilled fill (device_of d) (device_of e)
   pub persist : e.persist ≡ d.persist
 
 -- each device crashed with its fill

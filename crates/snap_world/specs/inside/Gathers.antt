@@ -1,17 +1,14 @@
 -- A scan in progress and a register, as parts of a history.
-use Rattle.std.specs.Prelude.{◌≡◌, ℕ, ◌+◌, ◌^◌, ◌<◌, ◌≤◌, List, [], length, map, take, get_or, slice_get, Option}
-use Rattle.std.specs.Prelude.{Some, None}
+use Rattle.std.specs.Prelude.{◌≡◌, ℕ, ◌+◌, ◌^◌, ◌<◌, ◌≤◌, List, [], length, map, take, get_or, slice_get, Option, Some}
+use Rattle.std.specs.Prelude.{None}
 use Rattle.snap_history.specs.History.{Update, from_nothing, number_after, value_after, IsMemory}
 use Rattle.snap_history.specs.Pairs.{Pairs}
-use Rattle.snap_scan.specs.Course.{IsNext}
+use Rattle.snap_scan.{specs.Course.IsNext, specs.declared.next.Next.Next, specs.Collects.Collects}
 use Rattle.snap_scan.specs.Sets.{named, size, IsAt}
-use Rattle.snap_scan.specs.declared.next.Next.{Next}
 use Rattle.snap_scan.specs.declared.next.Next.TheVariants.{Look, Clean, Borrow}
-use Rattle.snap_scan.specs.Collects.{Collects}
 use Rattle.snap_world.specs.Answers.{ScanState, IsAnswer, number_at, value_at, numbers_of, values_of}
 use Rattle.snap_world.specs.Machine.{State, IsLook}
-use Rattle.snap_world.specs.declared.register.Register.{Register}
-use Rattle.snap_world.specs.declared.collector.Collector.{Collector}
+use Rattle.snap_world.specs.declared.{register.Register.Register, collector.Collector.Collector}
 
 -- the memory's value of segment i, alone and with the segment
 abbrev pub value_in : List (List ℕ) → ℕ → List ℕ

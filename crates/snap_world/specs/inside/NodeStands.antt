@@ -3,33 +3,30 @@ use Rattle.std.specs.Prelude.{◌≡◌, ℕ, ◌+◌, ◌<◌, ◌≤◌, List,
 use Rattle.snap_disk.specs.Device.{IsSettled}
 use Rattle.snap_slot.specs.Findings.{IsFound}
 use Rattle.snap_history.specs.declared.limits.TheConstants.{MAX_COUNT}
-use Rattle.snap_history.specs.Pairs.{Pairs}
 use Rattle.snap_world.specs.inside.Drives.{DrivesStand, DrivesDown, device_of}
-use Rattle.snap_world.specs.Machine.{State, WriterState, ScannerState, Closed}
-use Rattle.snap_world.specs.inside.Stands.{ActorsStand}
-use Rattle.snap_world.specs.inside.Steps.{phases_of_actors}
-use Rattle.snap_world.specs.declared.drive.Drive.{Drive}
-use Rattle.snap_world.specs.declared.node.Node.{Node}
-use Rattle.snap_world.specs.declared.node.NodePhase.{NodePhase}
+use Rattle.snap_world.specs.{Machine.State, inside.Stands.ActorsStand, inside.Steps.phases_of_actors}
+use Rattle.snap_world.specs.declared.{drive.Drive.Drive, node.Node.Node, node.NodePhase.NodePhase}
+use Rattle.snap_world.specs.declared.{node.OpeningCall.OpeningCall, actors.Actors.Actors, register.Register.Register}
+use Rattle.snap_world.specs.declared.{writer.Writer.Writer, scanner.Scanner.Scanner}
 use Rattle.snap_world.specs.declared.node.NodePhase.TheVariants.{Up, Down, Restarting, Ready}
-use Rattle.snap_world.specs.declared.node.OpeningCall.{OpeningCall}
 use Rattle.snap_world.specs.declared.node.OpeningCall.TheVariants as opening
-use Rattle.snap_world.specs.declared.actors.Actors.{Actors}
-use Rattle.snap_world.specs.declared.register.Register.{Register}
-use Rattle.snap_world.specs.declared.writer.Writer.{Writer}
 use Rattle.snap_world.specs.declared.writer.WriterPhase.TheVariants as writer
-use Rattle.snap_world.specs.declared.scanner.Scanner.{Scanner}
 use Rattle.snap_world.specs.declared.scanner.ScannerPhase.TheVariants as scanner
 
--- an idle writer and an idle scanner
-pub record WriterRests (n : ℕ) (a : Writer) (s : WriterState) : Type 0 where
-  pub size : length a.collector.memory.items ≡ n
-  pub idle : a.phase ≡ writer.Idle
-
-pub record ScannerRests (n : ℕ) (a : Scanner) (s : ScannerState) : Type 0 where
-  pub size : length a.collector.memory.items ≡ n
-  pub idle : a.phase ≡ scanner.Idle
-  pub closed : s ≡ Closed
+-- the sizes of the actors' buffers, and how many writers and scanners there are
+pub record IsSized (w : Actors) (x : State) : Type 0 where
+  pub least : 0 < w.segments
+  pub most : w.segments ≤ MAX_COUNT
+  pub registers_n : length w.registers.items ≡ w.segments
+  pub views_n : (i : ℕ) (r : Register) → slice_get w.registers.items i ≡ Some r
+      → length r.view.items ≡ w.segments
+  pub writers_n : length w.writers.items ≡ w.segments
+  pub writers : length w.writers.items ≡ length x.writers
+  pub writers_memory : (i : ℕ) (a : Writer) → slice_get w.writers.items i ≡ Some a
+      → length a.collector.memory.items ≡ w.segments
+  pub scanners : length w.scanners.items ≡ length x.scanners
+  pub scanners_memory : (i : ℕ) (a : Scanner) → slice_get w.scanners.items i ≡ Some a
+      → length a.collector.memory.items ≡ w.segments
 
 -- while it is up, its actors and each device represent the state
 pub record IsUp (actors : Actors) (drives : List Drive) (x : State) : Type 0 where
@@ -37,16 +34,12 @@ pub record IsUp (actors : Actors) (drives : List Drive) (x : State) : Type 0 whe
   pub drives_stand : DrivesStand actors.segments x.history x.writers
       (phases_of_actors actors).writers drives
 
--- all actors are idle, and the buffers for values and scans have their sizes
+-- all actors are idle
 pub record ActorsRest (w : Actors) (x : State) : Type 0 where
-  pub least : 0 < w.segments
-  pub most : w.segments ≤ MAX_COUNT
-  pub registers_n : length w.registers.items ≡ w.segments
-  pub views_n : (i : ℕ) (r : Register) → slice_get w.registers.items i ≡ Some r
-      → length r.view.items ≡ w.segments
-  pub writers_n : length w.writers.items ≡ w.segments
-  pub writers : Pairs (λ i. WriterRests w.segments) w.writers.items x.writers
-  pub scanners : Pairs (λ i. ScannerRests w.segments) w.scanners.items x.scanners
+  pub sized : IsSized w x
+  pub writers : (i : ℕ) (a : Writer) → slice_get w.writers.items i ≡ Some a → a.phase ≡ writer.Idle
+  pub scanners : (i : ℕ) (a : Scanner) → slice_get w.scanners.items i ≡ Some a
+      → a.phase ≡ scanner.Idle
 
 -- while it is down
 pub record IsDown (actors : Actors) (drives : List Drive) (x : State) : Type 0 where

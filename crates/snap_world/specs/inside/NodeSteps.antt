@@ -1,20 +1,13 @@
 -- One event of a node.
 use Rattle.std.specs.Prelude.{◌≡◌, ℕ, List, map}
+use Rattle.std.specs.Global.{Vec}
 use Rattle.snap_disk.specs.Device.{Device}
-use Rattle.snap_persist.specs.Stage.{calls_left}
-use Rattle.snap_world.specs.Devices.{DevicesMove, GatesTold}
-use Rattle.snap_world.specs.inside.Drives.{device_of}
-use Rattle.snap_world.specs.Machine.{State, Step}
+use Rattle.snap_persist.{specs.Stage.calls_left, specs.declared.persist.NextCall.NextCall}
+use Rattle.snap_world.specs.{Devices.DevicesMove, Devices.GatesTold, inside.Drives.device_of, Machine.State}
+use Rattle.snap_world.specs.{Machine.Step, inside.NodeStands.NodeStands, Phases.WriterIs, inside.Steps.phases_of_actors}
 use Rattle.snap_world.specs.NodePhases.{WorldPhases, TellsWhether, PhasesMove}
-use Rattle.snap_world.specs.inside.NodeStands.{NodeStands}
-use Rattle.snap_world.specs.Phases.{WriterIs}
-use Rattle.snap_world.specs.inside.Steps.{phases_of_actors}
-use Rattle.snap_world.specs.declared.event.Event.{Event}
-use Rattle.snap_persist.specs.declared.persist.NextCall.{NextCall}
-use Rattle.snap_world.specs.declared.event.Reply.{Reply}
-use Rattle.snap_world.specs.declared.event.Reply.TheVariants.{NotNow}
-use Rattle.snap_world.specs.declared.drive.Drive.{Drive}
-use Rattle.snap_world.specs.declared.node.Node.{Node}
+use Rattle.snap_world.specs.declared.{actors.Actors.Actors, event.Event.Event, event.Reply.Reply}
+use Rattle.snap_world.specs.declared.{event.Reply.TheVariants.NotNow, drive.Drive.Drive, node.Node.Node}
 use Rattle.snap_world.specs.declared.node.NodePhase.TheVariants.{Up}
 use Rattle.snap_world.specs.declared.writer.WriterPhase.TheVariants as writer
 
@@ -53,3 +46,11 @@ pub record IsNodeStep (old : Node) (event : Event) (reply : Reply) (new : Node) 
   pub gates : (x : State) → NodeStands old x
       → GatesTold event reply (phases_of_node new) (devices_of_node new)
   pub unchanged : reply ≡ NotNow → new ≡ old
+
+-- the actors with these devices, as a node that is up
+abbrev pub node_of : Actors → Vec Drive → Node
+node_of actors drives = record { phase = Up; actors = actors; drives = drives }
+
+-- the event of a writer or a scanner, as a step of the node that is up, whatever its devices are
+pub record IsActorsStep (old : Actors) (event : Event) (reply : Reply) (new : Actors) : Type 0 where
+  pub each : (drives : Vec Drive) → IsNodeStep (node_of old drives) event reply (node_of new drives)

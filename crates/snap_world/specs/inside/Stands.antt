@@ -1,45 +1,40 @@
 -- The abstract states that the actors of a world represent. They store no history.
 use Rattle.std.specs.Prelude.{◌≡◌, ℕ, ◌+◌, ◌<◌, ◌≤◌, Bool, true, false, List, length}
 use Rattle.snap_history.specs.History.{Update, from_nothing, number_after}
-use Rattle.snap_history.specs.Pairs.{Pairs}
-use Rattle.snap_history.specs.Limits.{IsNumber, IsShort}
+use Rattle.snap_history.{specs.Pairs.Pairs, specs.Limits.IsNumber, specs.Limits.IsShort}
 use Rattle.snap_history.specs.declared.limits.TheConstants.{MAX_COUNT}
-use Rattle.snap_scan.specs.Looks.{IsDecided}
-use Rattle.snap_scan.specs.Sets.{size}
 use Rattle.snap_world.specs.Answers.{ScanState, IsAnswer, number_at, all_of, set_of}
 use Rattle.snap_world.specs.inside.Gathers.{Gathers, IsSeen, IsUnderWay, RegistersStand}
 use Rattle.snap_world.specs.Machine.{State, WriterState, ScannerState, Free, Begun, Shown, Closed, Opened}
-use Rattle.snap_world.specs.declared.collector.Collector.{Collector}
-use Rattle.snap_world.specs.declared.actors.Actors.{Actors}
-use Rattle.snap_world.specs.declared.writer.Writer.{Writer}
-use Rattle.snap_world.specs.declared.writer.WriterPhase.{WriterPhase}
-use Rattle.snap_world.specs.declared.writer.WriterPhase.TheVariants as writer
-use Rattle.snap_world.specs.declared.scanner.Scanner.{Scanner}
+use Rattle.snap_world.specs.declared.{collector.Collector.Collector, actors.Actors.Actors, writer.Writer.Writer}
+use Rattle.snap_world.specs.declared.{writer.WriterPhase.WriterPhase, scanner.Scanner.Scanner}
 use Rattle.snap_world.specs.declared.scanner.ScannerPhase.{ScannerPhase}
+use Rattle.snap_world.specs.declared.writer.WriterPhase.TheVariants as writer
 use Rattle.snap_world.specs.declared.scanner.ScannerPhase.TheVariants as scanner
 
 -- The writer has begun an update of segment i with its value, and its embedded scan began after the
 -- segment's update before. History h is the actors', and g the length that it had when the node
 -- last began to serve.
-pub record HasBegun (n : ℕ) (h : List Update) (g i : ℕ) (w : Writer)
+pub record HasBegun (n : ℕ) (h : List Update) (g i : ℕ) (v : List ℕ) (c : Collector)
     (s : WriterState) : Type 0 where
   pub born : g ≤ s.scan.start
-  pub pending : s.pending ≡ Begun w.value
-  pub fits : IsShort w.value
+  pub pending : s.pending ≡ Begun v
+  pub fits : IsShort v
   pub room : IsNumber (number_after from_nothing h i + 1)
   pub own : number_at h s.scan.start i ≡ number_after from_nothing h i
-  pub gathers : Gathers n (all_of n) h s.scan w.collector
+  pub gathers : Gathers n (all_of n) h s.scan c
 
--- the scan of this set has its answer: the numbers that it has read decide one, and the collector has it
-pub record HasAnswer (set : ℕ) (h : List Update) (s : ScanState) (c : Collector) : Type 0 where
-  pub decided : IsDecided (size set) s.told
-  pub answer : IsAnswer set h s (IsSeen set h c.memory.items)
+-- the scan of this set has its answer, and the collector has it
+abbrev pub HasAnswer : ℕ → List Update → ScanState → Collector → Type 0
+HasAnswer set h s c = IsAnswer set h s (IsSeen set h c.memory.items)
 
 abbrev pub IsAtPhase : ℕ → List Update → ℕ → ℕ → Writer → WriterState → WriterPhase → Type 0
 IsAtPhase n h g i w s writer.Idle = s.pending ≡ Free
-IsAtPhase n h g i w s writer.Scanning = HasBegun n h g i w s × IsUnderWay w.collector
-IsAtPhase n h g i w s writer.Storing = HasBegun n h g i w s × HasAnswer (all_of n) h s.scan w.collector
-IsAtPhase n h g i w s writer.Stored = HasBegun n h g i w s × HasAnswer (all_of n) h s.scan w.collector
+IsAtPhase n h g i w s writer.Scanning = HasBegun n h g i w.value w.collector s × IsUnderWay w.collector
+IsAtPhase n h g i w s writer.Storing = HasBegun n h g i w.value w.collector s
+    × HasAnswer (all_of n) h s.scan w.collector
+IsAtPhase n h g i w s writer.Stored = HasBegun n h g i w.value w.collector s
+    × HasAnswer (all_of n) h s.scan w.collector
 IsAtPhase n h g i w s writer.Shown = (v : List ℕ) × (s.pending ≡ Shown v)
 IsAtPhase n h g i w s writer.Fenced = (v : List ℕ) × (s.pending ≡ Begun v)
 

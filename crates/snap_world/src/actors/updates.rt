@@ -3,9 +3,8 @@ ghost use Rattle.std.specs.Prelude.{◌≡◌, ◌<◌, ℕ, true, List, slice_g
 ghost use Rattle.snap_world.specs.Machine.{State, WriterState, Begun, with_writer};
 ghost use Rattle.snap_world.specs.Phases.{WriterIs, writer_to};
 ghost use Rattle.snap_world.specs.inside.Stands.{Stand, ActorsStand};
-ghost use Rattle.snap_world.specs.inside.Steps.{IsActorsStep, phases_of_actors};
-ghost use Rattle.snap_world.specs.declared.event.Actor.{Actor};
-ghost use Rattle.snap_world.specs.declared.event.Event.{Event};
+ghost use Rattle.snap_world.specs.inside.{Steps.phases_of_actors, NodeSteps.IsActorsStep};
+ghost use Rattle.snap_world.specs.declared.{event.Actor.Actor, event.Event.Event};
 
 use crate::actors::Actors;
 use crate::collector::copy_all;

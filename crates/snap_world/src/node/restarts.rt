@@ -1,11 +1,11 @@
 //! Crashes and restarts.
+#![tactic(auto, using(crate::proofs::Serves::restart_facts))]
+
 ghost use Rattle.std.specs.Prelude.{◌≡◌, ◌<◌, length, IfOk, OnErr};
 ghost use Rattle.snap_disk.specs.declared.fill.Fill.{Fill};
-ghost use Rattle.snap_world.specs.NodePhases.{after_opening_call};
-ghost use Rattle.snap_world.specs.inside.NodeStands.{NodeStand};
-ghost use Rattle.snap_world.specs.inside.NodeSteps.{IsNodeStep};
+ghost use Rattle.snap_world.specs.{NodePhases.after_opening_call, declared.event.Event.Event};
+ghost use Rattle.snap_world.specs.inside.{NodeStands.NodeStand, NodeSteps.IsNodeStep};
 ghost use Rattle.snap_world.specs.inside.Recovery.{AllReadable, AreRecovered};
-ghost use Rattle.snap_world.specs.declared.event.Event.{Event};
 
 use crate::drive::{Drive, crash_all, found_values, resume_all};
 use crate::event::{Kind, Reply};

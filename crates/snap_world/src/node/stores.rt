@@ -1,9 +1,10 @@
 //! The device calls of a store.
+#![tactic(auto, using(crate::proofs::Stored::store_facts))]
+
 ghost use Rattle.std.specs.Prelude.{IsTrue, ◌↔◌};
 ghost use Rattle.snap_disk.specs.declared.fill.Fill.{Fill};
-ghost use Rattle.snap_world.specs.inside.NodeStands.{NodeStand};
+ghost use Rattle.snap_world.specs.{inside.NodeStands.NodeStand, declared.event.Event.Event};
 ghost use Rattle.snap_world.specs.inside.NodeSteps.{IsNodeStep, MayStore};
-ghost use Rattle.snap_world.specs.declared.event.Event.{Event};
 
 use crate::event::Reply;
 use crate::node::{Node, NodePhase};

@@ -1,4 +1,4 @@
-use Rattle.snap_world.specs.inside.Halt.{IsHalted}
+use Rattle.snap_world.specs.inside.Fresh.{IsHalted}
 use Rattle.snap_world.proofs.Sweep.{Swept}
 use Rattle.snap_world.proofs.actors.halt_writers.Given as goal
 

@@ -1,12 +1,9 @@
 use Rattle.std.proofs.Common.{◌≡◌, ℕ, suc, ◌+◌, ◌<◌, List, [], ◌∷◌, ◌++◌, length, map, refl, ap, sym, ◌∙◌, arith}
-use Rattle.std.proofs.lemmas.Bool.{iff_false}
-use Rattle.std.proofs.lemmas.List.{map_push}
+use Rattle.std.proofs.{lemmas.Bool.iff_false, lemmas.List.map_push}
 use Rattle.std.proofs.lemmas.Option.{slice_get_read, get_or_from_slice_get}
-use Rattle.snap_scan.specs.Sets.{named_below}
-use Rattle.snap_scan.proofs.Sets.{with, without, named_at}
-use Rattle.snap_world.specs.Answers.{pair_of}
+use Rattle.snap_scan.{specs.Sets.named_below, proofs.Sets.with, proofs.Sets.without, proofs.Sets.named_at}
+use Rattle.snap_world.specs.{Answers.pair_of, declared.event.PartEntry.PartEntry}
 use Rattle.snap_world.specs.inside.Gathers.{entry_in, value_in}
-use Rattle.snap_world.specs.declared.event.PartEntry.{PartEntry}
 use Rattle.snap_world.proofs.collector.entries_of.Goals.{then-has+in_ok-value+in_ok-push, else-has}
 use Rattle.snap_world.proofs.collector.entries_of.Goals as goal
 

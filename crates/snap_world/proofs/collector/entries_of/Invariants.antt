@@ -1,7 +1,6 @@
 use Rattle.std.proofs.Common.{◌≡◌, map}
 use Rattle.snap_scan.specs.Sets.{named_below}
-use Rattle.snap_world.specs.Answers.{pair_of}
-use Rattle.snap_world.specs.inside.Gathers.{entry_in}
+use Rattle.snap_world.specs.{Answers.pair_of, inside.Gathers.entry_in}
 use Rattle.snap_world.proofs.collector.entries_of.Given as goal
 
 abbrev pub invariant-loop-segment : goal.invariant-loop-segment

@@ -1,8 +1,6 @@
-use Rattle.std.proofs.Math.Logic.{∥∥₁_elim}
-use Rattle.std.proofs.Props.{props}
+use Rattle.std.proofs.{Math.Logic.∥∥₁_elim, Props.props, lemmas.Option.slice_get_read}
 use Rattle.std.proofs.Common.{◌≡◌, ℕ, ◌+◌, ◌<◌, List, [], ◌∷◌, ◌++◌, length, map, take, refl, ap, sym, ◌∙◌, arith}
 use Rattle.std.proofs.lemmas.List.{map_push, take_more, take-map}
-use Rattle.std.proofs.lemmas.Option.{slice_get_read}
 use Rattle.snap_world.specs.inside.Recovery.{found_value}
 use Rattle.snap_world.proofs.drive.found_values.Goals as goal
 

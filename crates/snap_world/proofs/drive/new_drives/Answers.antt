@@ -1,8 +1,7 @@
 use Rattle.std.proofs.Common.{◌≡◌, ℕ, ◌+◌, length, Some, slice_get, ap, sym, ◌∙◌, subst}
 use Rattle.std.proofs.lemmas.List.{length_push}
 use Rattle.snap_history.proofs.Lists.{get-push_at}
-use Rattle.snap_world.specs.inside.Drives.{IsFormatted}
-use Rattle.snap_world.specs.declared.drive.Drive.{Drive}
+use Rattle.snap_world.specs.{inside.Drives.IsFormatted, declared.drive.Drive.Drive}
 use Rattle.snap_world.proofs.drive.new_drives.Goals as goal
 
 pub loop-i-preserved : goal.loop-i-preserved

@@ -1,6 +1,4 @@
-use Rattle.std.proofs.Math.Logic.{∥∥₁_elim}
-use Rattle.std.proofs.Props.{props}
-use Rattle.std.proofs.Common.{arith}
+use Rattle.std.proofs.{Math.Logic.∥∥₁_elim, Props.props, Common.arith}
 use Rattle.snap_world.proofs.Sweep.{swept-next, swept-more, swept-all}
 use Rattle.snap_world.proofs.drive.resume_all.Goals as goal
 

@@ -1,22 +1,14 @@
 use Rattle.std.proofs.Common.{◌≡◌, ◌-◌, ◌^◌, ◌<◌, ◌≤◌, List, ℕ, length, refl, ap, subst, ◌∙◌, sym, arith}
 use Rattle.snap_history.specs.History.{from_nothing, number_after}
-use Rattle.snap_world.specs.Answers.{scan_from, all_of}
+use Rattle.snap_world.specs.{Answers.scan_from, Answers.all_of, inside.NodeSteps.node_of, inside.Stands.ActorsStand}
 use Rattle.snap_world.specs.Machine.{State, WriterState, Begun, with_writer}
-use Rattle.snap_world.specs.NodePhases.{up}
-use Rattle.snap_world.specs.inside.Stands.{ActorsStand}
 use Rattle.snap_world.specs.declared.writer.Writer.{Writer}
+use Rattle.snap_world.proofs.LookingOn.{all_among, some_named}
+use Rattle.snap_world.proofs.{Sizes.all_some, Looks.number_now, PhaseMoves.writer_moved}
+use Rattle.snap_world.proofs.Moves.{within, the_writer, the_register, Gathers-none}
+use Rattle.snap_world.proofs.Events.{up_at, came, writer_goes, refuses}
 use Rattle.snap_world.specs.declared.writer.WriterPhase.TheVariants as writer
-use Rattle.snap_world.proofs.Asks.{all_some, all_among, some_named}
-use Rattle.snap_world.proofs.Looks.{number_now}
-use Rattle.snap_world.proofs.Moves.{within, the_writer, the_register, writer_moves, Gathers-none}
-use Rattle.snap_world.proofs.PhaseMoves.{writer_moved, refused, came}
-use Rattle.snap_world.proofs.Sizes.{segments_least, segments_most, register_fits}
 use Rattle.snap_world.proofs.actors.Actors.begin.Goals as goal
-
-pub index-requires : goal.index-requires
-index-requires c =
-    register_fits c.args.self.now c.requires.stands c.args.segment
-    (c.if-not-writer_is.ensures.0 refl)
 
 -- the segment's number is the last one
 pub returns-then-index-ge-LAST_NUMBER : goal.returns-then-index-ge-LAST_NUMBER
@@ -24,19 +16,16 @@ returns-then-index-ge-LAST_NUMBER c =
     let w = c.args.self.now in
     let i = c.args.segment in
     record {
-      step = refused w _ (λ x stands e. (
-          let number : c.index.result.now.number ≡ number_after from_nothing x.history i =
-          (the_register w x stands i c.index.result.now
-          (within w x stands i (c.if-not-writer_is.ensures.0 refl)) c.index.ensures).number in
-          let small : number_after from_nothing x.history i < 2 ^ 63 - 1 = e.3 in
-          omega arith));
+      step = record {
+        each = λ ds. refuses (node_of w ds) _ (λ x node e. (
+            let stands : ActorsStand w x = node.at.actors_stand in
+            let number : c.index.result.now.number ≡ number_after from_nothing x.history i =
+            (the_register w x stands i c.index.result.now
+            (within w x stands i (c.if-not-writer_is.ensures.0 refl)) c.index.ensures).number in
+            let small : number_after from_nothing x.history i < 2 ^ 63 - 1 = e.3 in
+            omega arith));
+      };
     }
-
-pub new-writer-requires-clause-least : goal.new-writer-requires-clause-least
-new-writer-requires-clause-least c = segments_least c.args.self.now c.requires.stands
-
-pub new-writer-requires-clause-most : goal.new-writer-requires-clause-most
-new-writer-requires-clause-most c = segments_most c.args.self.now c.requires.stands
 
 pub returns : goal.returns
 returns c =
@@ -56,8 +45,9 @@ returns c =
     let number = λ (x : State) (stands : ActorsStand w x). (the_register w x stands i
     c.index.result.now (within w x stands i is) c.index.ensures).number in
     record {
-      step = came w _ _ _ (λ e. cc) refl
-          (λ x stands. (
+      step = came w _ _ _ (λ e. cc) (λ _ _ _ _ _ _. (refl, tt)) refl
+          (λ ds x up. (
+          let stands = up.actors_stand in
           let a = the_writer w x stands i is old c.index_mut-writer.ensures.value in
           let number : c.index.result.now.number ≡ number_after from_nothing x.history i =
           number x stands in
@@ -72,7 +62,7 @@ returns c =
           c.new-writer.ensures.told c.new-writer.ensures.next a.size in (
             with_writer x i state,
             (a.state, a.there, a.phase, a.fenced, refl),
-            writer_moves w x stands i new a.state state (within w x stands i is) a.there refl (record {
+            writer_goes w ds x up i new a.state state (within w x stands i is) a.there refl (record {
               size = a.size;
               fenced = a.fenced;
               phase = (
@@ -86,11 +76,11 @@ returns c =
                 },
                 gathers.1,
               );
-            }),
+            }) (λ d ed. up.drives_stand i d a.state writer.Idle ed a.there is),
           )))
-          (λ x stands. (
+          (λ ds x stands. (
           let number : c.index.result.now.number ≡ number_after from_nothing x.history i =
           number x stands in
           (refl, is, short, omega arith)))
-          (λ x stands. ap up (writer_moved w i new));
+          (λ ds x stands. ap (up_at ds) (writer_moved w i new));
     }

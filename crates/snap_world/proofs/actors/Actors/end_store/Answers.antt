@@ -1,8 +1,8 @@
-use Rattle.snap_world.specs.declared.writer.Writer.{Writer}
+use Rattle.std.proofs.Common.{refl, subst}
+use Rattle.snap_world.specs.{declared.writer.Writer.Writer, inside.Stands.ActorsStand}
+use Rattle.snap_world.proofs.{Moves.the_writer, Moves.writer_moves, Elements.set_same, Sizes.segment_fits}
+use Rattle.snap_world.proofs.PhaseMoves.{writer_moved, with_actors_writer}
 use Rattle.snap_world.specs.declared.writer.WriterPhase.TheVariants as writer
-use Rattle.snap_world.proofs.Moves.{the_writer, writer_stays}
-use Rattle.snap_world.proofs.PhaseMoves.{writer_moved}
-use Rattle.snap_world.proofs.Sizes.{segment_fits}
 use Rattle.snap_world.proofs.actors.Actors.end_store.Goals as goal
 
 pub index_mut-requires : goal.index_mut-requires
@@ -16,22 +16,10 @@ returns-clause-stands c x stands storing =
     let old = c.index_mut.result.now in
     let a = the_writer w x stands i storing old c.index_mut.ensures.value in
     let new : Writer = record old { phase = writer.Stored } in
-    let begun = a.phase.0 in
-    writer_stays w x stands i new c.requires.within a.state a.there (record {
-      size = a.size;
-      fenced = a.fenced;
-      phase = (
-        record {
-          born = begun.born;
-          pending = begun.pending;
-          fits = begun.fits;
-          room = begun.room;
-          own = begun.own;
-          gathers = begun.gathers;
-        },
-        a.phase.1,
-      );
-    })
+    subst (λ ws. ActorsStand (with_actors_writer w i new) (record x { writers = ws }))
+    (set_same x.writers i a.state a.there)
+    (writer_moves w x stands i new a.state a.state c.requires.within a.there refl
+    (record { size = a.size; fenced = a.fenced; phase = a.phase }))
 
 pub returns-clause-phases : goal.returns-clause-phases
 returns-clause-phases c =

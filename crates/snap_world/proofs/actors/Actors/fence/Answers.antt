@@ -1,13 +1,8 @@
-use Rattle.std.proofs.Common.{true, refl, sym}
-use Rattle.std.proofs.lemmas.Option.{slice_get_read}
+use Rattle.std.proofs.{Common.true, Common.refl, Common.sym, lemmas.Option.slice_get_read}
 use Rattle.snap_history.proofs.Pairs.{partner}
-use Rattle.snap_world.specs.Machine.{WriterState}
-use Rattle.snap_world.specs.inside.Stands.{WriterStands}
-use Rattle.snap_world.specs.declared.writer.Writer.{Writer}
+use Rattle.snap_world.specs.{Machine.WriterState, inside.Stands.WriterStands, declared.writer.Writer.Writer}
+use Rattle.snap_world.proofs.{Moves.writer_moves, PhaseMoves.writer_moved, Sizes.segment_fits}
 use Rattle.snap_world.specs.declared.writer.WriterPhase.TheVariants as writer
-use Rattle.snap_world.proofs.Moves.{writer_moves}
-use Rattle.snap_world.proofs.PhaseMoves.{writer_moved}
-use Rattle.snap_world.proofs.Sizes.{segment_fits}
 use Rattle.snap_world.proofs.actors.Actors.fence.Goals as goal
 
 pub index_mut-requires : goal.index_mut-requires

@@ -1,15 +1,12 @@
 use Rattle.std.proofs.Common.{refl, sym, subst, inl, inr}
 use Rattle.std.proofs.lemmas.Bool.{MatchBool-at_true, MatchBool-at_false}
-use Rattle.snap_world.specs.inside.Gathers.{IsUnderWay}
-use Rattle.snap_world.specs.inside.Steps.{IsActorsStep}
-use Rattle.snap_world.specs.declared.event.Actor.TheVariants as actor
-use Rattle.snap_world.specs.declared.event.Event.TheVariants.{Look}
-use Rattle.snap_world.specs.declared.event.Reply.TheVariants.{Number}
-use Rattle.snap_world.specs.declared.writer.WriterPhase.TheVariants as writer
-use Rattle.snap_world.proofs.LookingOn.{writer_can_look, writer_looks}
-use Rattle.snap_world.proofs.PhaseMoves.{writer_read}
-use Rattle.snap_world.proofs.actors.Actors.look_writer.Goals as goal
+use Rattle.snap_world.specs.{inside.Gathers.IsUnderWay, inside.NodeSteps.IsActorsStep}
+use Rattle.snap_world.specs.declared.{event.Event.TheVariants.Look, event.Reply.TheVariants.Number}
+use Rattle.snap_world.proofs.{LookingOn.writer_can_look, LookingOn.writer_looks, PhaseMoves.writer_read}
 use Rattle.snap_world.proofs.actors.Actors.look_writer.Goals.{then-is_done, else-is_done}
+use Rattle.snap_world.specs.declared.event.Actor.TheVariants as actor
+use Rattle.snap_world.specs.declared.writer.WriterPhase.TheVariants as writer
+use Rattle.snap_world.proofs.actors.Actors.look_writer.Goals as goal
 
 pub look-number-requires : goal.look-number-requires
 look-number-requires c =
@@ -33,7 +30,6 @@ returns c =
         | then-is_done b ↦ subst Step (sym b.self-is) (looks writer.Storing (inr (
           MatchBool-at_true (IsUnderWay new
               → ⊥) (IsUnderWay new) b.if-is_done.true c.is_done.ensures.under_way,
-          c.is_done.ensures.decided.0 b.if-is_done.true,
           refl,
         )))
         | else-is_done b ↦ subst Step (sym b.self-is) (looks old.phase (inl (

@@ -1,22 +1,15 @@
-use Rattle.std.proofs.Math.Logic.{∥∥₁_elim}
-use Rattle.std.proofs.Props.{props}
-use Rattle.std.proofs.Common.{◌≡◌, ◌+◌, ◌<◌, ◌≤◌, ◌^◌, length, take, refl, ap, subst, ◌∙◌, sym, arith}
+use Rattle.std.proofs.{Math.Logic.∥∥₁_elim, Props.props}
+use Rattle.std.proofs.Common.{◌≡◌, ◌+◌, ◌<◌, ◌≤◌, ◌^◌, [], ◌∷◌, ◌++◌, length, take, slice_set, refl, ap, subst, ◌∙◌}
+use Rattle.std.proofs.Common.{sym, arith}
 use Rattle.snap_history.specs.History.{Update, from_nothing, number_after, IsMemory}
 use Rattle.snap_world.specs.Machine.{WriterState, Shown, with_update}
-use Rattle.snap_world.specs.NodePhases.{up}
-use Rattle.snap_world.specs.declared.register.Register.{Register}
-use Rattle.snap_world.specs.declared.writer.Writer.{Writer}
-use Rattle.snap_world.specs.declared.writer.WriterPhase.TheVariants as writer
+use Rattle.snap_world.specs.{inside.Drives.DrivesStand, inside.Steps.phases_of_actors, Phases.Phases}
+use Rattle.snap_world.specs.declared.{register.Register.Register, writer.Writer.Writer}
 use Rattle.snap_world.proofs.Moves.{within, the_writer, the_register, own_moment, world_shows, shown_register}
 use Rattle.snap_world.proofs.Moves.{shown_view, whole}
-use Rattle.snap_world.proofs.PhaseMoves.{writer_moved, came}
-use Rattle.snap_world.proofs.Sizes.{register_fits}
+use Rattle.snap_world.proofs.{PhaseMoves.writer_moved, Events.writer_shows, Events.up_at, Events.came}
+use Rattle.snap_world.specs.declared.writer.WriterPhase.TheVariants as writer
 use Rattle.snap_world.proofs.actors.Actors.show.Goals as goal
-
-pub index_mut-register-requires : goal.index_mut-register-requires
-index_mut-register-requires c =
-    register_fits c.args.self.now c.requires.stands c.args.segment
-    (c.if-not-writer_is.ensures.0 refl)
 
 pub overflow_add-register : goal.overflow_add-register
 overflow_add-register c = ∥∥₁_elim c.requires.stands (hlevel props) (λ q. (
@@ -56,14 +49,15 @@ returns c =
       view = c.copy_all.new.to;
     } in
     record {
-      step = came w _ _ _ (λ e. cc) refl
-          (λ x stands. (
+      step = came w _ _ _ (λ e. cc) (λ _ _ _ _ _ _. (refl, tt)) refl
+          (λ ds x up. (
+          let stands = up.actors_stand in
           let l = within w x stands i is in
           let a = the_writer w x stands i is old c.index_mut-writer.ensures.value in
           let r = the_register w x stands i c.index_mut-register.result.now l
           c.index_mut-register.ensures.value in
           let begun = a.phase.0 in
-          let answer = a.phase.1.answer in
+          let answer = a.phase.1 in
           let h = x.history in
           let end : a.state.scan.last ≤ length h = begun.gathers.end in
           let until : answer.p ≤ a.state.scan.last = answer.is_moment.until in
@@ -82,9 +76,16 @@ returns c =
           }) in (
             with_update x i v state,
             (a.state, v, a.there, begun.pending, refl),
-            world_shows w x stands i v register new state l here_r here_v
-                (record { size = a.size; fenced = a.fenced; phase = (v, refl) }),
+            record {
+              actors_stand = world_shows w x stands i v register new state l here_r here_v
+                  (record { size = a.size; fenced = a.fenced; phase = (v, refl) });
+              drives_stand = subst (λ (p : Phases). DrivesStand w.segments (h ++ u ∷ [])
+                  (slice_set x.writers i state) p.writers ds) (sym (writer_moved w i new))
+                  (writer_shows w.segments h x.writers (phases_of_actors w).writers ds
+                  up.drives_stand i state v
+                  (λ d ed. up.drives_stand i d a.state writer.Stored ed a.there is v begun.pending));
+            },
           )))
-          (λ x stands. (refl, is))
-          (λ x stands. ap up (writer_moved w i new));
+          (λ ds x stands. (refl, is))
+          (λ ds x stands. ap (up_at ds) (writer_moved w i new));
     }

@@ -1,22 +1,6 @@
 use Rattle.std.proofs.Common.{slice_set, arith, refl, ap, sym, ◌∙◌}
-use Rattle.snap_world.proofs.Looks.{register_there, place_there, number_fits, view_fits, look_other, look_borrow}
+use Rattle.snap_world.proofs.Looks.{place_there, look_other, look_borrow}
 use Rattle.snap_world.proofs.collector.Collector.look.Goals as goal
-
-pub index-register-requires : goal.index-register-requires
-index-register-requires c =
-    let low = register_there c.args.registers.now.items c.args.self.now c.requires.stands
-    c.in-Look.segment (sym c.next.ensures.same ∙ c.in-Look.is) in
-    omega (arith, c.args.registers.now.ok.0)
-
-pub told-requires-clause-rising : goal.told-requires-clause-rising
-told-requires-clause-rising c =
-    number_fits c.args.registers.now.items c.args.self.now c.requires.stands c.in-Look.segment
-    (sym c.next.ensures.same ∙ c.in-Look.is) c.index-register.result.now c.index-register.ensures
-
-pub copy_all-requires : goal.copy_all-requires
-copy_all-requires c =
-    view_fits c.args.registers.now.items c.args.self.now c.requires.stands c.in-Look.segment
-    (sym c.next.ensures.same ∙ c.in-Look.is) c.index-register.result.now c.index-register.ensures
 
 pub index_mut-requires : goal.index_mut-requires
 index_mut-requires c =

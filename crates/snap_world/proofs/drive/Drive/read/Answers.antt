@@ -1,8 +1,6 @@
 use Rattle.std.proofs.Common.{length, ap, sym, ◌∙◌, subst}
-use Rattle.std.proofs.Math.Logic.{∥∥₁_elim}
-use Rattle.std.proofs.Props.{props}
-use Rattle.snap_slot.specs.Layout.{IsFileOf}
-use Rattle.snap_slot.proofs.Whole.{not_refused}
+use Rattle.std.proofs.{Math.Logic.∥∥₁_elim, Props.props}
+use Rattle.snap_slot.{specs.Layout.IsFileOf, proofs.Whole.not_refused}
 use Rattle.snap_world.proofs.drive.Drive.read.Goals as goal
 
 pub recover-requires : goal.recover-requires

@@ -1,68 +1,11 @@
-use Rattle.std.proofs.Common.{◌≡◌, ℕ, ◌≤◌, List, ◌∷◌, length, refl, ap, sym, ◌∙◌, subst, arith}
+use Rattle.std.proofs.Common.{◌≡◌, ◌∷◌, refl, ap, sym, ◌∙◌}
 use Rattle.snap_persist.specs.Stage.{calls_left, first_call, after_call}
 use Rattle.snap_persist.specs.declared.persist.NextCall.TheVariants.{Done}
-use Rattle.snap_world.specs.Calls.{store_call}
-use Rattle.snap_world.specs.declared.drive.Drive.{Drive}
-use Rattle.snap_world.proofs.Calls.{going_done, not_done}
-use Rattle.snap_world.proofs.Events.{is_up, actors_of, refuses}
-use Rattle.snap_world.proofs.Sizes.{register_fits}
-use Rattle.snap_world.proofs.Stored.{call_goes, call_ends, call_moves, call_stores, there, storing, number_is, value_is}
-use Rattle.snap_world.proofs.Stored.{segment_there, drive_fits, number_room, value_fits, drive_size, slot_low}
-use Rattle.snap_world.proofs.Stored.{call_left}
+use Rattle.snap_world.specs.{Calls.store_call, declared.drive.Drive.Drive}
+use Rattle.snap_world.proofs.Stored.{going_done, not_done, call_goes, call_ends, call_moves, call_stores, there}
+use Rattle.snap_world.proofs.Stored.{storing, number_is, value_is}
+use Rattle.snap_world.proofs.Events.{is_up}
 use Rattle.snap_world.proofs.node.Node.call.Goals as goal
-
-pub returns-then-not-may_store : goal.returns-then-not-may_store
-returns-then-not-may_store c =
-    record {
-      step = refuses c.args.self.now _ (λ x stands m. (let e =
-          c.if-not-may_store.ensures.1 m in cc));
-    }
-
-pub index-requires : goal.index-requires
-index-requires c =
-    let w = c.args.self.now in
-    let may = c.if-not-may_store.ensures.0 refl in
-    register_fits w.actors (actors_of w may.0 c.requires.stands) c.args.segment may.1
-
-pub index_mut-drive-requires : goal.index_mut-drive-requires
-index_mut-drive-requires c =
-    drive_fits c.args.self.now c.args.segment (c.if-not-may_store.ensures.0 refl) c.requires.stands
-
-pub overflow_add-number : goal.overflow_add-number
-overflow_add-number c =
-    let room = number_room c.args.self.now c.args.segment (c.if-not-may_store.ensures.0 refl)
-    c.requires.stands c.index.result.now c.index.ensures in
-    omega arith
-
-pub overflow_add-number-in-Done : goal.overflow_add-number-in-Done
-overflow_add-number-in-Done c =
-    let room = number_room c.args.self.now c.args.segment (c.if-not-may_store.ensures.0 refl)
-    c.requires.stands c.index.result.now c.index.ensures in
-    omega arith
-
-pub call-kind-requires : goal.call-kind-requires
-call-kind-requires c =
-    let w = c.args.self.now in
-    let i = c.args.segment in
-    let may = c.if-not-may_store.ensures.0 refl in
-    let d = c.index_mut-drive.result.now in
-    let read = c.index_mut-drive.ensures.value in
-    record {
-      size = drive_size w i may c.requires.stands d read;
-      slot = slot_low w i may c.requires.stands d read;
-      number = number_room w i may c.requires.stands c.index.result.now c.index.ensures;
-      fits = subst (λ (v : List ℕ). length v ≤ 4080) (sym c.as_slice.ensures)
-          (value_fits w i may c.requires.stands c.index-2.result.now c.index-2.ensures);
-      going = call_left w i may c.requires.stands d read;
-    }
-
-pub end_store-requires : goal.end_store-requires
-end_store-requires c =
-    let may = c.if-not-may_store.ensures.0 refl in
-    record {
-      stands = actors_of c.args.self.now may.0 c.requires.stands;
-      within = segment_there c.args.self.now c.args.segment may c.requires.stands;
-    }
 
 pub returns-in-Done : goal.returns-in-Done
 returns-in-Done c =

@@ -1,13 +1,10 @@
 use Rattle.std.proofs.Common.{◌≡◌, length, map, refl, sym, ◌∙◌, arith}
 use Rattle.std.proofs.lemmas.List.{length-map}
-use Rattle.snap_world.specs.Machine.{crashed}
-use Rattle.snap_world.specs.inside.NodeSteps.{store_left, phases_of_node}
-use Rattle.snap_world.specs.NodePhases.{WorldPhases, all_idle}
-use Rattle.snap_world.specs.inside.Steps.{phases_of_actors}
-use Rattle.snap_world.specs.declared.node.Node.{Node}
-use Rattle.snap_world.specs.declared.node.NodePhase.TheVariants.{Down}
+use Rattle.snap_world.specs.{Machine.crashed, inside.NodeSteps.store_left, inside.NodeSteps.phases_of_node}
+use Rattle.snap_world.specs.{NodePhases.WorldPhases, NodePhases.all_idle, inside.Steps.phases_of_actors}
+use Rattle.snap_world.specs.declared.{node.Node.Node, node.NodePhase.TheVariants.Down}
 use Rattle.snap_world.proofs.Events.{same_phases}
-use Rattle.snap_world.proofs.Crash.{goes_down, halted_phases, crashed_devices, crashed_calls}
+use Rattle.snap_world.proofs.Restarts.{goes_down, halted_phases, crashed_devices, crashed_calls}
 use Rattle.snap_world.proofs.node.Node.crash.Goals as goal
 
 pub returns : goal.returns

@@ -1,41 +1,7 @@
 use Rattle.std.proofs.Common.{refl, ap}
 use Rattle.snap_persist.specs.Stage.{calls_left}
-use Rattle.snap_world.proofs.Events.{is_up, actors_of, refuses}
-use Rattle.snap_world.proofs.Stored.{call_fails, fail_moves, there, segment_there, drive_fits, drive_size, slot_low}
-use Rattle.snap_world.proofs.Stored.{call_left}
+use Rattle.snap_world.proofs.{Events.is_up, Stored.call_fails, Stored.fail_moves, Stored.there}
 use Rattle.snap_world.proofs.node.Node.fail.Goals as goal
-
-pub returns-then-not-may_store : goal.returns-then-not-may_store
-returns-then-not-may_store c =
-    record {
-      step = refuses c.args.self.now _ (λ x stands m. (let e =
-          c.if-not-may_store.ensures.1 m in cc));
-    }
-
-pub index_mut-requires : goal.index_mut-requires
-index_mut-requires c =
-    drive_fits c.args.self.now c.args.segment (c.if-not-may_store.ensures.0 refl) c.requires.stands
-
-pub fail-requires : goal.fail-requires
-fail-requires c =
-    let w = c.args.self.now in
-    let i = c.args.segment in
-    let may = c.if-not-may_store.ensures.0 refl in
-    let d = c.index_mut.result.now in
-    let read = c.index_mut.ensures.value in
-    record {
-      size = drive_size w i may c.requires.stands d read;
-      slot = slot_low w i may c.requires.stands d read;
-      going = call_left w i may c.requires.stands d read;
-    }
-
-pub fence-requires : goal.fence-requires
-fence-requires c =
-    let may = c.if-not-may_store.ensures.0 refl in
-    record {
-      stands = actors_of c.args.self.now may.0 c.requires.stands;
-      within = segment_there c.args.self.now c.args.segment may c.requires.stands;
-    }
 
 pub returns : goal.returns
 returns c =

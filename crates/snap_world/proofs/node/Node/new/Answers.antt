@@ -4,15 +4,11 @@ use Rattle.snap_slot.specs.States.{IsAtRest}
 use Rattle.snap_persist.specs.Stage.{calls_left, store_calls}
 use Rattle.snap_history.proofs.Lists.{get-replicate}
 use Rattle.snap_world.specs.inside.Drives.{DriveStands, IsFormatted, IsReady, device_of}
-use Rattle.snap_world.specs.declared.drive.Drive.{Drive}
+use Rattle.snap_world.specs.declared.{drive.Drive.Drive, node.Node.Node, node.NodePhase.TheVariants.Up}
 use Rattle.snap_world.specs.inside.NodeSteps.{store_left, phases_of_node}
-use Rattle.snap_world.specs.Phases.{Phases}
-use Rattle.snap_world.specs.Start.{start_world_phases}
-use Rattle.snap_world.specs.declared.node.Node.{Node}
-use Rattle.snap_world.specs.declared.node.NodePhase.TheVariants.{Up}
+use Rattle.snap_world.specs.{Phases.Phases, Start.start_world_phases}
+use Rattle.snap_world.proofs.{Events.same_phases, Elements.map_element, Elements.all_same}
 use Rattle.snap_world.specs.declared.writer.WriterPhase.TheVariants as writer
-use Rattle.snap_world.proofs.Events.{same_phases}
-use Rattle.snap_world.proofs.Elements.{map_element, all_same}
 use Rattle.snap_world.proofs.node.Node.new.Goals as goal
 
 ready_of : (i n : ℕ) (d : Drive) → IsFormatted i n d → IsReady i n 0 [] (device_of d) d.persist

@@ -1,12 +1,7 @@
 use Rattle.std.proofs.Common.{refl, ap, ◌∙◌}
-use Rattle.snap_world.specs.declared.drive.Drive.{Drive}
-use Rattle.snap_world.specs.declared.node.NodePhase.TheVariants.{Restarting}
-use Rattle.snap_world.proofs.Restarts.{opening_fits, sync_fail_step}
+use Rattle.snap_world.specs.declared.{drive.Drive.Drive, node.NodePhase.TheVariants.Restarting}
+use Rattle.snap_world.proofs.Restarts.{sync_fail_step}
 use Rattle.snap_world.proofs.node.Node.restart_fail.Goals as goal
-
-pub index_mut-requires : goal.index_mut-requires
-index_mut-requires c = opening_fits c.args.self.now c.in-Restarting.segment c.in-Restarting.call
-    c.in-Restarting.is c.requires.stands
 
 pub returns-in-Sync : goal.returns-in-Sync
 returns-in-Sync c =

@@ -1,31 +1,10 @@
 use Rattle.std.proofs.Common.{refl, sym, ◌∙◌, subst}
-use Rattle.std.proofs.Math.Logic.{∥∥₁_elim, ∥∥₁_map}
-use Rattle.std.proofs.Props.{props}
 use Rattle.std.proofs.lemmas.List.{length-map}
 use Rattle.snap_history.specs.History.{from_nothing, IsMemory}
 use Rattle.snap_world.specs.inside.NodeSteps.{store_left}
-use Rattle.snap_world.proofs.Crash.{sized}
-use Rattle.snap_world.proofs.Serves.{readable, marks, h, memory, y, actors_stand, drives_stand, same_devices}
-use Rattle.snap_world.proofs.Serves.{device_served, gates}
-use Rattle.snap_world.proofs.Serves.{idle_phases}
+use Rattle.snap_world.proofs.Serves.{marks, h, memory, y, actors_stand, drives_stand, same_devices, device_served}
+use Rattle.snap_world.proofs.Serves.{gates, idle_phases}
 use Rattle.snap_world.proofs.node.Node.serve.Goals as goal
-
-pub found_values-requires : goal.found_values-requires
-found_values-requires c =
-    ∥∥₁_map c.requires.stands (λ q. readable c.args.self.now q.0 q.1 c.in-Ready.is)
-
-pub recover_all-requires : goal.recover_all-requires
-recover_all-requires c =
-    let w = c.args.self.now in
-    record {
-      size = ∥∥₁_elim c.requires.stands (hlevel props) (λ q.
-          (sized w.actors w.drives.items q.0 w.phase q.1.at).registers_n ∙ sym q.1.drives_n);
-      readable = ∥∥₁_map c.requires.stands (λ q. readable w q.0 q.1 c.in-Ready.is);
-    }
-
-pub resume_all-requires : goal.resume_all-requires
-resume_all-requires c =
-    ∥∥₁_map c.requires.stands (λ q. readable c.args.self.now q.0 q.1 c.in-Ready.is)
 
 pub returns-in_ok-values-in-Ready-clause-step : goal.returns-in_ok-values-in-Ready-clause-step
 returns-in_ok-values-in-Ready-clause-step c =

@@ -1,12 +1,8 @@
-use Rattle.std.proofs.Math.Logic.{∥∥₁_elim}
-use Rattle.std.proofs.Props.{props}
+use Rattle.std.proofs.{Math.Logic.∥∥₁_elim, Props.props, lemmas.Option.slice_get_read, lemmas.Option.same_Some}
 use Rattle.std.proofs.Common.{◌<◌, length, refl, ap, sym, ◌∙◌, subst, arith}
-use Rattle.std.proofs.lemmas.Option.{slice_get_read, same_Some}
 use Rattle.snap_world.specs.inside.Recovery.{IsRecovered, found_value}
-use Rattle.snap_world.specs.declared.drive.Drive.{Drive}
-use Rattle.snap_world.specs.declared.register.Register.{Register}
-use Rattle.snap_world.proofs.Elements.{same_read}
-use Rattle.snap_world.proofs.Sweep.{swept-more, swept-all}
+use Rattle.snap_world.specs.declared.{drive.Drive.Drive, register.Register.Register}
+use Rattle.snap_world.proofs.{Elements.same_read, Sweep.swept-more, Sweep.swept-all}
 use Rattle.snap_world.proofs.node.restarts.recover_all.Goals as goal
 
 pub found_value-requires : goal.found_value-requires

@@ -1,20 +1,8 @@
 use Rattle.std.proofs.lemmas.Option.{slice_get_read}
-use Rattle.snap_world.specs.NodePhases.{NeedsMemory}
-use Rattle.std.proofs.Common.{inr, length, refl, ◌+◌, [], ◌∷◌, ◌++◌, take, ap, sym, subst, ◌∙◌, arith, rules}
-use Rattle.snap_world.specs.Surface.{IsRun, phases_of}
+use Rattle.snap_world.specs.{NodePhases.NeedsMemory, Surface.IsRun, Surface.phases_of}
+use Rattle.std.proofs.Common.{inr, length, refl, ◌+◌, [], ◌∷◌, ◌++◌, take, ap, sym, subst, ◌∙◌, arith}
 use Rattle.snap_world.proofs.Runs.{IsRun-append, IsRun-grows, IsRun-same, take-event}
 use Rattle.snap_world.proofs.world.World.run.Goals as goal
-
--- memory ran out for an answer: the world is as it was before its event
-pub returns-in-Err-clause-stopped : goal.returns-in-Err-clause-stopped
-returns-in-Err-clause-stopped c = (
-  omega arith,
-  (
-    c.loop-i.replies.items,
-    IsRun-same c.args.self.now c.loop-i.self c.step.new.self _ _ c.in-Err.ensures.err
-        c.loop-i.invariant.run,
-  ),
-)
 
 pub returns-in-Err-clause-grows : goal.returns-in-Err-clause-grows
 returns-in-Err-clause-grows c =
@@ -54,6 +42,3 @@ returns-in-Err-clause-memory c =
       subst (λ w. NeedsMemory (phases_of w) event)
           (sym c.in-Err.ensures.err) c.in-Err.ensures.memory,
     )
-
-pub loop-i-init : goal.loop-i-init
-loop-i-init c = search rules

@@ -1,8 +1,6 @@
 use Rattle.std.proofs.Common.{◌≡◌, Ok, Err, IfOk, OnErr, sym, subst}
 use Rattle.std.proofs.Math.Logic.{∥∥₁_map}
-use Rattle.snap_world.specs.inside.NodeStands.{NodeStand}
-use Rattle.snap_world.specs.inside.NodeSteps.{IsNodeStep}
-use Rattle.snap_world.proofs.Runs.{IsRun-step}
+use Rattle.snap_world.specs.{inside.NodeStands.NodeStand, inside.NodeSteps.IsNodeStep}
 use Rattle.snap_world.proofs.world.World.step.Goals as goal
 
 pub invariant_of-self : goal.invariant_of-self
@@ -18,7 +16,3 @@ invariant_of-self c =
             | Err error ↦ (λ s e. subst NodeStand (sym e) was)
           ] c.step.ensures.step c.step.ensures.err;
     }
-
-pub returns-clause-run : goal.returns-clause-run
-returns-clause-run c = IsRun-step c.args.self.now _ c.args.event.now c.step.result
-    c.step.ensures.step
