@@ -24,6 +24,8 @@ ALIAS = re.compile(r"^\s*(?:pub )?(?:ghost )?use Rattle\.(\w+)\.[\w.]+ as (\w+)"
 IMPORTS = re.compile(
     r"^\s*(?:pub )?(?:ghost )?use (?:Rattle\.)?(\w+)(?:\.|::)(?:[\w.:]*(?:\.|::))?(?:\{([^{}]*)\}|(\w+))", re.M
 )
+# An import, which says nothing by itself.
+USE = re.compile(r"^ *(?:pub )?(?:ghost )?use [^;{}\n]*(?:\{[^{}]*\})?[^;{}\n]*;?\n", re.M)
 WORDS = re.compile(r"[^\s(){}\[\],;.:&|<>\"]+")
 CALLED = re.compile(r"(?:\.|::)(\w+)(?=\(|::)")
 HERE = ("crate", "super", "self")
@@ -66,12 +68,15 @@ class Digests:
     def read(self, crate, path, text):
         found = defaultdict(set)
         for of, names, one in IMPORTS.findall(text):
-            for name in (names or one).split(","):
-                for it in words_of(name.split(" as ")[0].strip() + " " + name.split(" as ")[-1]):
-                    found[it].add((crate if of in HERE else of, name.split(" as ")[0].strip()))
+            for item in (names or one).split(","):
+                # (in a list a name may stand behind its modules)
+                full, _, alias = item.strip().partition(" as ")
+                name = re.split(r"\.|::", full)[-1]
+                for it in words_of(f"{name} {alias}"):
+                    found[it].add((crate if of in HERE else of, name))
         self.imports[path] = found
         self.aliases[path] = [(of, re.compile(rf"\b{name}\.(\w+)")) for of, name in ALIAS.findall(text)]
-        for names, body in items_of(text, path):
+        for names, body in items_of(USE.sub("", text), path):
             piece = Piece(crate, path, body)
             for name in names:
                 for it in {name, *words_of(name)}:
@@ -104,6 +109,7 @@ class Digests:
         if not self.edited(path.read_text(), str(folder))[0]:
             return summed(self.logic, "gone", path.name, path.read_bytes())
         source, own = function_of(folder, path)
+        own = USE.sub("", own)
         # (a trait's method has the clauses of the trait's, too)
         methods = re.findall(r"\bfn (\w+)", own) if re.match(r"impl\b[^{]* for ", own) else []
         crates = (crate, *self.below[crate])
