@@ -1,21 +1,16 @@
 -- What the arguments that the parser found ask for, in terms of the grammar.
-use Rattle.std.proofs.Common.{◌≡◌, ◌≢◌, ◌∙◌, Err, IfOk, List, None, Ok, Option, Result, Some, [], ◌∷◌, ap, arith}
-use Rattle.std.proofs.Common.{inl, inr, option_map, refl, subst, sym, true, unwrap_or}
+use Rattle.std.proofs.Common.{◌≡◌, ◌≢◌, ◌∙◌, Err, IfOk, List, None, Ok, Option, Result, Some, [], ◌∷◌, ap, arith, inl}
+use Rattle.std.proofs.Common.{inr, option_map, refl, subst, sym, true, unwrap_or}
 use Rattle.std.proofs.Math.Path.{fun_ext}
 use Rattle.clap.specs.Words.{App, HasKind, HasMatchesOf, Kinds, Row, Text, fault_of, found_of, is_simple}
-use Rattle.clap.specs.Words.{is_simple_and_free, rows_of, subcommand_name_of, subcommand_of}
-use Rattle.clap.specs.Words.{subcommand_rows_of}
-use Rattle.clap.specs.declared.ArgMatches.{ArgMatches}
-use Rattle.clap.specs.declared.error.Error.{Error}
-use Rattle.clap.proofs.OnLiterals.{clap_on_literals}
-use Rattle.clap.proofs.WalkLemmas.{first_value-rows, raw_values-rows}
-use Rattle.snap_order.specs.Order.{IsWithinLimits}
-use Rattle.snap_order.specs.declared.order.Order.{Order}
-use Rattle.snap_args.specs.Grammar.{grammar_of}
+use Rattle.clap.specs.Words.{is_simple_and_free, rows_of, subcommand_name_of, subcommand_of, subcommand_rows_of}
+use Rattle.clap.specs.declared.{ArgMatches.ArgMatches, error.Error.Error}
+use Rattle.clap.proofs.{OnLiterals.clap_on_literals, WalkLemmas.first_value-rows, WalkLemmas.raw_values-rows}
+use Rattle.snap_order.specs.{Order.IsWithinLimits, declared.order.Order.Order}
 use Rattle.snap_args.specs.Orders.{IsAskedBy, IsParseFault, IsTold, Means}
 use Rattle.snap_args.specs.Words.{Reads, word_in, word_of, words_in, words_of}
-use Rattle.snap_args.specs.declared.fault.WordFault.{WordFault}
 use Rattle.snap_args.specs.declared.fault.WordFault.TheVariants.{Help, Memory, Words}
+use Rattle.snap_args.specs.{Grammar.grammar_of, declared.fault.WordFault.WordFault}
 
 simple : is_simple grammar_of ≡ true
 unfolding clap_on_literals

@@ -2,12 +2,10 @@
 use Rattle.std.proofs.Common.{◌≡◌, ◌≢◌, List, Option, arith, false, refl, true}
 use Rattle.std.proofs.lemmas.Grind.{common_steps}
 use Rattle.clap.specs.Words.{Text}
-use Rattle.snap_order.specs.Order.{lists_segments}
-use Rattle.snap_order.specs.declared.order.CallRequest.{CallRequest}
-use Rattle.snap_order.specs.declared.order.OutputFormat.{OutputFormat}
 use Rattle.snap_order.specs.declared.order.OutputFormat.TheVariants.{Lines, Text as AsText, Json}
-use Rattle.snap_args.specs.Numbers.{IsLayoutOf}
-use Rattle.snap_args.specs.Requests.{IsQuestionOf}
+use Rattle.snap_order.specs.Order.{lists_segments}
+use Rattle.snap_order.specs.declared.order.{CallRequest.CallRequest, OutputFormat.OutputFormat}
+use Rattle.snap_args.specs.{Numbers.IsLayoutOf, Requests.IsQuestionOf}
 
 -- flags that ask for another format don't ask for lines
 pub not_lines : (text json : Option Text) (l : OutputFormat) → l ≢ Lines → IsLayoutOf text json l

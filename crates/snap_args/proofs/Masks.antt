@@ -1,8 +1,7 @@
 -- Masks as text.
 use Rattle.std.proofs.Common.{◌≡◌, ◌≢◌, ◌⊎◌, ℕ, ◌<◌, ◌^◌, List, [], ◌∷◌, length, get_or, arith, inl, inr, subst, sym}
-use Rattle.std.proofs.lemmas.Int.Digits.{digits_value-lt}
-use Rattle.std.proofs.lemmas.Str.Parse.{without_leading_plus_none}
 use Rattle.std.specs.Str.Parse.{IsNumeral, digits_value, without_leading_plus}
+use Rattle.std.proofs.lemmas.{Int.Digits.digits_value-lt, Str.Parse.without_leading_plus_none}
 use Rattle.snap_args.specs.Numbers.{IsMask}
 
 -- a plus sign is no digit

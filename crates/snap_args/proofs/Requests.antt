@@ -1,16 +1,13 @@
 -- Requests and the forms of their arguments.
-use Rattle.std.proofs.Common.{◌≡◌, ◌≢◌, ◌<◌, List, [], ◌∷◌, None, Some, length, map, get_or, ap, arith, Bor}
-use Rattle.std.proofs.Common.{codes, subst, ℕ}
+use Rattle.std.proofs.Common.{◌≡◌, ◌≢◌, ◌<◌, List, [], ◌∷◌, None, Some, length, map, get_or, ap, arith, Bor, codes}
+use Rattle.std.proofs.Common.{subst, ℕ}
 use Rattle.clap.specs.Words.{Text}
-use Rattle.snap_order.specs.Limits.{MAX_COUNT}
-use Rattle.snap_order.specs.Order.{IsWithin}
-use Rattle.snap_order.specs.request.Request.{Request}
 use Rattle.snap_order.specs.request.Request.TheVariants.{Update, Scan, Status, Part}
+use Rattle.snap_order.specs.{Limits.MAX_COUNT, Order.IsWithin, request.Request.Request}
 use Rattle.snap_order.specs.declared.order.CallRequest.{CallRequest}
-use Rattle.snap_order.specs.declared.order.CallRequest.TheVariants as question
 use Rattle.snap_stream.specs.Hex.{IsHex}
-use Rattle.snap_args.specs.Numbers.{IsNumberOf}
-use Rattle.snap_args.specs.Requests.{IsQuestionOf, IsUpdateOf}
+use Rattle.snap_args.specs.{Numbers.IsNumberOf, Requests.IsQuestionOf, Requests.IsUpdateOf}
+use Rattle.snap_order.specs.declared.order.CallRequest.TheVariants as question
 
 -- two arguments, of which the first is this name
 pub two_words : (words : List (Bor Text)) (d : Bor Text) (name : Text) → length words ≡ 2

@@ -1,13 +1,10 @@
 -- How a table of arguments builds a command, and commands build the program.
 use Rattle.std.proofs.Common.{◌≡◌, ◌∙◌, ◌+◌, ◌<◌, ℕ, IfOk, List, Result, ap, drop, false, get_or, length, sym}
-use Rattle.std.proofs.lemmas.List.{at_drop_more}
-use Rattle.std.proofs.lemmas.Result.{IfOk-weaker}
+use Rattle.std.proofs.lemmas.{List.at_drop_more, Result.IfOk-weaker}
 use Rattle.std.specs.declared.alloc.AllocError.{AllocError}
 use Rattle.clap.specs.Words.{AddsSubcommand, App, Rule, app_of, with_rule, with_subcommand}
-use Rattle.clap.specs.declared.builder.Command.{Command}
-use Rattle.clap.specs.declared.builder.Command.TheViews.{out-Command}
-use Rattle.snap_args.specs.Tables.{app_with, rule_in}
-use Rattle.snap_args.specs.declared.grammar.Word.{Word}
+use Rattle.clap.specs.declared.builder.Command.{Command, TheViews.out-Command}
+use Rattle.snap_args.specs.{Tables.app_with, Tables.rule_in, declared.grammar.Word.Word}
 
 -- a command with one more argument of the table
 pub next_word : (app after : App) (words : List Word) (i : ℕ) (d : Word) (rule : Rule)

@@ -1,10 +1,8 @@
 -- One more segment of `watch`.
 use Rattle.std.proofs.Common.{All, Bor, zero, suc, ◌≡◌, ◌<◌, ◌+◌, ◌++◌, ◌∷◌, [], List, Option, Some, ap, arith}
-use Rattle.std.proofs.Common.{below_more, get_or, length, map, option_map, slice_get, slice_index, subst, sym, ◌∙◌}
-use Rattle.std.proofs.Common.{ℕ}
-use Rattle.std.proofs.lemmas.List.{get_or_append_left}
+use Rattle.std.proofs.Common.{below_more, get_or, length, map, option_map, slice_get, slice_index, subst, sym, ◌∙◌, ℕ}
+use Rattle.std.proofs.lemmas.{List.get_or_append_left, Option.slice_get-get_or, Option.slice_get-map}
 use Rattle.std.proofs.Math.Seq.{get_or-append_seam}
-use Rattle.std.proofs.lemmas.Option.{slice_get-get_or, slice_get-map}
 use Rattle.clap.specs.Words.{Text}
 use Rattle.snap_args.specs.Numbers.{IsNumberOf}
 

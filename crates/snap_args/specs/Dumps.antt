@@ -1,11 +1,9 @@
 -- The order `dump`: which arguments ask for which source.
 use Rattle.std.specs.Prelude.{◌≡◌, ◌⊎◌, ℕ, Bool, true, false, ◌&&◌, ◌||◌, not, List, [], ◌∷◌, ◌++◌, nat_eq, Option}
 use Rattle.std.specs.Prelude.{Some, None, codes, length}
-use Rattle.std.specs.Int.{is_in_range}
-use Rattle.std.specs.List.{list_any}
+use Rattle.std.specs.{Int.is_in_range, List.list_any}
 use Rattle.clap.specs.Words.{Text}
-use Rattle.snap_order.specs.declared.order.DumpSource.{DumpSource}
-use Rattle.snap_order.specs.declared.order.DumpSource.TheVariants.{Server, Folder}
+use Rattle.snap_order.specs.declared.order.DumpSource.{DumpSource, TheVariants.Server, TheVariants.Folder}
 
 -- only digits
 abbrev pub are_digits : List ℕ → Bool

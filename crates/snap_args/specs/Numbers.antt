@@ -2,11 +2,9 @@
 use Rattle.std.specs.Prelude.{◌≡◌, ℕ, ◌<◌, ◌≤◌, List, length, slice_get, slice_index, Option, Some, None, codes}
 use Rattle.std.specs.Str.Parse.{IsNumeral, digits_value, without_leading_plus}
 use Rattle.clap.specs.Words.{Text}
-use Rattle.snap_order.specs.declared.order.OutputFormat.{OutputFormat}
+use Rattle.snap_order.specs.declared.order.{OutputFormat.OutputFormat, Level.Level, TheConstants.MODE_BITS}
 use Rattle.snap_order.specs.declared.order.OutputFormat.TheVariants as layout
-use Rattle.snap_order.specs.declared.order.Level.{Level}
 use Rattle.snap_order.specs.declared.order.Level.TheVariants as level
-use Rattle.snap_order.specs.declared.order.TheConstants.{MODE_BITS}
 
 -- the argument is a decimal number, with or without a plus sign, and n is its value
 abbrev pub IsNumberOf : Option Text → ℕ → Type 0

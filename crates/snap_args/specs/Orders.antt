@@ -1,30 +1,20 @@
 -- Which command line means which order.
-use Rattle.std.specs.Prelude.{◌≡◌, ◌⊎◌, ◌↔◌, ◌<◌, ◌^◌, IfSome, IsTrue, List, [], ◌∷◌, map, Option, Some, None}
-use Rattle.std.specs.Prelude.{codes, option_map}
+use Rattle.std.specs.Prelude.{◌≡◌, ◌⊎◌, ◌↔◌, ◌<◌, ◌^◌, IfSome, IsTrue, List, [], ◌∷◌, map, Option, Some, None, codes}
+use Rattle.std.specs.Prelude.{option_map}
 use Rattle.clap.specs.Words.{IsAmong, Row, Text, fault_of, kind_of, subcommand_of}
-use Rattle.clap.specs.declared.error.Error.{Error}
-use Rattle.clap.specs.declared.error.kind.ErrorKind.{ErrorKind}
 use Rattle.clap.specs.declared.error.kind.ErrorKind.TheVariants.{DisplayHelp, DisplayVersion, OutOfMemory}
-use Rattle.snap_order.specs.Order.{IsWithinLimits}
-use Rattle.snap_order.specs.declared.order.Order.{Order}
-use Rattle.snap_order.specs.declared.order.Order.TheVariants as order
-use Rattle.snap_order.specs.declared.order.FileOrder.{FileOrder}
+use Rattle.clap.specs.declared.error.{Error.Error, kind.ErrorKind.ErrorKind}
 use Rattle.snap_order.specs.declared.order.FileOrder.TheVariants.{Format, Put, Get, Check, Slot}
-use Rattle.snap_order.specs.declared.order.InitOptions.{InitOptions}
-use Rattle.snap_order.specs.declared.order.DoctorOptions.{DoctorOptions}
-use Rattle.snap_order.specs.declared.order.MigrateOptions.{MigrateOptions}
-use Rattle.snap_order.specs.declared.order.ServeOptions.{ServeOptions}
-use Rattle.snap_order.specs.declared.order.CallOptions.{CallOptions}
-use Rattle.snap_order.specs.declared.order.DumpOptions.{DumpOptions}
-use Rattle.snap_order.specs.declared.order.LoadOptions.{LoadOptions}
-use Rattle.snap_order.specs.declared.order.WatchOptions.{WatchOptions}
-use Rattle.snap_args.specs.Dumps.{IsHolderOf}
-use Rattle.snap_args.specs.Grammar.{grammar_of}
+use Rattle.snap_order.specs.Order.{IsWithinLimits}
+use Rattle.snap_order.specs.declared.order.{Order.Order, FileOrder.FileOrder, InitOptions.InitOptions}
+use Rattle.snap_order.specs.declared.order.{DoctorOptions.DoctorOptions, MigrateOptions.MigrateOptions}
+use Rattle.snap_order.specs.declared.order.{ServeOptions.ServeOptions, CallOptions.CallOptions, DumpOptions.DumpOptions}
+use Rattle.snap_order.specs.declared.order.{LoadOptions.LoadOptions, WatchOptions.WatchOptions}
 use Rattle.snap_args.specs.Numbers.{AreSegmentsOf, IsGiven, IsLargeNumberOf, IsLayoutOf, IsLevelOf, IsModeOf}
 use Rattle.snap_args.specs.Numbers.{IsNumberOf, IsPlaceOf}
-use Rattle.snap_args.specs.Requests.{IsQuestionOf}
-use Rattle.snap_args.specs.Words.{word_in, words_in}
+use Rattle.snap_args.specs.{Dumps.IsHolderOf, Grammar.grammar_of, Requests.IsQuestionOf, Words.word_in, Words.words_in}
 use Rattle.snap_args.specs.declared.fault.WordFault.{WordFault}
+use Rattle.snap_order.specs.declared.order.Order.TheVariants as order
 use Rattle.snap_args.specs.declared.fault.WordFault.TheVariants as fault
 
 -- the arguments of `check` ask for this: the whole file, or the value of a slot

@@ -3,15 +3,12 @@ use Rattle.std.specs.Prelude.{◌≡◌, ◌<◌, ◌≤◌, ◌^◌, List, [], 
 use Rattle.clap.specs.Words.{Text}
 use Rattle.snap_stream.specs.Hex.{IsHex}
 use Rattle.snap_order.specs.Messages.{IsAskable, max_payload, payload}
-use Rattle.snap_order.specs.Order.{IsWithin, request_of}
-use Rattle.snap_order.specs.request.Request.{Request}
 use Rattle.snap_order.specs.request.Request.TheVariants.{Update, Scan, Status, Part}
-use Rattle.snap_order.specs.declared.order.CallRequest.{CallRequest}
-use Rattle.snap_order.specs.declared.order.CallRequest.TheVariants as question
-use Rattle.snap_order.specs.declared.order.PutOptions.{PutOptions}
-use Rattle.snap_order.specs.declared.order.Source.{Source}
-use Rattle.snap_order.specs.declared.order.Source.TheVariants as source
+use Rattle.snap_order.specs.{Order.IsWithin, Order.request_of, request.Request.Request, declared.order.Source.Source}
+use Rattle.snap_order.specs.{declared.order.CallRequest.CallRequest, declared.order.PutOptions.PutOptions}
 use Rattle.snap_args.specs.Numbers.{IsLargeNumberOf, IsMask, IsNumberOf}
+use Rattle.snap_order.specs.declared.order.CallRequest.TheVariants as question
+use Rattle.snap_order.specs.declared.order.Source.TheVariants as source
 
 -- the update with these arguments
 abbrev pub IsUpdateOf : (segment number value : Text) → Request → Type 0

@@ -2,8 +2,7 @@
 use Rattle.std.specs.Prelude.{List, [], ◌∷◌, Some}
 use Rattle.clap.specs.Words.{App, Rule, Text, new_app, with_rule}
 use Rattle.snap_args.specs.Grammar.{choice_rule, flag_rule, number_rule, text_rule, texts_rule, word_rule}
-use Rattle.snap_args.specs.declared.grammar.Word.{Word}
-use Rattle.snap_args.specs.declared.grammar.Kind.{Kind}
+use Rattle.snap_args.specs.declared.grammar.{Word.Word, Kind.Kind}
 use Rattle.snap_args.specs.declared.grammar.Kind.TheVariants as kind
 
 -- the rule of an argument of this kind and name

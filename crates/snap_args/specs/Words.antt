@@ -1,10 +1,8 @@
 -- The arguments of a command by name, and what it is to read them.
 use Rattle.std.specs.Prelude.{◌≢◌, List, [], MatchOption, MatchResult, Option, Result, option_map, unwrap_or}
 use Rattle.clap.specs.Words.{Row, Text, all_of, first_of, first_value, found_of, matched_of, raw_values}
-use Rattle.clap.specs.declared.ArgMatches.{ArgMatches}
-use Rattle.clap.specs.declared.parser.matches.Found.{Found}
-use Rattle.snap_args.specs.declared.fault.WordFault.{WordFault}
-use Rattle.snap_args.specs.declared.fault.WordFault.TheVariants.{Memory}
+use Rattle.clap.specs.declared.{ArgMatches.ArgMatches, parser.matches.Found.Found}
+use Rattle.snap_args.specs.declared.fault.WordFault.{WordFault, TheVariants.Memory}
 
 -- P holds of what was read. A fault says that P holds of nothing, or that memory ran out.
 abbrev pub Reads : {T : Type 0} → Result T WordFault → (T → Type 0) → Type 0

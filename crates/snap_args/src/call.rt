@@ -1,9 +1,8 @@
 //! The arguments of `call`.
 ghost use Rattle.std.specs.Prelude.{◌↔◌, IsTrue, codes};
 ghost use Rattle.snap_order.specs.Order.{IsCallable};
-ghost use Rattle.snap_args.specs.Numbers.{IsGiven, IsLayoutOf};
-ghost use Rattle.snap_args.specs.Orders.{IsCallOf};
 ghost use Rattle.snap_args.specs.Words.{Reads, word_of, words_of};
+ghost use Rattle.snap_args.specs.{Numbers.IsGiven, Numbers.IsLayoutOf, Orders.IsCallOf};
 
 use crate::WordFault;
 use crate::numbers::{timeout_of, tries_of, wait_of};

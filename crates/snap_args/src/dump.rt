@@ -3,9 +3,8 @@ ghost use Rattle.std.specs.Prelude.{◌≡◌, ◌↔◌, IfSome, IsTrue, Some, 
 ghost use Rattle.snap_order.specs.Limits.{MAX_COUNT};
 ghost use Rattle.snap_order.specs.Order.{IsDumpable, IsLoadable, IsOneTo};
 ghost use Rattle.snap_args.specs.Dumps.{IsAddressWord, IsHolderOf, are_digits, ends_in_port, is_port};
-ghost use Rattle.snap_args.specs.Numbers.{IsLargeNumberOf};
-ghost use Rattle.snap_args.specs.Orders.{IsDumpOf, IsLoadOf};
-ghost use Rattle.snap_args.specs.Words.{Reads, word_of};
+ghost use Rattle.snap_args.specs.{Numbers.IsLargeNumberOf, Orders.IsDumpOf, Orders.IsLoadOf, Words.Reads};
+ghost use Rattle.snap_args.specs.Words.{word_of};
 
 use crate::WordFault;
 use crate::numbers::{count_of, timeout_of, tries_of, wait_of};

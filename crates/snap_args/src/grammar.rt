@@ -2,9 +2,8 @@
 //! command.
 ghost use Rattle.std.specs.Prelude.{◌≡◌, IfOk, codes, false};
 ghost use Rattle.clap.specs.Words.{App, app_of, new_app, rule_of, with_subcommand};
-ghost use Rattle.snap_args.specs.Grammar.{called, checked, dumped, examined, filed};
-ghost use Rattle.snap_args.specs.Grammar.{founded, grammar_of, loaded, paired, placed, program_of};
-ghost use Rattle.snap_args.specs.Grammar.{served, watched};
+ghost use Rattle.snap_args.specs.Grammar.{called, checked, dumped, examined, filed, founded, grammar_of, loaded};
+ghost use Rattle.snap_args.specs.Grammar.{paired, placed, program_of, served, watched};
 ghost use Rattle.snap_args.specs.Tables.{app_with, command_with, rule_in};
 
 use crate::help::{

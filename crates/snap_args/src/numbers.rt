@@ -1,9 +1,7 @@
 //! The numbers among the arguments of a command, within their limits.
 ghost use Rattle.std.specs.Prelude.{◌≢◌, ◌+◌, ◌^◌, ◌<◌, ◌≤◌, ℕ, IfSome, MatchResult, Some, codes};
-ghost use Rattle.snap_order.specs.Limits.{MAX_COUNT, MAX_TRIES};
-ghost use Rattle.snap_order.specs.Order.{IsOneTo, IsPlace};
-ghost use Rattle.snap_args.specs.Numbers.{IsLargeNumberOf, IsMask, IsMode, IsModeOf, IsNumberOf};
-ghost use Rattle.snap_args.specs.Numbers.{IsPlaceOf};
+ghost use Rattle.snap_order.specs.{Limits.MAX_COUNT, Limits.MAX_TRIES, Order.IsOneTo, Order.IsPlace};
+ghost use Rattle.snap_args.specs.Numbers.{IsLargeNumberOf, IsMask, IsMode, IsModeOf, IsNumberOf, IsPlaceOf};
 ghost use Rattle.snap_args.specs.Words.{Finds, Reads, word_of};
 ghost use Rattle.snap_args.specs.declared.fault.WordFault.TheVariants.{Memory};
 

@@ -1,9 +1,8 @@
 //! The arguments of `serve`.
 ghost use Rattle.std.specs.Prelude.{◌≡◌, [], ◌∷◌, IfOk, codes, length, map};
 ghost use Rattle.snap_order.specs.Order.{IsOneTo, IsServable, KeepsLimits};
-ghost use Rattle.snap_args.specs.Numbers.{IsLevelOf};
-ghost use Rattle.snap_args.specs.Orders.{AreAddressesOf, IsServiceOf};
 ghost use Rattle.snap_args.specs.Words.{Reads, word_of, words_of};
+ghost use Rattle.snap_args.specs.{Numbers.IsLevelOf, Orders.AreAddressesOf, Orders.IsServiceOf};
 
 use crate::WordFault;
 use crate::numbers::{connections_of, limit_of, mode_of, number_to};

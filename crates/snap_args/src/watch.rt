@@ -1,10 +1,8 @@
 //! The arguments of `watch`.
 ghost use Rattle.std.specs.Prelude.{◌<◌, All, Some, map};
-ghost use Rattle.snap_order.specs.Limits.{MAX_COUNT};
-ghost use Rattle.snap_order.specs.Order.{IsWatchable};
-ghost use Rattle.snap_args.specs.Numbers.{AreSegmentsOf, IsNumberOf};
-ghost use Rattle.snap_args.specs.Orders.{IsWatchOf};
+ghost use Rattle.snap_order.specs.{Limits.MAX_COUNT, Order.IsWatchable};
 ghost use Rattle.snap_args.specs.Words.{Finds, Reads, word_of, words_of};
+ghost use Rattle.snap_args.specs.{Numbers.AreSegmentsOf, Numbers.IsNumberOf, Orders.IsWatchOf};
 
 use crate::WordFault;
 use crate::call::is_given;

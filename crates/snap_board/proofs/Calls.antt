@@ -1,8 +1,7 @@
 -- Requests answered by a service, one after another.
 use Rattle.std.proofs.Common.{ℕ, List, [], ◌++◌, refl}
 use Rattle.http.specs.declared.request.Request.{Request}
-use Rattle.http_server.specs.declared.response.Response.{Response}
-use Rattle.http_server.proofs.StreamLemmas.{Chain-append}
+use Rattle.http_server.{specs.declared.response.Response.Response, proofs.StreamLemmas.Chain-append}
 use Rattle.snap_board.specs.Answered.{Answered}
 
 module _ {S : Type 0} (answers : S → Request (List ℕ) → Response → S → Type 0) where

@@ -1,8 +1,7 @@
 -- The requests that a server has its service answer.
 use Rattle.std.specs.Prelude.{ℕ, List}
 use Rattle.http.specs.declared.request.Request.{Request}
-use Rattle.http_server.specs.declared.response.Response.{Response}
-use Rattle.http_server.specs.Exchange.{Call, Chain}
+use Rattle.http_server.specs.{declared.response.Response.Response, Exchange.Call, Exchange.Chain}
 
 -- the service answered some requests, one after another, and is otherwise unchanged
 abbrev pub Answered : {S : Type 0} → (S → Request (List ℕ) → Response → S → Type 0) → S → S → Type 0

@@ -2,21 +2,17 @@
 use Rattle.std.specs.Prelude.{◌≡◌, ◌⊎◌, ◌||◌, ℕ, List, Option, Some, None, Bool, MatchBool, bytes_eq, codes}
 use Rattle.std.specs.Prelude.{option_and_then, if◌then◌else◌}
 use Rattle.std.specs.List.{list_all, list_any}
-use Rattle.http.specs.declared.request.Request as http
-use Rattle.http.specs.Request.{head_of}
-use Rattle.http.specs.Uri.{uri_path}
+use Rattle.http.specs.{Request.head_of, Uri.uri_path}
 use Rattle.http_server.specs.declared.response.Response.{Response}
-use Rattle.snap_frame.specs.declared.entries.SegmentStatus.{SegmentStatus}
+use Rattle.snap_frame.specs.declared.{entries.SegmentStatus.SegmentStatus, reply.Reply.Reply, request.Request.Request}
 use Rattle.snap_frame.specs.segment_value.SegmentValue.{SegmentValue}
-use Rattle.snap_frame.specs.declared.reply.Reply.{Reply}
-use Rattle.snap_frame.specs.declared.reply.Reply.TheVariants as replies
-use Rattle.snap_frame.specs.declared.request.Request.{Request}
-use Rattle.snap_frame.specs.declared.request.Request.TheVariants as requests
 use Rattle.snap_json.specs.Each.{each_from}
-use Rattle.snap_board.specs.Paths.{page_of}
-use Rattle.snap_board.specs.declared.page.Page.{Page}
-use Rattle.snap_board.specs.declared.page.Page.TheVariants as pages
 use Rattle.snap_json.specs.Documents.{health_text, list_text, status_tokens, value_tokens}
+use Rattle.snap_board.specs.{Paths.page_of, declared.page.Page.Page}
+use Rattle.http.specs.declared.request.Request as http
+use Rattle.snap_frame.specs.declared.reply.Reply.TheVariants as replies
+use Rattle.snap_frame.specs.declared.request.Request.TheVariants as requests
+use Rattle.snap_board.specs.declared.page.Page.TheVariants as pages
 
 -- the response has this status and this content
 abbrev pub HasContent : ℕ → List ℕ → Response → Type 0

@@ -1,8 +1,7 @@
 -- A feed at its start, and the rest of a write.
 use Rattle.std.proofs.Common.{◌≡◌, ℕ, ◌+◌, ◌-◌, List, [], ◌++◌, length, take, drop, sym, ◌∙◌, ap, arith, length-drop}
 use Rattle.std.proofs.Math.Seq.{take-length, take-add}
-use Rattle.snap_frame.specs.Stream.{IsBytes, IsPartial}
-use Rattle.snap_frame.proofs.Cuts.{tiny_is_partial}
+use Rattle.snap_frame.{specs.Stream.IsBytes, specs.Stream.IsPartial, proofs.Cuts.tiny_is_partial}
 
 -- the empty list has no whole frame, and no length
 pub nothing_is_partial : IsPartial []

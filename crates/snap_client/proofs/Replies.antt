@@ -1,16 +1,12 @@
 -- The reply that was read determines how far the exchange came.
 use Rattle.std.proofs.Common.{◌≡◌, ℕ, List, [], ◌++◌, Option, None, Result, Ok, Err, inl, inr, sym, subst}
-use Rattle.std.specs.Io.KnownBytes.{Appends, Consumes}
-use Rattle.std.proofs.KnownBytes.{Consumes-trans}
-use Rattle.snap_frame.specs.declared.request.Request.{Request}
-use Rattle.snap_frame.specs.declared.reply.Reply.{Reply}
+use Rattle.std.{specs.Io.KnownBytes.Appends, specs.Io.KnownBytes.Consumes, proofs.KnownBytes.Consumes-trans}
 use Rattle.snap_frame.specs.Messages.{payload, frame}
-use Rattle.snap_frame.specs.Stream.{Held}
-use Rattle.snap_client.specs.declared.fault.ClientFault.{ClientFault}
+use Rattle.snap_frame.specs.{declared.request.Request.Request, declared.reply.Reply.Reply, Stream.Held}
 use Rattle.snap_client.specs.declared.fault.ClientFault.TheVariants.{ConnectFailed, ReadFailed, WriteFailed, Ended}
 use Rattle.snap_client.specs.declared.fault.ClientFault.TheVariants.{BadReply, NoMemory}
 use Rattle.snap_client.specs.Calls.{ClientState, Answers, Reaches, Calls, client_of, talking, fault_of}
-use Rattle.snap_client.specs.Exchange.{Hears}
+use Rattle.snap_client.specs.{declared.fault.ClientFault.ClientFault, Exchange.Hears}
 
 module _ {R W : Type 0} (remaining : R → Option (List ℕ)) (contents : W → Option (List ℕ))
     (q : Request) (r0 r1 : R) (w0 w1 : W) (held : List ℕ) (feed : Held) (silent : held ≡ [])

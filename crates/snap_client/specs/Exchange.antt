@@ -1,10 +1,9 @@
 -- The writes and reads of one exchange.
-use Rattle.std.specs.Prelude.{◌≡◌, ℕ, ◌<◌, ◌⊎◌, List, ◌++◌, length, take, Bool, true, false, Option, None, Result}
-use Rattle.std.specs.Prelude.{Ok, Err}
+use Rattle.std.specs.Prelude.{◌≡◌, ℕ, ◌<◌, ◌⊎◌, List, ◌++◌, length, take, Bool, true, false, Option, None, Result, Ok}
+use Rattle.std.specs.Prelude.{Err}
 use Rattle.std.specs.Io.KnownBytes.{Appends, Consumes, IsAtEnd}
-use Rattle.snap_frame.specs.declared.reply.Reply.{Reply}
-use Rattle.snap_frame.specs.Messages.{Says, SaysNothing}
 use Rattle.snap_frame.specs.Stream.{Held, HasFrame, HasLongLength, IsPartial}
+use Rattle.snap_frame.specs.{declared.reply.Reply.Reply, Messages.Says, Messages.SaysNothing}
 use Rattle.snap_client.specs.declared.fault.ClientFault.{ClientFault}
 use Rattle.snap_client.specs.declared.fault.ClientFault.TheVariants.{ConnectFailed, ReadFailed, WriteFailed, Ended}
 use Rattle.snap_client.specs.declared.fault.ClientFault.TheVariants.{BadReply, NoMemory}

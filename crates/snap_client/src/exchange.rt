@@ -1,10 +1,9 @@
 //! The two halves of an exchange: writing a whole frame, and reading a reply.
 ghost use Rattle.std.specs.Prelude.{◌≡◌, ◌≤◌, ◌↔◌, IsTrue, length, Option, None, OnOk};
-ghost use Rattle.snap_client.specs.declared.fault.ClientFault.{ClientFault};
+ghost use Rattle.snap_client.specs.Calls.{Answers, Reaches, client_of, talking};
+ghost use Rattle.snap_client.specs.{declared.fault.ClientFault.ClientFault, Exchange.Sends, Exchange.Hears};
 ghost use Rattle.snap_frame.specs.Messages.{max_payload, payload, IsAskable};
 ghost use Rattle.snap_frame.specs.Stream.{empty, IsBytes};
-ghost use Rattle.snap_client.specs.Calls.{Answers, Reaches, client_of, talking};
-ghost use Rattle.snap_client.specs.Exchange.{Sends, Hears};
 
 use crate::fault::ClientFault;
 use bytes::BytesMut;

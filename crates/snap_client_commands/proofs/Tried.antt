@@ -1,17 +1,14 @@
 -- The connections and the answer after some tries.
 use Rattle.std.proofs.Common.{◌≡◌, ℕ, zero, suc, ◌+◌, ◌^◌, ◌<◌, List, All, Option, Result, Ok, Err, IfOk, inl, inr}
 use Rattle.std.proofs.Common.{Some, None, get_or, refl, arith, subst, sym}
-use Rattle.std.proofs.lemmas.List.Elements.{All-get_or}
-use Rattle.std.proofs.lemmas.Option.{get_or_from_slice_get, slice_get_within}
-use denote.Param.Always.{always_mut, mut_next}
-use denote.Param.Members.{Mut, Called}
+use Rattle.std.proofs.lemmas.{List.Elements.All-get_or, Option.get_or_from_slice_get, Option.slice_get_within}
 use Rattle.snap_frame.specs.Messages.{IsInLimits, IsStatus}
-use Rattle.snap_frame.specs.declared.entries.SegmentStatus.{SegmentStatus}
-use Rattle.snap_frame.specs.declared.request.Request.{Request}
-use Rattle.snap_frame.specs.declared.reply.Reply.{Reply}
+use Rattle.snap_frame.specs.declared.{entries.SegmentStatus.SegmentStatus, request.Request.Request, reply.Reply.Reply}
 use Rattle.snap_client.specs.declared.fault.ClientFault.{ClientFault}
 use Rattle.snap_client.specs.Again.{Tries, TriesUpTo, TriesIn}
 use Rattle.snap_client_commands.specs.Puts.{TellsNumber}
+use denote.Param.Always.{always_mut, mut_next}
+use denote.Param.Members.{Mut, Called}
 
 module _ {F R W : Type 0} (connects : F → Option (R × W) → F → Type 0) (remaining : R
     → Option (List ℕ)) (contents : W → Option (List ℕ)) (q : Request) where

@@ -1,10 +1,9 @@
 -- A set with one more segment.
-use Rattle.std.proofs.Common.{◌≡◌, ◌↔◌, ◌∙◌, ℕ, zero, suc, ◌*◌, ◌%◌, ◌^◌, ◌<◌, List, [], ◌∷◌, ◌++◌, Contains}
-use Rattle.std.proofs.Common.{bit_or, arith, inl, inr, refl, subst, sym, w16}
-use Rattle.std.specs.Int.{bit_at}
-use Rattle.std.proofs.lemmas.Bool.{cases_eq}
+use Rattle.std.proofs.Common.{◌≡◌, ◌↔◌, ◌∙◌, ℕ, zero, suc, ◌*◌, ◌%◌, ◌^◌, ◌<◌, List, [], ◌∷◌, ◌++◌, Contains, bit_or}
+use Rattle.std.proofs.Common.{arith, inl, inr, refl, subst, sym, w16}
 use Rattle.std.proofs.lemmas.List.Elements.{Contains-append_cases, Contains-append_left, Contains-append_right}
 use Rattle.std.proofs.lemmas.Nat.Bits.{bit_at-zero, bit_at_set_other, bit_at_set_same}
+use Rattle.std.{specs.Int.bit_at, proofs.lemmas.Bool.cases_eq}
 use Rattle.snap_frame.specs.Sets.{Names}
 
 -- the bits with that of segment s added

@@ -1,24 +1,19 @@
 -- How a call ends.
-use Rattle.std.specs.Prelude.{◌≡◌, ◌⊎◌, ℕ, List, length, slice_get, Option, Some, None, Result, Ok, Err}
-use Rattle.std.specs.Prelude.{true, if◌then◌else◌}
+use Rattle.std.specs.Prelude.{◌≡◌, ◌⊎◌, ℕ, List, length, slice_get, Option, Some, None, Result, Ok, Err, true}
+use Rattle.std.specs.Prelude.{if◌then◌else◌}
 use Rattle.std.specs.Io.KnownBytes.{Appends, Keeps}
 use Rattle.snap_client.specs.Again.{TriesIn}
-use Rattle.snap_client.specs.declared.fault.ClientFault.{ClientFault}
-use Rattle.snap_client.specs.declared.fault.ClientFault.TheVariants.{NoMemory}
+use Rattle.snap_client.specs.declared.fault.ClientFault.{ClientFault, TheVariants.NoMemory}
 use Rattle.snap_frame.specs.declared.named.NamedValue.{NamedValue}
-use Rattle.snap_frame.specs.declared.reply.Reply.{Reply}
-use Rattle.snap_frame.specs.declared.reply.Reply.TheVariants.{Refused, Stored}
-use Rattle.snap_frame.specs.declared.reply.Reply.TheVariants as reply
-use Rattle.snap_order.specs.Order.{request_of}
-use Rattle.snap_order.specs.declared.order.CallOptions.{CallOptions}
-use Rattle.snap_order.specs.declared.order.OutputFormat.{OutputFormat}
-use Rattle.snap_order.specs.declared.order.CallRequest.{CallRequest}
+use Rattle.snap_frame.specs.declared.reply.Reply.{Reply, TheVariants.Refused, TheVariants.Stored}
 use Rattle.snap_order.specs.declared.order.CallRequest.TheVariants.{Get, Health}
-use Rattle.snap_order.specs.declared.status.Status.{Status}
-use Rattle.snap_order.specs.declared.status.Exit.{Exit}
-use Rattle.snap_order.specs.declared.status.Status.TheVariants as status
+use Rattle.snap_order.specs.Order.{request_of}
+use Rattle.snap_order.specs.declared.order.{CallOptions.CallOptions, OutputFormat.OutputFormat, CallRequest.CallRequest}
+use Rattle.snap_order.specs.declared.status.{Status.Status, Exit.Exit}
 use Rattle.snap_stream.specs.Streams.{AppendsBeginning}
 use Rattle.snap_client_commands.specs.Text.{Shows, is_any_fenced, stored_line}
+use Rattle.snap_frame.specs.declared.reply.Reply.TheVariants as reply
+use Rattle.snap_order.specs.declared.status.Status.TheVariants as status
 
 -- the server or this program refused, or memory ran out
 abbrev pub IsRefused : Exit → Type 0

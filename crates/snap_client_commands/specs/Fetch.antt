@@ -1,15 +1,11 @@
 -- How the values of a server are fetched, and how the program ends without them.
 use Rattle.std.specs.Prelude.{◌≡◌, ℕ, List, Option, Result, Ok, Err}
-use Rattle.std.specs.declared.vec.Vec.{Vec}
-use Rattle.std.specs.declared.alloc.Global.{Global}
+use Rattle.std.specs.declared.{vec.Vec.Vec, alloc.Global.Global}
 use Rattle.snap_client.specs.Again.{TriesIn}
-use Rattle.snap_client.specs.declared.fault.ClientFault.{ClientFault}
-use Rattle.snap_client.specs.declared.fault.ClientFault.TheVariants.{NoMemory}
+use Rattle.snap_client.specs.declared.fault.ClientFault.{ClientFault, TheVariants.NoMemory}
 use Rattle.snap_frame.specs.segment_value.SegmentValue.{SegmentValue}
-use Rattle.snap_frame.specs.declared.reply.Reply.{Reply}
-use Rattle.snap_frame.specs.declared.reply.Reply.TheVariants.{Refused, Snapshot}
-use Rattle.snap_order.specs.request.Request.TheVariants.{Scan}
-use Rattle.snap_order.specs.declared.status.Exit.{Exit}
+use Rattle.snap_frame.specs.declared.reply.Reply.{Reply, TheVariants.Refused, TheVariants.Snapshot}
+use Rattle.snap_order.specs.{request.Request.TheVariants.Scan, declared.status.Exit.Exit}
 use Rattle.snap_client_commands.specs.Ends.{HasFailed, IsRefused}
 
 -- how the program ends after an answer without values

@@ -1,26 +1,20 @@
 -- The requests of a put, and how it ends.
-use Rattle.std.specs.Prelude.{◌≡◌, ◌⊎◌, ℕ, ◌+◌, ◌<◌, ◌≤◌, List, length, slice_get, Option, Some, None, IfSome}
-use Rattle.std.specs.Prelude.{Result, Ok}
+use Rattle.std.specs.Prelude.{◌≡◌, ◌⊎◌, ℕ, ◌+◌, ◌<◌, ◌≤◌, List, length, slice_get, Option, Some, None, IfSome, Result}
+use Rattle.std.specs.Prelude.{Ok}
 use Rattle.std.specs.Io.KnownBytes.{Keeps}
-use Rattle.snap_client.specs.Again.{TriesIn}
-use Rattle.snap_client.specs.declared.fault.ClientFault.{ClientFault}
-use Rattle.snap_frame.specs.declared.entries.SegmentStatus.{SegmentStatus}
-use Rattle.snap_frame.specs.declared.reply.Reply.{Reply}
-use Rattle.snap_frame.specs.declared.reply.Reply.TheVariants as reply
-use Rattle.snap_order.specs.Limits.{MAX_VALUE_LEN}
+use Rattle.snap_client.specs.{Again.TriesIn, declared.fault.ClientFault.ClientFault}
+use Rattle.snap_frame.specs.declared.{entries.SegmentStatus.SegmentStatus, reply.Reply.Reply}
 use Rattle.snap_order.specs.request.Request.TheVariants.{Status, Update}
-use Rattle.snap_order.specs.declared.order.OutputFormat.{OutputFormat}
-use Rattle.snap_order.specs.declared.order.OutputFormat.TheVariants.{Lines}
-use Rattle.snap_order.specs.declared.order.PutOptions.{PutOptions}
-use Rattle.snap_order.specs.declared.order.CallRequest.{CallRequest}
-use Rattle.snap_order.specs.declared.order.CallRequest.TheVariants as question
-use Rattle.snap_order.specs.declared.order.Source.{Source}
-use Rattle.snap_order.specs.declared.order.Source.TheVariants as source
-use Rattle.snap_order.specs.declared.status.Exit.{Exit}
+use Rattle.snap_order.specs.{Limits.MAX_VALUE_LEN, declared.order.Source.Source, declared.status.Exit.Exit}
+use Rattle.snap_order.specs.{declared.order.OutputFormat.OutputFormat, declared.order.OutputFormat.TheVariants.Lines}
+use Rattle.snap_order.specs.{declared.order.PutOptions.PutOptions, declared.order.CallRequest.CallRequest}
 use Rattle.snap_stream.specs.Streams.{Had}
 use Rattle.snap_client_commands.specs.Ends.{Asks, EndsAsked, HasFailed, IsRefused}
 use Rattle.snap_client_commands.specs.declared.put.NoValue.{NoValue}
 use Rattle.snap_client_commands.specs.declared.put.NoValue.TheVariants.{TooLong, Failed, NoMemory}
+use Rattle.snap_frame.specs.declared.reply.Reply.TheVariants as reply
+use Rattle.snap_order.specs.declared.order.CallRequest.TheVariants as question
+use Rattle.snap_order.specs.declared.order.Source.TheVariants as source
 
 -- the value of a put: all bytes of standard input, if a value may have that many, or those of the
 -- argument

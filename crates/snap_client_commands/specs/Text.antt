@@ -1,18 +1,13 @@
 -- The lines of a stored number and of the values and statuses of a reply (docs/FORMATS.md).
 use Rattle.std.specs.Prelude.{◌≡◌, ℕ, Bool, true, false, List, [], ◌∷◌, ◌++◌, codes, flat_map}
-use Rattle.std.specs.List.{list_any}
-use Rattle.std.specs.Fmt.{decimal}
-use Rattle.snap_frame.specs.declared.reply.Reply.{Reply}
+use Rattle.std.specs.{List.list_any, Fmt.decimal}
 use Rattle.snap_frame.specs.declared.reply.Reply.TheVariants.{Snapshot, Part, Status}
-use Rattle.snap_frame.specs.segment_value.SegmentValue.{SegmentValue}
-use Rattle.snap_frame.specs.declared.entries.SegmentStatus.{SegmentStatus}
-use Rattle.snap_frame.specs.declared.named.NamedValue.{NamedValue}
+use Rattle.snap_frame.specs.{declared.reply.Reply.Reply, segment_value.SegmentValue.SegmentValue}
+use Rattle.snap_frame.specs.{declared.entries.SegmentStatus.SegmentStatus, declared.named.NamedValue.NamedValue}
 use Rattle.snap_stream.specs.Hex.{hex_text}
 use Rattle.snap_json.specs.Each.{each_from}
-use Rattle.snap_order.specs.declared.order.OutputFormat.{OutputFormat}
-use Rattle.snap_order.specs.declared.order.OutputFormat.TheVariants.{Lines}
-use Rattle.snap_order.specs.declared.order.CallRequest.{CallRequest}
-use Rattle.snap_order.specs.declared.order.CallRequest.TheVariants.{Health}
+use Rattle.snap_order.specs.declared.order.{OutputFormat.OutputFormat, OutputFormat.TheVariants.Lines}
+use Rattle.snap_order.specs.declared.order.{CallRequest.CallRequest, CallRequest.TheVariants.Health}
 
 -- a text with a line feed at its end
 abbrev pub line : List ℕ → List ℕ

@@ -1,11 +1,8 @@
 -- The state of a storer.
 use Rattle.std.specs.Prelude.{◌≡◌, ◌⊎◌, ℕ, Bool, true, false, Option, Some, None, is_some}
 use Rattle.snap_memory.specs.Seat.{own_of}
-use Rattle.snap_service.specs.Writer.{WriterState, number_of}
-use Rattle.snap_service.specs.Updated.{IsUpdated}
-use Rattle.snap_service.specs.Counted.{next_count}
-use Rattle.snap_desk.specs.declared.writer_status.WriterStatus.{WriterStatus}
-use Rattle.snap_desk.specs.Came.{Came}
+use Rattle.snap_service.specs.{Writer.WriterState, Writer.number_of, Updated.IsUpdated, Counted.next_count}
+use Rattle.snap_desk.specs.{declared.writer_status.WriterStatus.WriterStatus, Came.Came}
 use Rattle.snap_disk.specs.declared.disk.Disk as Disk
 
 -- the status has the writer's segment, its number, and whether it is fenced

@@ -1,13 +1,10 @@
 -- The reply by an outcome.
 use Rattle.std.specs.Prelude.{◌≡◌, ℕ, ◌<◌, List}
-use Rattle.snap_memory.specs.Rule.{segments}
-use Rattle.snap_memory.specs.Seat.{own_of}
-use Rattle.snap_frame.specs.declared.request.Request.{Request}
-use Rattle.snap_frame.specs.declared.request.Request.TheVariants as request
-use Rattle.snap_frame.specs.declared.reply.Reply.{Reply}
-use Rattle.snap_service.specs.Writer.{number_of}
-use Rattle.snap_service.specs.Settled.{reply_of}
+use Rattle.snap_memory.specs.{Rule.segments, Seat.own_of}
+use Rattle.snap_frame.specs.declared.{request.Request.Request, reply.Reply.Reply}
+use Rattle.snap_service.specs.{Writer.number_of, Settled.reply_of}
 use Rattle.snap_desk.specs.Came.{Came}
+use Rattle.snap_frame.specs.declared.request.Request.TheVariants as request
 
 -- the outcome belongs to an update of segment i to number k and value v
 pub record IsOutcomeOf {D : Type 0} (came : Came D) (i k : ℕ) (v : List ℕ) : Type 0 where

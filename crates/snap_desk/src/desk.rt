@@ -2,18 +2,9 @@
 ghost use Rattle.std.specs.Prelude.{◌≡◌, ℕ, ◌<◌, IfOk, IfSome, IfNone, length};
 ghost use Rattle.snap_memory.specs.Rule.{segments};
 ghost use Rattle.snap_frame.specs.Messages.{IsInLimits};
-ghost use Rattle.snap_service.specs.Memory.{IsOf};
-ghost use Rattle.snap_desk.specs.Handover.{HasHanded};
-ghost use Rattle.snap_desk.specs.Job.{job_of};
-ghost use Rattle.snap_desk.specs.Tells.{TellsUpdate};
-ghost use Rattle.snap_service.specs.Counted.{LooksOnce};
-ghost use Rattle.snap_service.specs.Answers.{
-  Answers,
-  AnswersUpdate,
-  AnswersScan,
-  AnswersPart,
-  AnswersStatus,
-};
+ghost use Rattle.snap_service.specs.Answers.{Answers, AnswersUpdate, AnswersScan, AnswersPart, AnswersStatus};
+ghost use Rattle.snap_service.specs.{Memory.IsOf, Counted.LooksOnce};
+ghost use Rattle.snap_desk.specs.{Handover.HasHanded, Job.job_of, Tells.TellsUpdate};
 
 use crate::job::Requested;
 use crate::outbox::{Outbox, Sent, StorerHandle};
@@ -46,8 +37,7 @@ pub struct Desk<R: Wait + Copy, M: Memory, D: Disk + Drop> {
 
 impl<R: Wait + Copy, M: Memory, D: Disk + Drop> Model for Desk<R, M, D> {
     ghost use Rattle.std.specs.Prelude.{◌≡◌, length};
-    ghost use Rattle.snap_memory.specs.Rule.{segments};
-    ghost use Rattle.snap_memory.specs.Seat.{Known};
+    ghost use Rattle.snap_memory.specs.{Rule.segments, Seat.Known};
     ghost use Rattle.snap_service.specs.Memory.{IsOf};
 
     ghost Value = { Known };
@@ -196,9 +186,7 @@ impl<R: Wait + Copy + Clock, M: Memory, D: Disk + Drop> Desk<R, M, D> {
 }
 
 impl<R: Wait + Copy + Clock, M: Memory, D: Disk + Drop> Service for Desk<R, M, D> {
-    ghost use Rattle.snap_service.specs.Answers.{Answers};
-    ghost use Rattle.snap_service.specs.Counted.{TakesFewLooks};
-    ghost use Rattle.snap_service.specs.Memory.{number_of};
+    ghost use Rattle.snap_service.specs.{Answers.Answers, Counted.TakesFewLooks, Memory.number_of};
     ghost use Rattle.snap_desk.specs.Tells.{Tells};
 
     type Outcome = Outcome<R, M, D>;

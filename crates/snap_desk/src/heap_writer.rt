@@ -2,10 +2,8 @@
 ghost use Rattle.std.specs.Prelude.{◌≡◌, IfOk};
 ghost use Rattle.snap_frame.specs.Limits.{IsShort};
 ghost use Rattle.snap_memory.specs.Seat.{own_of};
-ghost use Rattle.snap_service.specs.Asked.{StoresAsked};
-ghost use Rattle.snap_service.specs.Memory.{IsOf};
-ghost use Rattle.snap_service.specs.Settled.{IsTellable};
 ghost use Rattle.snap_service.specs.Updated.{IsUpdated, RepliesTold};
+ghost use Rattle.snap_service.specs.{Asked.StoresAsked, Memory.IsOf, Settled.IsTellable};
 
 use snap_disk::{Disk, Refusal};
 use snap_frame::Reply;
@@ -26,9 +24,7 @@ pub struct HeapWriter<M: Memory, D: Disk + Drop> {
 }
 
 impl<M: Memory, D: Disk + Drop> Model for HeapWriter<M, D> {
-    ghost use Rattle.snap_service.specs.Asked.{StoresAsked};
-    ghost use Rattle.snap_service.specs.Memory.{IsOf};
-    ghost use Rattle.snap_service.specs.Writer.{WriterState};
+    ghost use Rattle.snap_service.specs.{Asked.StoresAsked, Memory.IsOf, Writer.WriterState};
 
     ghost Value = { WriterState D };
 

@@ -1,9 +1,7 @@
 //! The outbox: a worker's sending side of the channels to the storers.
 ghost use Rattle.std.specs.Prelude.{◌≡◌, ◌<◌, length, All, IfOk, IfSome, IfNone};
-ghost use Rattle.snap_frame.specs.Limits.{IsShort};
-ghost use Rattle.snap_frame.specs.Messages.{IsStatus};
-ghost use Rattle.snap_desk.specs.Handover.{HasHanded};
-ghost use Rattle.snap_desk.specs.Job.{job_of};
+ghost use Rattle.snap_frame.specs.{Limits.IsShort, Messages.IsStatus};
+ghost use Rattle.snap_desk.specs.{Handover.HasHanded, Job.job_of};
 
 use crate::job::{Job, Requested};
 use crate::writer_status::status_in;

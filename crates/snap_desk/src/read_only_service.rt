@@ -2,9 +2,8 @@
 ghost use Rattle.std.specs.Prelude.{◌≡◌, ◌<◌, All, IfOk, length};
 ghost use Rattle.snap_frame.specs.Messages.{IsAskable, IsInLimits, IsStatus};
 ghost use Rattle.snap_memory.specs.Rule.{segments};
-ghost use Rattle.snap_service.specs.Memory.{IsOf};
 ghost use Rattle.snap_service.specs.Answers.{Answers, AnswersPart, AnswersStatus, AnswersUpdate};
-ghost use Rattle.snap_service.specs.Counted.{LooksOnce, TakesFewLooks};
+ghost use Rattle.snap_service.specs.{Memory.IsOf, Counted.LooksOnce, Counted.TakesFewLooks};
 
 use crate::writer_status::status_in;
 use snap_disk::Refusal;
@@ -33,8 +32,7 @@ pub struct ReadOnlyService<M: Memory> {
 
 impl<M: Memory> Model for ReadOnlyService<M> {
     ghost use Rattle.std.specs.Prelude.{◌≡◌, length};
-    ghost use Rattle.snap_memory.specs.Rule.{segments};
-    ghost use Rattle.snap_memory.specs.Seat.{Known};
+    ghost use Rattle.snap_memory.specs.{Rule.segments, Seat.Known};
     ghost use Rattle.snap_service.specs.Memory.{IsOf};
 
     ghost Value = { Known };
@@ -133,8 +131,7 @@ impl<M: Memory> ReadOnlyService<M> {
 }
 
 impl<M: Memory> Service for ReadOnlyService<M> {
-    ghost use Rattle.snap_service.specs.Answers.{Answers};
-    ghost use Rattle.snap_service.specs.Counted.{TakesFewLooks};
+    ghost use Rattle.snap_service.specs.{Answers.Answers, Counted.TakesFewLooks};
 
     type Outcome = ();
 

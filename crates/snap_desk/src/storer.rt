@@ -2,9 +2,7 @@
 ghost use Rattle.std.specs.Prelude.{◌≡◌, IfOk, IfSome, IfNone, Some, None};
 ghost use Rattle.snap_frame.specs.Limits.{IsNumber};
 ghost use Rattle.snap_memory.specs.Seat.{own_of};
-ghost use Rattle.snap_service.specs.Asked.{StoresAsked};
-ghost use Rattle.snap_service.specs.Memory.{IsOf};
-ghost use Rattle.snap_service.specs.Updated.{IsUpdated};
+ghost use Rattle.snap_service.specs.{Asked.StoresAsked, Memory.IsOf, Updated.IsUpdated};
 ghost use Rattle.snap_desk.specs.Storer.{IsNew, IsTaken, IsIdle, StandsAt, StoresOne};
 
 use crate::heap_writer::HeapWriter;

@@ -1,13 +1,10 @@
 //! Writers on loan, and the outcomes of updates.
 ghost use Rattle.std.specs.Prelude.{◌≡◌, ℕ, List, true, false};
-ghost use Rattle.snap_frame.specs.Limits.{IsNumber, IsShort};
+ghost use Rattle.snap_frame.specs.{Limits.IsNumber, Limits.IsShort, Messages.IsInLimits};
 ghost use Rattle.snap_memory.specs.Seat.{Meets, own_of};
-ghost use Rattle.snap_frame.specs.Messages.{IsInLimits};
-ghost use Rattle.snap_service.specs.Writer.{number_of};
-ghost use Rattle.snap_service.specs.Memory.{IsOf};
 ghost use Rattle.snap_service.specs.Settled.{IsSettledAt, IsTellable, reply_of};
-ghost use Rattle.snap_desk.specs.Came.{Came};
-ghost use Rattle.snap_desk.specs.Storer.{StandsAt};
+ghost use Rattle.snap_service.specs.{Writer.number_of, Memory.IsOf};
+ghost use Rattle.snap_desk.specs.{Came.Came, Storer.StandsAt};
 
 use crate::heap_writer::HeapWriter;
 use crate::job::Job;

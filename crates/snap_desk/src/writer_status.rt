@@ -1,7 +1,6 @@
 //! The status of a writer, and its form in one word.
 ghost use Rattle.std.specs.Prelude.{◌≡◌, ◌+◌, ◌*◌, true, false};
-ghost use Rattle.snap_frame.specs.Limits.{IsNumber};
-ghost use Rattle.snap_frame.specs.Messages.{IsStatus};
+ghost use Rattle.snap_frame.specs.{Limits.IsNumber, Messages.IsStatus};
 ghost use Rattle.snap_desk.specs.Storer.{StandsAt};
 
 use snap_disk::Disk;

@@ -1,12 +1,10 @@
 -- One call more.
 use Rattle.std.proofs.Common.{◌≡◌, inl, inr, ⊎_elim, ℕ, List, ◌∷◌, length, sym, ◌∙◌, arith, replicate, ◌++◌}
-use Rattle.std.proofs.Common.{length-append}
-use Rattle.std.proofs.Common.{length-take}
+use Rattle.std.proofs.Common.{length-append, length-take}
 use Rattle.std.proofs.lemmas.List.{length-replicate}
 use Rattle.snap_disk.specs.Device.{Elapses}
 use Rattle.snap_devices.specs.CallLog.{fit, device_after, IsHonestCall, IsHonestLog, LeftSince}
-use Rattle.snap_devices.specs.Story.{Story}
-use Rattle.snap_devices.specs.declared.call.Call.{Call}
+use Rattle.snap_devices.specs.{Story.Story, declared.call.Call.Call}
 
 pub length_fit : (len : ℕ) (bytes : List ℕ) → length (fit len bytes) ≡ len
 unfolding fit

@@ -1,9 +1,7 @@
 -- One more image in the past of a device.
 use Rattle.std.proofs.Common.{◌≡◌, inl, inr, ⊎_elim, List, ◌∷◌, length, arith}
-use Rattle.snap_disk.specs.Device.{Device, Elapses}
-use Rattle.snap_disk.specs.Image.{image_device}
+use Rattle.snap_disk.specs.{Device.Device, Device.Elapses, Image.image_device, declared.image.Image.Image}
 use Rattle.snap_devices.specs.Past.{LeftFrom}
-use Rattle.snap_disk.specs.declared.image.Image.{Image}
 
 pub elapses_then : (image : Image) (past past' : List Image) (new : Device) → past' ≡ image ∷ past
     → Elapses (length past) (length past') (LeftFrom (image_device image) past)

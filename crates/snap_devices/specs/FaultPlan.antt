@@ -2,8 +2,7 @@
 use Rattle.std.specs.Prelude.{ℕ, nat_lt, ◌==◌, if◌then◌else◌, List, find, Option, Some, None}
 use Rattle.std.specs.Option.{option_map}
 use Rattle.snap_disk.specs.declared.fill.Fill.{Fill}
-use Rattle.snap_devices.specs.declared.fault_plan.Fault.{Fault}
-use Rattle.snap_devices.specs.declared.fault_plan.FaultPlan.{FaultPlan}
+use Rattle.snap_devices.specs.declared.fault_plan.{Fault.Fault, FaultPlan.FaultPlan}
 
 abbrev pub planned_faults : FaultPlan → List Fault
 planned_faults plan = plan.faults.items

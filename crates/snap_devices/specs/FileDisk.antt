@@ -1,9 +1,7 @@
 -- An open file as a device, and before its first call.
 use Rattle.std.specs.Prelude.{◌≡◌, ℕ, List, []}
 use Rattle.snap_disk.specs.Device.{Device}
-use Rattle.snap_devices.specs.CallLog.{device_after}
-use Rattle.snap_devices.specs.Story.{Story}
-use Rattle.snap_devices.specs.declared.file.FileOf.{FileOf}
+use Rattle.snap_devices.specs.{CallLog.device_after, Story.Story, declared.file.FileOf.FileOf}
 
 -- by which path it was opened
 abbrev pub file_path : {R S : Type 0} → FileOf R S → List ℕ

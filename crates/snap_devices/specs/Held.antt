@@ -1,8 +1,6 @@
 -- How long the first write of a held device waits.
 use Rattle.std.specs.Prelude.{ℕ, ◌≡◌, ◌≤◌, ◌↔◌, Option}
-use Rattle.snap_devices.specs.declared.held.Held.{Held}
-use Rattle.snap_devices.specs.declared.held.Waited.{Waited}
-use Rattle.snap_devices.specs.declared.memory.MemDisk.{MemDisk}
+use Rattle.snap_devices.specs.declared.{held.Held.Held, held.Waited.Waited, memory.MemDisk.MemDisk}
 
 abbrev pub held_disk : Held → MemDisk
 held_disk held = held.disk

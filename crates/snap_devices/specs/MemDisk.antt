@@ -1,12 +1,7 @@
 -- The plan, the calls and the images of a device in memory.
 use Rattle.std.specs.Prelude.{ℕ, ◌+◌, ◌-◌, ◌^◌, min, List, length, Option}
-use Rattle.snap_disk.specs.Device.{Device}
-use Rattle.snap_devices.specs.FaultPlan.{planned_fill}
-use Rattle.snap_disk.specs.Image.{image_device}
-use Rattle.snap_devices.specs.Past.{LeftFrom}
-use Rattle.snap_disk.specs.declared.fill.Fill.{Fill}
-use Rattle.snap_devices.specs.declared.fault_plan.FaultPlan.{FaultPlan}
-use Rattle.snap_disk.specs.declared.image.Image.{Image}
+use Rattle.snap_disk.specs.{Device.Device, Image.image_device, declared.fill.Fill.Fill, declared.image.Image.Image}
+use Rattle.snap_devices.specs.{FaultPlan.planned_fill, Past.LeftFrom, declared.fault_plan.FaultPlan.FaultPlan}
 use Rattle.snap_devices.specs.declared.memory.MemDisk.{MemDisk}
 
 abbrev pub memory_device : MemDisk → Device

@@ -1,8 +1,6 @@
 //! A device whose first write waits for a flag, for tests of what a blocked store delays.
-ghost use Rattle.std.specs.Prelude.{◌≡◌, ◌+◌, ◌-◌, ◌^◌, ◌<◌, ◌≤◌, ◌↔◌, length, None, Some};
-ghost use Rattle.std.specs.Prelude.{IsErr, IsSome, OnOk};
-ghost use Rattle.snap_devices.specs.Held.{IsWait};
-ghost use Rattle.snap_devices.specs.declared.held.Waited.{Waited};
+ghost use Rattle.std.specs.Prelude.{◌≡◌, ◌+◌, ◌-◌, ◌^◌, ◌<◌, ◌≤◌, ◌↔◌, length, None, Some, IsErr, IsSome, OnOk};
+ghost use Rattle.snap_devices.specs.{Held.IsWait, declared.held.Waited.Waited};
 
 use crate::MemDisk;
 use snap_disk::{DeviceFault, Disk};
@@ -90,9 +88,8 @@ fn wait_for(flag: &AtomicU64, turns: u64) -> Waited
 impl Disk for Held {
     ghost use Rattle.snap_disk.specs.Device.{part, CountsFailure, Elapses, IsTouched};
     ghost use Rattle.snap_devices.specs.Held.{held_disk, held_turns, held_waited};
-    ghost use Rattle.snap_devices.specs.MemDisk.{memory_device, memory_failures, memory_calls};
-    ghost use Rattle.snap_devices.specs.MemDisk.{memory_clock, memory_left, memory_plan};
-    ghost use Rattle.snap_devices.specs.MemDisk.{next_call, next_fill};
+    ghost use Rattle.snap_devices.specs.MemDisk.{memory_device, memory_failures, memory_calls, memory_clock};
+    ghost use Rattle.snap_devices.specs.MemDisk.{memory_left, memory_plan, next_call, next_fill};
     ghost use Rattle.snap_devices.specs.Past.{only_left_now};
     ghost use Rattle.std.proofs.Common.{inl};
 

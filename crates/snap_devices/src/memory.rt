@@ -23,12 +23,10 @@ pub struct MemDisk {
 
 impl MemDisk {
     ghost use Rattle.snap_disk.specs.Device.{Device, IsSettled, MayLeave};
-    ghost use Rattle.snap_disk.specs.Fill.{IsFilled};
-    ghost use Rattle.snap_devices.specs.FaultPlan.{planned_fill};
-    ghost use Rattle.snap_disk.specs.Image.{image_device};
-    ghost use Rattle.snap_devices.specs.declared.memory.MemDisk.{MemDisk};
-    ghost use Rattle.snap_devices.specs.MemDisk.{memory_device, memory_plan, memory_calls};
-    ghost use Rattle.snap_devices.specs.MemDisk.{memory_failures, memory_image, memory_past};
+    ghost use Rattle.snap_disk.specs.{Fill.IsFilled, Image.image_device};
+    ghost use Rattle.snap_devices.specs.MemDisk.{memory_device, memory_plan, memory_calls, memory_failures};
+    ghost use Rattle.snap_devices.specs.MemDisk.{memory_image, memory_past};
+    ghost use Rattle.snap_devices.specs.{FaultPlan.planned_fill, declared.memory.MemDisk.MemDisk};
 
     /// A device of this image, none of whose calls fails.
     pub fn new(alloc: Global, image: Image) -> MemDisk
@@ -103,12 +101,11 @@ impl MemDisk {
 
 #[tactic(auto, using(crate::proofs::Remembered::elapses_then))]
 impl Disk for MemDisk {
-    ghost use Rattle.snap_disk.specs.Device.{in_range, part, CountsFailure, Elapses};
-    ghost use Rattle.snap_disk.specs.Device.{IsUnchanged, IsTouched, IsSynced, IsUnsynced};
+    ghost use Rattle.snap_disk.specs.Device.{in_range, part, CountsFailure, Elapses, IsUnchanged, IsTouched, IsSynced};
+    ghost use Rattle.snap_disk.specs.Device.{IsUnsynced};
     ghost use Rattle.snap_disk.specs.Fill.{IsFilled};
-    ghost use Rattle.snap_devices.specs.MemDisk.{memory_device, memory_plan, memory_calls};
-    ghost use Rattle.snap_devices.specs.MemDisk.{memory_failures, memory_clock, memory_left};
-    ghost use Rattle.snap_devices.specs.MemDisk.{next_call, next_fill};
+    ghost use Rattle.snap_devices.specs.MemDisk.{memory_device, memory_plan, memory_calls, memory_failures};
+    ghost use Rattle.snap_devices.specs.MemDisk.{memory_clock, memory_left, next_call, next_fill};
 
     ghost device = { memory_device };
 

@@ -1,13 +1,9 @@
 -- For any bytes that the model allows there is a fill that leaves them.
 use Rattle.std.proofs.Common.{◌≡◌, ℕ, ◌^◌, ◌<◌, Bool, true, false, List, length, refl, sym, ◌∙◌, arith, slice_index}
-use Rattle.std.specs.Prelude.{◌||◌, if◌then◌else◌}
-use Rattle.std.specs.Global.{Vec}
-use Rattle.std.proofs.lemmas.Bool.{or_parts}
-use Rattle.std.proofs.lemmas.Grind.{common_steps}
-use Rattle.snap_disk.specs.Device.{in_range}
-use Rattle.snap_disk.specs.Fill.{fill_byte, IsFilled}
+use Rattle.std.specs.{Prelude.◌||◌, Prelude.if◌then◌else◌, Global.Vec}
+use Rattle.std.proofs.lemmas.{Bool.or_parts, Grind.common_steps}
 use Rattle.snap_disk.specs.Fills.{SomeFill, AnyCrash, AnyFailedWrite, InsideAnyWrite}
-use Rattle.snap_disk.specs.declared.fill.Fill.TheVariants.{At}
+use Rattle.snap_disk.specs.{Device.in_range, Fill.fill_byte, Fill.IsFilled, declared.fill.Fill.TheVariants.At}
 use denote.RawPtr.{null_ptr}
 
 -- a vector with these items

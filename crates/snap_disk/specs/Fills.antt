@@ -2,8 +2,7 @@
 use Rattle.std.specs.Prelude.{◌≡◌, ℕ, ◌^◌, ◌<◌, Bool, List, length}
 use Rattle.std.specs.Global.{Vec}
 use Rattle.snap_disk.specs.Device.{Device, in_range, opened, MayLeave, DiffersWithin, IsTouched}
-use Rattle.snap_disk.specs.Fill.{IsFilled}
-use Rattle.snap_disk.specs.declared.fill.Fill.TheVariants.{At}
+use Rattle.snap_disk.specs.{Fill.IsFilled, declared.fill.Fill.TheVariants.At}
 
 -- the fill made of the bytes of new leads from old to new
 pub record SomeFill (is_touched : ℕ → Bool) (old new : List ℕ) : Type 0 where

@@ -1,21 +1,15 @@
 -- The files after a migration, in terms of the command.
 use Rattle.std.proofs.Common.{rules, ◌≡◌, ℕ, List, inl, inr, ap, refl, false, Result, Err}
-use Rattle.snap_disk.specs.Device.{Device, MayLeave}
-use Rattle.snap_disk.specs.Time.{LeavesOnly}
-use Rattle.snap_disk.specs.Laws.{started, weaker}
-use Rattle.snap_disk.specs.declared.disk.Disk as Disk
-use Rattle.snap_disk.specs.declared.refusal.Refusal.{Refusal}
 use Rattle.snap_disk.specs.declared.refusal.Refusal.TheVariants.{AlreadyFormatted, DeviceFailed, WrongFile}
-use Rattle.snap_slot.specs.Layout.{IsUnformatted}
-use Rattle.snap_slot.specs.States.{IsAtRest}
-use Rattle.snap_slot.specs.Old.{OldHead, OldHolds}
+use Rattle.snap_disk.specs.{Device.Device, Device.MayLeave, Time.LeavesOnly, Laws.started, Laws.weaker}
+use Rattle.snap_disk.specs.declared.refusal.Refusal.{Refusal}
+use Rattle.snap_slot.specs.{Layout.IsUnformatted, States.IsAtRest, Old.OldHead, Old.OldHolds}
 use Rattle.snap_segment.specs.Creation.{IsMadeOrLeft, new_file}
-use Rattle.snap_segment.specs.Migration.{IsPast}
-use Rattle.snap_segment.specs.Refusals.{IsMigrationRefusal}
-use Rattle.snap_segment.specs.declared.migration.Which.{Which}
 use Rattle.snap_segment.specs.declared.migration.Which.TheVariants.{Old, New}
+use Rattle.snap_segment.specs.{Migration.IsPast, Refusals.IsMigrationRefusal, declared.migration.Which.Which}
 use Rattle.snap_file_commands.specs.Migration.{IsMigrated, IsOldFile, MigrationKeeps, MigrationLeaves, MigrationReads}
 use Rattle.snap_file_commands.specs.declared.migration.MigrationFault.TheVariants.{OfFile}
+use Rattle.snap_disk.specs.declared.disk.Disk as Disk
 
 widened : (i n k : ℕ) (v : List ℕ) (old new : Device) → OldHead old.bytes i n
     → OldHolds old.bytes k v → (b : List ℕ) → IsMadeOrLeft i n k v new b

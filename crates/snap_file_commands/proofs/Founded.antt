@@ -1,20 +1,16 @@
 -- A file of a folder that was kept, or neither made nor kept.
 use Rattle.std.proofs.Common.{Bool, rules, ◌≡◌, ℕ, List, length, Ok, Err, inl, inr}
 use Rattle.snap_disk.specs.Device.{Device, IsUnchanged, MayLeave}
-use Rattle.snap_disk.specs.Laws.{then, unchanged_leaves}
-use Rattle.snap_disk.specs.declared.disk.Disk as Disk
-use Rattle.snap_disk.specs.declared.refusal.Refusal.{Refusal}
-use Rattle.snap_disk.specs.declared.refusal.Refusal.TheVariants as refusal
-use Rattle.snap_slot.specs.declared.layout.TheConstants.{FILE_LEN}
+use Rattle.snap_disk.specs.{Laws.then, Laws.unchanged_leaves, declared.refusal.Refusal.Refusal}
 use Rattle.snap_slot.specs.Layout.{Head, Holds, IsFormatted}
-use Rattle.snap_slot.specs.Findings.{IsNoOpening}
-use Rattle.snap_slot.specs.States.{IsAtRest}
-use Rattle.snap_segment.specs.Refusals.{IsOpenRefusal}
-use Rattle.snap_segment.specs.Open.{CountsFailed}
+use Rattle.snap_slot.specs.{declared.layout.TheConstants.FILE_LEN, Findings.IsNoOpening, States.IsAtRest}
+use Rattle.snap_segment.specs.{Refusals.IsOpenRefusal, Open.CountsFailed}
 use Rattle.snap_file_commands.specs.Commands.{End, CountsEnd}
 use Rattle.snap_file_commands.specs.Effects.{LeavesNoMore, StoreKeeps}
 use Rattle.snap_file_commands.specs.Foundation.{EndsFounding, EndsKeeping, HasKept, IsNotWhole, refusal_of_formatted}
 use Rattle.snap_file_commands.specs.declared.fault.CommandFault.TheVariants.{Refused, Output}
+use Rattle.snap_disk.specs.declared.disk.Disk as Disk
+use Rattle.snap_disk.specs.declared.refusal.Refusal.TheVariants as refusal
 
 -- an opening that was refused
 pub unopened_count : (why : Refusal) (old new : ℕ) → CountsFailed why old new

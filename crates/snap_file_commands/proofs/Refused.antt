@@ -1,13 +1,10 @@
 -- Why a command was refused, from the refusals that a segment answers.
 use Rattle.std.proofs.Common.{rules, ◌≡◌, ℕ, ◌-◌, ◌^◌, List, refl, Option, Err}
 use Rattle.std.specs.Io.KnownBytes.{Keeps}
-use Rattle.snap_disk.specs.Device.{Device}
-use Rattle.snap_disk.specs.declared.refusal.Refusal.{Refusal}
 use Rattle.snap_disk.specs.declared.refusal.Refusal.TheVariants.{TooLong, Fenced, Exhausted, DeviceFailed}
-use Rattle.snap_slot.specs.Layout.{Head, Holds}
-use Rattle.snap_slot.specs.Findings.{IsNoOpening}
-use Rattle.snap_segment.specs.Refusals.{IsStoreRefusal, IsOpenRefusal}
-use Rattle.snap_segment.specs.Open.{CountsFailed}
+use Rattle.snap_disk.specs.{Device.Device, declared.refusal.Refusal.Refusal}
+use Rattle.snap_slot.specs.{Layout.Head, Layout.Holds, Findings.IsNoOpening}
+use Rattle.snap_segment.specs.{Refusals.IsStoreRefusal, Refusals.IsOpenRefusal, Open.CountsFailed}
 use Rattle.snap_file_commands.specs.Commands.{End, EndsStore, CountsEnd}
 use Rattle.snap_file_commands.specs.Effects.{StoreKeeps, PutKeeps}
 use Rattle.snap_file_commands.specs.declared.fault.CommandFault.TheVariants.{Refused}

@@ -1,12 +1,9 @@
 -- Files that are sorted by the segments in their headers.
 use Rattle.std.proofs.Common.{◌≡◌, ◌≢◌, ◌⊎◌, ℕ, ◌+◌, ◌<◌, List, length, Option, Some, None, slice_set, slice_get}
-use Rattle.std.proofs.Common.{sum_by, replicate, inl, inr, sym, ◌∙◌, ap, arith}
-use Rattle.std.proofs.Common.{length-set}
+use Rattle.std.proofs.Common.{sum_by, replicate, inl, inr, sym, ◌∙◌, ap, arith, length-set}
 use Rattle.std.proofs.lemmas.Bool.Decides.{eqb_tells}
 use Rattle.std.proofs.lemmas.Option.{get_or_from_slice_get, slice_get_within}
-use Rattle.std.proofs.lemmas.List.{get_or-replicate, length-replicate}
-use Rattle.std.proofs.lemmas.List.Sums.{sum_by-set}
-use Rattle.std.proofs.lemmas.List.Folds.{sum_by-replicate}
+use Rattle.std.proofs.lemmas.List.{get_or-replicate, length-replicate, Sums.sum_by-set, Folds.sum_by-replicate}
 use Rattle.snap_history.proofs.Lists.{get-set_same, get-set_other}
 use Rattle.snap_file_commands.specs.declared.segment_order.SegmentPlace.{SegmentPlace}
 use Rattle.snap_file_commands.specs.SegmentOrder.{IsOneOf, IsSeating, Says, file_count}

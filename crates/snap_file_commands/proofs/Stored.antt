@@ -1,15 +1,12 @@
 -- The device after a store that succeeded, in terms of the command.
 use Rattle.std.proofs.Common.{◌≡◌, ◌⊎◌, ℕ, ◌+◌, List, length, Option, Err, inl, inr}
 use Rattle.snap_disk.specs.Device.{Device, IsSettled, MayLeave}
-use Rattle.snap_disk.specs.Time.{LeavesOnly}
-use Rattle.snap_disk.specs.Laws.{then, weaker}
-use Rattle.snap_slot.specs.declared.layout.TheConstants.{FILE_LEN}
-use Rattle.snap_slot.specs.States.{IsEither}
+use Rattle.snap_disk.specs.{Time.LeavesOnly, Laws.then, Laws.weaker, declared.refusal.Refusal.TheVariants.TooLong}
 use Rattle.snap_slot.specs.Layout.{Head, Holds, IsFileOf}
+use Rattle.snap_slot.specs.{declared.layout.TheConstants.FILE_LEN, States.IsEither}
 use Rattle.snap_segment.specs.Segment.{SegmentState}
 use Rattle.snap_stream.specs.Streams.{Had}
 use Rattle.snap_file_commands.specs.Commands.{IsStored, PutLeaves, End, EndsStore, EndsPut}
-use Rattle.snap_disk.specs.declared.refusal.Refusal.TheVariants.{TooLong}
 use Rattle.snap_file_commands.specs.declared.fault.CommandFault.TheVariants.{Refused, Input}
 use Rattle.snap_disk.specs.declared.disk.Disk as Disk
 

@@ -1,28 +1,22 @@
 -- The effect of each command on its device, the input of a `put`, and the output of a `put`, a `get` and a slot's
 -- value, by how the command ends.
-use Rattle.std.specs.Prelude.{◌≡◌, ◌≢◌, ◌⊎◌, ℕ, ◌+◌, ◌<◌, List, [], ◌++◌, length, Option, Result}
-use Rattle.std.specs.Prelude.{Ok, Err, IfSome, is_some, codes, if◌then◌else◌, false}
-use Rattle.std.specs.Fmt.{decimal}
-use Rattle.std.specs.Io.KnownBytes.{Appends, Keeps}
+use Rattle.std.specs.Prelude.{◌≡◌, ◌≢◌, ◌⊎◌, ℕ, ◌+◌, ◌<◌, List, [], ◌++◌, length, Option, Result, Ok, Err, IfSome}
+use Rattle.std.specs.Prelude.{is_some, codes, if◌then◌else◌, false}
+use Rattle.std.specs.{Fmt.decimal, Io.KnownBytes.Appends, Io.KnownBytes.Keeps}
 use Rattle.snap_disk.specs.Device.{Device, IsSettled, MayLeave, part}
 use Rattle.snap_disk.specs.declared.refusal.Refusal.{Refusal}
-use Rattle.snap_disk.specs.declared.refusal.Refusal.TheVariants as refusal
 use Rattle.snap_slot.specs.declared.layout.TheConstants.{BLOCK_LEN, FILE_LEN, OPEN_GATE, SLOT_COUNT}
-use Rattle.snap_history.specs.declared.limits.TheConstants.{MAX_VALUE_LEN, LAST_NUMBER}
 use Rattle.snap_slot.specs.Layout.{body_at, gate_block, Head, Holds, IsUnformatted, IsFormatted, IsFileOf, IsOpenSlot}
-use Rattle.snap_slot.specs.Slot.{IsFlawed}
-use Rattle.snap_slot.specs.declared.slot.Flaw.{Flaw}
-use Rattle.snap_slot.specs.States.{IsAtRest, IsEither}
-use Rattle.snap_slot.specs.Findings.{AreFindings, IsNoOpening}
-use Rattle.snap_slot.specs.declared.findings.Findings.{Findings}
+use Rattle.snap_slot.specs.{Slot.IsFlawed, declared.slot.Flaw.Flaw, States.IsAtRest, States.IsEither}
+use Rattle.snap_slot.specs.{Findings.AreFindings, Findings.IsNoOpening, declared.findings.Findings.Findings}
+use Rattle.snap_history.specs.declared.limits.TheConstants.{MAX_VALUE_LEN, LAST_NUMBER}
 use Rattle.snap_segment.specs.Creation.{IsFresh, new_file}
 use Rattle.snap_stream.specs.Streams.{AppendsBeginning, Had}
 use Rattle.snap_file_commands.specs.declared.fault.CommandFault.{CommandFault}
-use Rattle.snap_file_commands.specs.declared.fault.CommandFault.TheVariants.{Refused, Input, Output, Unsaid}
-use Rattle.snap_file_commands.specs.declared.fault.CommandFault.TheVariants.{NoValue}
-use Rattle.snap_order.specs.declared.order.FileOrder.{FileOrder}
+use Rattle.snap_file_commands.specs.declared.fault.CommandFault.TheVariants.{Refused, Input, Output, Unsaid, NoValue}
 use Rattle.snap_order.specs.declared.order.FileOrder.TheVariants.{Format, Put, Get, Check, Slot}
-use Rattle.snap_order.specs.declared.status.Status.{Status}
+use Rattle.snap_order.specs.declared.{order.FileOrder.FileOrder, status.Status.Status}
+use Rattle.snap_disk.specs.declared.refusal.Refusal.TheVariants as refusal
 use Rattle.snap_order.specs.declared.status.Status.TheVariants as status
 
 -- how a command ends: with a status, or early

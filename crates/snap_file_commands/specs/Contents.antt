@@ -1,9 +1,7 @@
 -- The file by the result of reading it for a dump.
 use Rattle.std.specs.Prelude.{ℕ, Result, Ok, Err}
-use Rattle.snap_disk.specs.Device.{Device}
-use Rattle.snap_disk.specs.declared.refusal.Refusal.{Refusal}
-use Rattle.snap_slot.specs.Findings.{IsNoOpening}
-use Rattle.snap_slot.specs.Layout.{Head, Holds}
+use Rattle.snap_disk.specs.{Device.Device, declared.refusal.Refusal.Refusal}
+use Rattle.snap_slot.specs.{Findings.IsNoOpening, Layout.Head, Layout.Holds}
 use Rattle.snap_scan.specs.declared.segment_value.SegmentValue.{SegmentValue}
 
 -- the file is that of segment i of n, and holds this number and value; or why it can't be opened

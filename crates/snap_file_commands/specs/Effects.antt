@@ -1,12 +1,10 @@
 -- The bytes that a crash during a command leaves, and the ends that leave the device as it was.
 use Rattle.std.specs.Prelude.{ℕ, List, Err}
-use Rattle.snap_disk.specs.Device.{MayLeave}
-use Rattle.snap_disk.specs.Time.{LeavesOnly}
-use Rattle.snap_disk.specs.declared.refusal.Refusal.TheVariants as refusal
-use Rattle.snap_order.specs.declared.order.FileOrder.{FileOrder}
-use Rattle.snap_order.specs.declared.order.FileOrder.TheVariants.{Format, Put}
+use Rattle.snap_disk.specs.{Device.MayLeave, Time.LeavesOnly}
+use Rattle.snap_order.specs.declared.order.FileOrder.{FileOrder, TheVariants.Format, TheVariants.Put}
 use Rattle.snap_file_commands.specs.Commands.{End}
 use Rattle.snap_file_commands.specs.declared.fault.CommandFault.TheVariants.{Refused, Input}
+use Rattle.snap_disk.specs.declared.refusal.Refusal.TheVariants as refusal
 use Rattle.snap_disk.specs.declared.disk.Disk as Disk
 
 -- If the device is honest, whatever a crash at any time during the call leaves, and one after it,

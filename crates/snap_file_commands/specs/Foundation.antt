@@ -1,18 +1,14 @@
 -- The effect of `found` on its device, by how it ends.
 use Rattle.std.specs.Prelude.{◌≡◌, ◌≢◌, ◌⊎◌, ℕ, List, [], length, Bool, true, false, Result, Ok, Err}
-use Rattle.snap_disk.specs.Device.{Device}
-use Rattle.snap_disk.specs.declared.refusal.Refusal.{Refusal}
-use Rattle.snap_disk.specs.declared.refusal.Refusal.TheVariants as refusal
-use Rattle.snap_slot.specs.declared.layout.TheConstants.{FILE_LEN}
+use Rattle.snap_disk.specs.{Device.Device, declared.refusal.Refusal.Refusal}
 use Rattle.snap_slot.specs.Layout.{IsFileOf, IsFormatted, IsUnformatted}
-use Rattle.snap_slot.specs.States.{IsAtRest}
-use Rattle.snap_slot.specs.Findings.{AreFindings}
-use Rattle.snap_slot.specs.declared.findings.Findings.{Findings}
-use Rattle.snap_slot.specs.declared.slot.Slot.{Slot}
 use Rattle.snap_slot.specs.declared.slot.Slot.TheVariants.{Closed, Open, Bad}
-use Rattle.snap_order.specs.declared.status.Status.TheVariants as status
+use Rattle.snap_slot.specs.{declared.layout.TheConstants.FILE_LEN, States.IsAtRest, Findings.AreFindings}
+use Rattle.snap_slot.specs.{declared.findings.Findings.Findings, declared.slot.Slot.Slot}
 use Rattle.snap_file_commands.specs.Commands.{End, IsNewlyMade}
 use Rattle.snap_file_commands.specs.declared.fault.CommandFault.TheVariants.{Refused, Output}
+use Rattle.snap_disk.specs.declared.refusal.Refusal.TheVariants as refusal
+use Rattle.snap_order.specs.declared.status.Status.TheVariants as status
 
 -- ---- what the file was
 

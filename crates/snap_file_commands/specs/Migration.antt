@@ -1,20 +1,17 @@
 -- The effect of a migration on its devices, by how it ends.
 use Rattle.std.specs.Prelude.{◌≡◌, ◌≢◌, ◌⊎◌, ℕ, List, length, Result, Ok, Err}
-use Rattle.snap_disk.specs.Device.{Device, MayLeave}
-use Rattle.snap_disk.specs.declared.refusal.Refusal.{Refusal}
-use Rattle.snap_disk.specs.declared.refusal.Refusal.TheVariants as refusal
+use Rattle.snap_disk.specs.{Device.Device, Device.MayLeave, declared.refusal.Refusal.Refusal}
 use Rattle.snap_slot.specs.declared.layout.TheConstants.{FILE_LEN}
 use Rattle.snap_slot.specs.Layout.{IsFileOf, IsFormatted, IsUnformatted}
-use Rattle.snap_segment.specs.Old.{OldHead, OldHolds}
-use Rattle.snap_segment.specs.OldFound.{IsNoOldOpening}
-use Rattle.snap_segment.specs.Migration.{CountsFault}
-use Rattle.snap_segment.specs.declared.migration.Which.TheVariants.{Old, New}
+use Rattle.snap_segment.specs.{Old.OldHead, Old.OldHolds, OldFound.IsNoOldOpening, Migration.CountsFault}
+use Rattle.snap_segment.specs.{declared.migration.Which.TheVariants.Old, declared.migration.Which.TheVariants.New}
 use Rattle.snap_order.specs.declared.status.Status.{Status}
-use Rattle.snap_order.specs.declared.status.Status.TheVariants as status
 use Rattle.snap_file_commands.specs.Commands.{IsNewlyMade, status_of}
 use Rattle.snap_file_commands.specs.declared.fault.CommandFault.TheVariants.{Output, Refused}
 use Rattle.snap_file_commands.specs.declared.migration.MigrationFault.{MigrationFault}
 use Rattle.snap_file_commands.specs.declared.migration.MigrationFault.TheVariants.{OfFile, Other}
+use Rattle.snap_disk.specs.declared.refusal.Refusal.TheVariants as refusal
+use Rattle.snap_order.specs.declared.status.Status.TheVariants as status
 
 -- how a migration ends: with a status, or early
 abbrev pub MigrationEnd : Type 0

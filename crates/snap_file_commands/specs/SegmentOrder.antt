@@ -2,10 +2,9 @@
 use Rattle.std.specs.Prelude.{◌≡◌, ◌≢◌, ℕ, ◌<◌, ◌≤◌, List, [], length, All, Option, Some, None, slice_get, slice_index}
 use Rattle.std.specs.Prelude.{sum_by}
 use Rattle.snap_history.specs.declared.limits.TheConstants.{MAX_COUNT}
-use Rattle.snap_file_commands.specs.declared.segment_order.SegmentPlace.{SegmentPlace}
-use Rattle.snap_file_commands.specs.declared.segment_order.FolderFault.{FolderFault}
-use Rattle.snap_file_commands.specs.declared.segment_order.FolderFault.TheVariants.{Empty, NoPlace, OtherCount}
-use Rattle.snap_file_commands.specs.declared.segment_order.FolderFault.TheVariants.{Twice, Missing, NoMemory}
+use Rattle.snap_file_commands.specs.declared.segment_order.FolderFault.TheVariants.{Empty, NoPlace, OtherCount, Twice}
+use Rattle.snap_file_commands.specs.declared.segment_order.FolderFault.TheVariants.{Missing, NoMemory}
+use Rattle.snap_file_commands.specs.declared.segment_order.{SegmentPlace.SegmentPlace, FolderFault.FolderFault}
 
 -- this file is there, and its header has this place
 abbrev pub Says : List SegmentPlace → ℕ → SegmentPlace → Type 0

@@ -5,17 +5,13 @@
 //! as it was. What is printed for people, all but a value and `stored K`, is tested.
 ghost use Rattle.std.specs.Prelude.{◌≡◌, ◌≢◌, ◌⊎◌, ◌<◌, ◌≤◌, ◌-◌, ◌^◌, [], length};
 ghost use Rattle.snap_disk.specs.Device.{Device};
-ghost use Rattle.snap_slot.specs.declared.layout.TheConstants.{FILE_LEN};
-ghost use Rattle.snap_history.specs.declared.limits.TheConstants.{MAX_COUNT};
-ghost use Rattle.snap_history.specs.Limits.{IsShort};
-ghost use Rattle.snap_slot.specs.Layout.{IsFileOf};
-ghost use Rattle.snap_slot.specs.States.{IsEither};
+ghost use Rattle.snap_slot.specs.{declared.layout.TheConstants.FILE_LEN, Layout.IsFileOf, States.IsEither};
+ghost use Rattle.snap_history.specs.{declared.limits.TheConstants.MAX_COUNT, Limits.IsShort};
 ghost use Rattle.snap_segment.specs.Creation.{IsFresh};
-ghost use Rattle.snap_file_commands.specs.Commands.{CountsEnd, EndsCheck, EndsGet, EndsMaking};
-ghost use Rattle.snap_file_commands.specs.Commands.{EndsOrder, EndsPut, EndsStore, OrderLeaves};
-ghost use Rattle.snap_file_commands.specs.Commands.{PutLeaves};
-ghost use Rattle.snap_file_commands.specs.Effects.{AnyCrashLeaves, LeavesNoMore, MakingKeeps};
-ghost use Rattle.snap_file_commands.specs.Effects.{OrderKeeps, PutKeeps, StoreKeeps};
+ghost use Rattle.snap_file_commands.specs.Commands.{CountsEnd, EndsCheck, EndsGet, EndsMaking, EndsOrder, EndsPut};
+ghost use Rattle.snap_file_commands.specs.Commands.{EndsStore, OrderLeaves, PutLeaves};
+ghost use Rattle.snap_file_commands.specs.Effects.{AnyCrashLeaves, LeavesNoMore, MakingKeeps, OrderKeeps, PutKeeps};
+ghost use Rattle.snap_file_commands.specs.Effects.{StoreKeeps};
 ghost use Rattle.snap_order.specs.Order.{IsFileWithinLimits};
 
 use crate::CommandFault;

@@ -1,10 +1,8 @@
 //! Reads the number and value of one segment's file: what `dump` does with each file of a folder.
 ghost use Rattle.std.specs.Prelude.{◌≡◌, ◌≢◌, ◌-◌, ◌^◌, ◌<◌, ◌≤◌, length, IfOk};
 ghost use Rattle.snap_slot.specs.declared.layout.TheConstants.{FILE_LEN};
-ghost use Rattle.snap_history.specs.declared.limits.TheConstants.{MAX_COUNT};
-ghost use Rattle.snap_history.specs.Limits.{IsNumber, IsShort};
-ghost use Rattle.snap_file_commands.specs.Effects.{LeavesNoMore};
-ghost use Rattle.snap_file_commands.specs.Contents.{Reads};
+ghost use Rattle.snap_history.specs.{declared.limits.TheConstants.MAX_COUNT, Limits.IsNumber, Limits.IsShort};
+ghost use Rattle.snap_file_commands.specs.{Effects.LeavesNoMore, Contents.Reads};
 
 use bytes::Bytes;
 use snap_disk::{Disk, Refusal};

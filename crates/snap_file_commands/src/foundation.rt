@@ -8,13 +8,11 @@ ghost use Rattle.std.specs.Prelude.{◌≡◌, ◌≢◌, ◌-◌, ◌^◌, ◌<
 ghost use Rattle.snap_disk.specs.Device.{IsUnchanged};
 ghost use Rattle.snap_slot.specs.declared.layout.TheConstants.{FILE_LEN};
 ghost use Rattle.snap_history.specs.declared.limits.TheConstants.{MAX_COUNT};
-ghost use Rattle.snap_segment.specs.Calls.{Counts};
-ghost use Rattle.snap_segment.specs.Creation.{IsFresh};
+ghost use Rattle.snap_segment.specs.{Calls.Counts, Creation.IsFresh};
 ghost use Rattle.snap_file_commands.specs.Commands.{CountsEnd};
 ghost use Rattle.snap_file_commands.specs.Effects.{AnyCrashLeaves, LeavesNoMore, StoreKeeps};
-ghost use Rattle.snap_file_commands.specs.Foundation.{AreEmpty, EndsFounding, EndsKeeping};
-ghost use Rattle.snap_file_commands.specs.Foundation.{IsBlank, IsEmptySlot, SaysBlank};
-ghost use Rattle.snap_file_commands.specs.Foundation.{refusal_of_formatted};
+ghost use Rattle.snap_file_commands.specs.Foundation.{AreEmpty, EndsFounding, EndsKeeping, IsBlank, IsEmptySlot};
+ghost use Rattle.snap_file_commands.specs.Foundation.{SaysBlank, refusal_of_formatted};
 
 use crate::CommandFault;
 use crate::commands::format_file;

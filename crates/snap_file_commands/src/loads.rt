@@ -1,9 +1,7 @@
 //! Makes the file of one segment of a dump: what `load` does with each of its files.
 ghost use Rattle.std.specs.Prelude.{◌≡◌, ◌≢◌, ◌-◌, ◌^◌, ◌<◌, ◌≤◌, length};
-ghost use Rattle.snap_slot.specs.declared.layout.TheConstants.{FILE_LEN};
-ghost use Rattle.snap_slot.specs.Layout.{IsFormatted};
-ghost use Rattle.snap_history.specs.declared.limits.TheConstants.{MAX_COUNT};
-ghost use Rattle.snap_history.specs.Limits.{IsNumber, IsShort};
+ghost use Rattle.snap_slot.specs.{declared.layout.TheConstants.FILE_LEN, Layout.IsFormatted};
+ghost use Rattle.snap_history.specs.{declared.limits.TheConstants.MAX_COUNT, Limits.IsNumber, Limits.IsShort};
 ghost use Rattle.snap_segment.specs.Creation.{IsMadeOrLeft};
 ghost use Rattle.snap_file_commands.specs.Commands.{CountsEnd, EndsMaking};
 ghost use Rattle.snap_file_commands.specs.Effects.{AnyCrashLeaves, LeavesNoMore, MakingKeeps};

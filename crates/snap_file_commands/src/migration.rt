@@ -6,8 +6,7 @@ ghost use Rattle.snap_slot.specs.declared.layout.TheConstants.{FILE_LEN};
 ghost use Rattle.snap_segment.specs.old_layout.TheConstants.{OLD_FILE_LEN};
 ghost use Rattle.snap_order.specs.Order.{IsPlace};
 ghost use Rattle.snap_file_commands.specs.Effects.{AnyCrashLeaves, LeavesNoMore};
-ghost use Rattle.snap_file_commands.specs.Migration.{CountsMigration, EndsMigration};
-ghost use Rattle.snap_file_commands.specs.Migration.{MigrationKeeps, MigrationLeaves};
+ghost use Rattle.snap_file_commands.specs.Migration.{CountsMigration, EndsMigration, MigrationKeeps, MigrationLeaves};
 ghost use Rattle.snap_file_commands.specs.Migration.{MigrationReads, migration_status_of};
 
 use crate::CommandFault;

@@ -1,17 +1,13 @@
 -- Entries one after the other, and what may follow those that were read.
 use Rattle.std.proofs.Common.{◌≡◌, ℕ, ◌+◌, ◌<◌, ◌≤◌, Bool, true, false, List, [], ◌∷◌, ◌++◌, length, drop, flat_map}
-use Rattle.std.proofs.Common.{All, refl, sym}
-use Rattle.std.proofs.Common.{◌∙◌, ap, ap₂, arith, append_assoc, append-nil}
-use Rattle.std.specs.Int.{w32, to_be_bytes}
+use Rattle.std.proofs.Common.{All, refl, sym, ◌∙◌, ap, ap₂, arith, append_assoc, append-nil}
 use Rattle.std.proofs.lemmas.List.Elements.{All-nil, All-cons, All-tail, All-append}
-use Rattle.std.proofs.lemmas.List.Concat.{flat_map-append}
+use Rattle.std.{specs.Int.w32, specs.Int.to_be_bytes, proofs.lemmas.List.Concat.flat_map-append}
 use Rattle.snap_scan.specs.declared.segment_value.SegmentValue.{SegmentValue}
-use Rattle.snap_frame.specs.declared.entries.SegmentStatus.{SegmentStatus}
-use Rattle.snap_frame.specs.declared.named.NamedValue.{NamedValue}
 use Rattle.snap_frame.specs.Messages.{value_bytes, named_bytes, status_bytes, fence_byte, IsValue, IsNamedValue}
 use Rattle.snap_frame.specs.Messages.{IsStatus, Separate}
-use Rattle.snap_frame.proofs.BigEndian.{same_number, same_length}
-use Rattle.snap_frame.proofs.Exact.{append_split}
+use Rattle.snap_frame.specs.declared.{entries.SegmentStatus.SegmentStatus, named.NamedValue.NamedValue}
+use Rattle.snap_frame.proofs.{BigEndian.same_number, BigEndian.same_length, Exact.append_split}
 
 module _ {E : Type 0} (bytes : E → List ℕ) (MayStand : E → Type 0) where
   -- the entries that were read are the first of any that the bytes may be

@@ -1,20 +1,16 @@
 -- A cut of the codec, as a property of the bytes held.
-use Rattle.std.proofs.Common.{◌≡◌, ℕ, ◌+◌, ◌<◌, ◌≤◌, ◌^◌, List, ◌∷◌, ◌++◌, [], length, take, drop, Some, inl, inr}
-use Rattle.std.proofs.Common.{refl, sym, ◌∙◌, ap}
-use Rattle.std.proofs.Common.{subst, arith, append_assoc, length-append, length-take, length-drop, pos}
-use Rattle.std.specs.Int.{w32, to_be_bytes}
-use Rattle.std.proofs.lemmas.List.{take-append-drop}
+use Rattle.std.proofs.Common.{◌≡◌, ℕ, ◌+◌, ◌<◌, ◌≤◌, ◌^◌, List, ◌∷◌, ◌++◌, [], length, take, drop, Some, inl, inr, refl}
+use Rattle.std.proofs.Common.{sym, ◌∙◌, ap, subst, arith, append_assoc, length-append, length-take, length-drop, pos}
 use Rattle.std.proofs.lemmas.Bool.{cases_lt, cond-true, lt-ltb}
-use Rattle.std.proofs.lemmas.Nat.{be_bytes_4}
+use Rattle.std.{specs.Int.w32, specs.Int.to_be_bytes, proofs.lemmas.List.take-append-drop, proofs.lemmas.Nat.be_bytes_4}
 use Rattle.tokio_util.specs.Codec.LengthField.{field_value, add_adjustment}
 use Rattle.tokio_util.specs.Codec.LengthDelimited.{Cut, frame, too_big, overflows, unfinished, cut_payload}
 use Rattle.tokio_util.specs.Codec.LengthDelimited.{cut_adjusted, cut_frame}
 use Rattle.tokio_util.specs.Codec.LengthDelimitedLaws.{cut_payload_whole, cut_payload_short, cut_frame_short}
-use Rattle.tokio_util.specs.Codec.LengthDelimitedLaws.{cut_frame_big}
-use Rattle.tokio_util.specs.Codec.LengthDelimitedLaws.{cut_frame_head}
-use Rattle.snap_frame.specs.Messages as messages
+use Rattle.tokio_util.specs.Codec.LengthDelimitedLaws.{cut_frame_big, cut_frame_head}
 use Rattle.snap_frame.specs.Stream.{HasFrame, HasLongLength, IsPartial, pending_in, StateFits, feed_layout, IsBytes}
 use Rattle.snap_frame.proofs.BigEndian.{bytes-take, same_length}
+use Rattle.snap_frame.specs.Messages as messages
 
 -- the property of the bytes held
 abbrev pub Means : List ℕ → Cut → Type 0

@@ -1,14 +1,11 @@
 -- The result of `decode`, as a property of the bytes held.
 use Rattle.std.proofs.Common.{◌≡◌, ◌≢◌, ℕ, ◌≤◌, List, ◌++◌, [], length, take, drop, replicate, Option, Some, None}
-use Rattle.std.proofs.Common.{IfNone, Ok, Err, inl}
-use Rattle.std.proofs.Common.{inr, refl, sym, ◌∙◌, ap, ap₂, subst, arith, append_assoc, length-append, length-take, pos}
-use Rattle.std.specs.Int.{w32, to_be_bytes}
-use Rattle.std.specs.IoError.{error_kind, kind_at}
-use Rattle.std.specs.declared.io.Error.{Error}
+use Rattle.std.proofs.Common.{IfNone, Ok, Err, inl, inr, refl, sym, ◌∙◌, ap, ap₂, subst, arith, append_assoc}
+use Rattle.std.proofs.Common.{length-append, length-take, pos}
 use Rattle.std.specs.declared.io.ErrorKind.TheVariants.{InvalidData, InvalidInput, OutOfMemory}
 use Rattle.std.proofs.lemmas.List.{append_cancel_right, length-replicate, get_or_append_left, get_or-append_right}
-use Rattle.std.proofs.lemmas.List.{get_or-replicate}
-use Rattle.std.proofs.lemmas.List.{get_or_past}
+use Rattle.std.proofs.lemmas.List.{get_or-replicate, get_or_past}
+use Rattle.std.specs.{Int.w32, Int.to_be_bytes, IoError.error_kind, IoError.kind_at, declared.io.Error.Error}
 use Rattle.std.proofs.lemmas.Bool.{cases_lt}
 use Rattle.bytes.specs.Filled.{Filled}
 use Rattle.tokio_util.specs.declared.codec.length_delimited.LengthDelimitedCodec.{LengthDelimitedCodec}
@@ -16,18 +13,15 @@ use Rattle.tokio_util.specs.declared.codec.length_delimited.DecodeState.{DecodeS
 use Rattle.tokio_util.specs.declared.codec.length_delimited.DecodeState.TheVariants.{Head, Data}
 use Rattle.tokio_util.specs.Codec.Next.{decoded, Decodes}
 use Rattle.tokio_util.specs.Codec.LengthField.{Layout, field_value, add_adjustment, head_len, skip_len}
-use Rattle.tokio_util.specs.Codec.LengthDelimited.{codec_layout, with_state, Cut, frame, too_big, overflows}
-use Rattle.tokio_util.specs.Codec.LengthDelimited.{unfinished, cut_payload}
-use Rattle.tokio_util.specs.Codec.LengthDelimited.{cut_adjusted, cut_frame, cut_in, cut, Answers, IsSettled}
-use Rattle.tokio_util.specs.Codec.LengthDelimited.{gives_frames}
+use Rattle.tokio_util.specs.Codec.LengthDelimited.{codec_layout, with_state, Cut, frame, too_big, overflows, unfinished}
+use Rattle.tokio_util.specs.Codec.LengthDelimited.{cut_payload, cut_adjusted, cut_frame, cut_in, cut, Answers}
+use Rattle.tokio_util.specs.Codec.LengthDelimited.{IsSettled, gives_frames}
 use Rattle.tokio_util.specs.Codec.LengthDelimitedLaws.{cut_payload_whole, cut_payload_short, cut_frame_big}
-use Rattle.tokio_util.specs.Codec.LengthDelimitedLaws.{cut_frame_head}
-use Rattle.tokio_util.specs.Codec.LengthDelimitedLaws.{cut_frame-append_head}
-use Rattle.snap_frame.specs.Messages as messages
+use Rattle.tokio_util.specs.Codec.LengthDelimitedLaws.{cut_frame_head, cut_frame-append_head}
 use Rattle.snap_frame.specs.Stream.{HasFrame, HasLongLength, IsPartial, pending, pending_in, StateFits, feed_layout}
-use Rattle.snap_frame.specs.Stream.{Ready, Found}
-use Rattle.snap_frame.specs.Stream.{IsBytes}
+use Rattle.snap_frame.specs.Stream.{Ready, Found, IsBytes}
 use Rattle.snap_frame.proofs.Cuts.{Means, head_means, payload_means}
+use Rattle.snap_frame.specs.Messages as messages
 
 means_in : (s : DecodeState) (xs : List ℕ) → StateFits s → IsBytes xs
     → Means (pending_in s xs) (cut_in feed_layout s xs)

@@ -1,22 +1,17 @@
 -- The first frame of the bytes is unique.
-use Rattle.std.proofs.Common.{◌≡◌, ◌≢◌, ℕ, List, ◌++◌, [], length, Option, Some, None, Result, Ok, Err, inl, inr}
-use Rattle.std.proofs.Common.{refl, sym, ◌∙◌, ap}
-use Rattle.std.proofs.Common.{arith, append_assoc, append-nil, length-append, take, drop, take_at, drop_at}
-use Rattle.std.specs.Int.{w32, to_be_bytes}
-use Rattle.std.specs.declared.io.Error.{Error}
+use Rattle.std.proofs.Common.{◌≡◌, ◌≢◌, ℕ, List, ◌++◌, [], length, Option, Some, None, Result, Ok, Err, inl, inr, refl}
+use Rattle.std.proofs.Common.{sym, ◌∙◌, ap, arith, append_assoc, append-nil, length-append, take, drop, take_at}
+use Rattle.std.proofs.Common.{drop_at}
+use Rattle.std.specs.{Int.w32, Int.to_be_bytes, declared.io.Error.Error}
 use Rattle.bytes.specs.Filled.{Filled}
-use Rattle.tokio_util.specs.declared.codec.length_delimited.LengthDelimitedCodec.{LengthDelimitedCodec}
-use Rattle.tokio_util.specs.declared.codec.length_delimited.DecodeState.{DecodeState}
 use Rattle.tokio_util.specs.declared.codec.length_delimited.DecodeState.TheVariants.{Head, Data}
-use Rattle.tokio_util.specs.Codec.Next.{DecodesAtEnd}
 use Rattle.tokio_util.specs.Codec.LengthDelimited.{Cut, frame, too_big, overflows, unfinished, cut, Answers}
-use Rattle.tokio_util.specs.Codec.LengthDelimited.{AnswersLast, AnswersAtEnd}
-use Rattle.tokio_util.specs.Codec.LengthDelimited.{gives_frames}
-use Rattle.snap_frame.specs.Messages as messages
+use Rattle.tokio_util.specs.Codec.LengthDelimited.{AnswersLast, AnswersAtEnd, gives_frames}
+use Rattle.tokio_util.specs.declared.codec.length_delimited.LengthDelimitedCodec.{LengthDelimitedCodec}
+use Rattle.tokio_util.specs.{declared.codec.length_delimited.DecodeState.DecodeState, Codec.Next.DecodesAtEnd}
 use Rattle.snap_frame.specs.Stream.{HasFrame, HasLongLength, pending, pending_in, Ready, IsBytes, NoFrameBeginsAnother}
-use Rattle.snap_frame.proofs.BigEndian.{same_length}
-use Rattle.snap_frame.proofs.Cuts.{Means}
-use Rattle.snap_frame.proofs.Decode.{means}
+use Rattle.snap_frame.proofs.{BigEndian.same_length, Cuts.Means, Decode.means}
+use Rattle.snap_frame.specs.Messages as messages
 
 pub append_split : (x y r s : List ℕ) → length x ≡ length y → x ++ r ≡ y ++ s → (x ≡ y) × (r ≡ s)
 append_split x y r s len e = (

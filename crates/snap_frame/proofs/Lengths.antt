@@ -2,13 +2,11 @@
 use Rattle.std.proofs.Common.{◌+◌, ◌*◌, ◌≤◌, ℕ, List, [], ◌∷◌, length, flat_map, All, arith, length-append}
 use Rattle.std.proofs.lemmas.List.Elements.{All-tail}
 use Rattle.snap_scan.specs.declared.segment_value.SegmentValue.{SegmentValue}
-use Rattle.snap_frame.specs.declared.entries.SegmentStatus.{SegmentStatus}
-use Rattle.snap_frame.specs.declared.named.NamedValue.{NamedValue}
-use Rattle.snap_frame.specs.declared.reply.Reply.{Reply}
 use Rattle.snap_frame.specs.declared.reply.Reply.TheVariants.{Stored, Snapshot, Status, Part, Refused}
 use Rattle.snap_frame.specs.Messages.{max_payload, longest_entry, value_bytes, named_bytes, status_bytes, IsValue}
-use Rattle.snap_frame.specs.Messages.{IsNamedValue, IsStatus}
-use Rattle.snap_frame.specs.Messages.{AreEntries, says, IsInLimits}
+use Rattle.snap_frame.specs.Messages.{IsNamedValue, IsStatus, AreEntries, says, IsInLimits}
+use Rattle.snap_frame.specs.declared.{entries.SegmentStatus.SegmentStatus, named.NamedValue.NamedValue}
+use Rattle.snap_frame.specs.declared.reply.Reply.{Reply}
 
 -- entries of at most `longest_entry` bytes each
 module _ {E : Type 0} (bytes : E → List ℕ) (MayStand : E → Type 0)

@@ -5,14 +5,11 @@ use Rattle.std.specs.Int.{w16, w32, w64, to_be_bytes}
 use Rattle.snap_disk.specs.Refusal.{code_of}
 use Rattle.snap_history.specs.Limits.{IsNumber, IsShort}
 use Rattle.snap_history.specs.declared.limits.TheConstants.{MAX_COUNT, MAX_VALUE_LEN}
-use Rattle.snap_frame.specs.declared.frame.TheConstants.{MAX_PAYLOAD}
-use Rattle.snap_frame.specs.declared.request.Request.{Request}
 use Rattle.snap_frame.specs.declared.request.Request.TheVariants.{Update, Scan, Status, Part}
-use Rattle.snap_frame.specs.declared.reply.Reply.{Reply}
-use Rattle.snap_frame.specs.declared.reply.Reply.TheVariants as replies
+use Rattle.snap_frame.specs.declared.{frame.TheConstants.MAX_PAYLOAD, request.Request.Request, reply.Reply.Reply}
+use Rattle.snap_frame.specs.declared.{entries.SegmentStatus.SegmentStatus, named.NamedValue.NamedValue}
 use Rattle.snap_scan.specs.declared.segment_value.SegmentValue.{SegmentValue}
-use Rattle.snap_frame.specs.declared.entries.SegmentStatus.{SegmentStatus}
-use Rattle.snap_frame.specs.declared.named.NamedValue.{NamedValue}
+use Rattle.snap_frame.specs.declared.reply.Reply.TheVariants as replies
 
 -- the most bytes of a frame's payload
 abbrev pub max_payload : ℕ

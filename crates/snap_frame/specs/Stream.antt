@@ -1,22 +1,19 @@
 -- The state of a feed, and the results of its calls.
 use Rattle.bytes.specs.Filled.{Filled}
-use Rattle.tokio_util.specs.Codec.LengthDelimited.{codec_layout}
-use Rattle.std.specs.Prelude.{◌≡◌, ℕ, get_or, ◌≤◌, ◌<◌, ◌^◌, ◌⊎◌, List, [], ◌++◌, length, Option, Some, None}
-use Rattle.std.specs.Prelude.{Result, Ok, Err}
-use Rattle.std.specs.Int.{w32, to_be_bytes}
+use Rattle.tokio_util.specs.Codec.{LengthDelimited.codec_layout, LengthField.Layout, LengthField.default_layout}
 use Rattle.tokio_util.specs.declared.codec.length_delimited.LengthDelimitedCodec.{LengthDelimitedCodec}
-use Rattle.tokio_util.specs.declared.codec.length_delimited.DecodeState.{DecodeState}
-use Rattle.tokio_util.specs.declared.codec.length_delimited.DecodeState.TheVariants.{Head, Data}
-use Rattle.tokio_util.specs.Codec.LengthField.{Layout, default_layout}
+use Rattle.tokio_util.specs.declared.codec.length_delimited.{DecodeState.DecodeState, DecodeState.TheVariants.Head}
+use Rattle.tokio_util.specs.declared.codec.length_delimited.DecodeState.TheVariants.{Data}
+use Rattle.std.specs.Prelude.{◌≡◌, ℕ, get_or, ◌≤◌, ◌<◌, ◌^◌, ◌⊎◌, List, [], ◌++◌, length, Option, Some, None, Result}
+use Rattle.std.specs.Prelude.{Ok, Err}
+use Rattle.std.specs.Int.{w32, to_be_bytes}
 use Rattle.snap_disk.specs.declared.refusal.Refusal.{Refusal}
-use Rattle.snap_disk.specs.declared.refusal.Refusal.TheVariants as refusals
-use Rattle.snap_frame.specs.declared.frame_buffer.Failure.{Failure}
-use Rattle.snap_frame.specs.declared.frame_buffer.Failure.TheVariants.{NoMemory, TooLarge}
-use Rattle.snap_frame.specs.declared.reply_feed.ReplyFault.{ReplyFault}
-use Rattle.snap_frame.specs.declared.reply_feed.ReplyFault.TheVariants.{BadReply, Failed}
+use Rattle.snap_frame.specs.Messages.{max_payload, frame, Asks, Malformed, Says, SaysNothing}
+use Rattle.snap_frame.specs.declared.frame_buffer.Failure.{Failure, TheVariants.NoMemory, TheVariants.TooLarge}
+use Rattle.snap_frame.specs.declared.reply_feed.ReplyFault.{ReplyFault, TheVariants.BadReply, TheVariants.Failed}
 use Rattle.snap_frame.specs.declared.request.Request.{Request}
 use Rattle.snap_frame.specs.declared.reply.Reply.{Reply}
-use Rattle.snap_frame.specs.Messages.{max_payload, frame, Asks, Malformed, Says, SaysNothing}
+use Rattle.snap_disk.specs.declared.refusal.Refusal.TheVariants as refusals
 
 -- the bytes that arrived and weren't taken off, and why the feed has failed
 pub record Held : Type 0 where

@@ -1,12 +1,9 @@
 -- Two lists of equal length, with a fact that holds of the elements at each place.
-use Rattle.std.proofs.Common.{◌≡◌, ◌≢◌, ℕ, zero, suc, ◌<◌, inl, inr, List, [], ◌∷◌, length, Some, slice_get}
-use Rattle.std.proofs.Common.{slice_set, refl, ap, sym, ◌∙◌}
-use Rattle.std.proofs.Common.{subst, arith}
-use Rattle.std.proofs.lemmas.List.{length-set, set-get_or}
+use Rattle.std.proofs.Common.{◌≡◌, ◌≢◌, ℕ, zero, suc, ◌<◌, inl, inr, List, [], ◌∷◌, length, Some, slice_get, slice_set}
+use Rattle.std.proofs.Common.{refl, ap, sym, ◌∙◌, subst, arith}
 use Rattle.std.proofs.lemmas.Option.{slice_get_within, same_Some, get_or_from_slice_get}
-use Rattle.std.proofs.lemmas.Bool.{cases_eq}
-use Rattle.snap_history.specs.Pairs.{Pairs}
-use Rattle.snap_history.proofs.Lists.{get-set_same, get-set_other}
+use Rattle.std.proofs.lemmas.{List.length-set, List.set-get_or, Bool.cases_eq}
+use Rattle.snap_history.{specs.Pairs.Pairs, proofs.Lists.get-set_same, proofs.Lists.get-set_other}
 
 -- there is an element at each place of a list
 pub element : {A : Type 0} (xs : List A) (i : ℕ) → i < length xs → (a : A)

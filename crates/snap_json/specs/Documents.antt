@@ -1,14 +1,10 @@
 -- The JSON documents of values, statuses and health (docs/FORMATS.md, "JSON"), by their tokens.
 use Rattle.std.specs.Prelude.{ℕ, Bool, true, false, List, [], ◌∷◌, ◌++◌, codes, if◌then◌else◌}
-use Rattle.std.specs.List.{list_any}
-use Rattle.std.specs.Fmt.{decimal}
-use Rattle.std.specs.Str.{is_utf8}
-use Rattle.base64.specs.Engines.{standard}
-use Rattle.base64.specs.GeneralPurpose.{encode_of}
+use Rattle.std.specs.{List.list_any, Fmt.decimal, Str.is_utf8}
+use Rattle.base64.specs.{Engines.standard, GeneralPurpose.encode_of}
 use Rattle.json.specs.Print.{print}
 use Rattle.json.specs.Token.{Token, begin_object, end_object, begin_array, end_array, key, string, number, boolean}
-use Rattle.snap_frame.specs.declared.entries.SegmentStatus.{SegmentStatus}
-use Rattle.snap_frame.specs.declared.named.NamedValue.{NamedValue}
+use Rattle.snap_frame.specs.declared.{entries.SegmentStatus.SegmentStatus, named.NamedValue.NamedValue}
 use Rattle.snap_frame.specs.segment_value.SegmentValue.{SegmentValue}
 use Rattle.snap_json.specs.Each.{each_from}
 

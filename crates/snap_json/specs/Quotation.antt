@@ -1,10 +1,8 @@
 -- Values as quoted text.
 use Rattle.std.specs.Prelude.{ℕ, Bool, true, false, ◌&&◌, ◌||◌, not, List, [], ◌∷◌, nat_eq, Option, Some, None}
 use Rattle.std.specs.Prelude.{if◌then◌else◌}
-use Rattle.std.specs.Str.{is_utf8}
-use Rattle.std.specs.Int.{is_in_range}
-use Rattle.json.specs.Print.{print}
-use Rattle.json.specs.Token.{string}
+use Rattle.std.specs.{Str.is_utf8, Int.is_in_range}
+use Rattle.json.specs.{Print.print, Token.string}
 
 -- a tab or line end
 abbrev pub is_white : ℕ → Bool

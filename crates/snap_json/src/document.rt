@@ -3,9 +3,8 @@ ghost use Rattle.std.specs.Prelude.{◌≡◌, ◌++◌, ◌∷◌, [], false, I
 ghost use Rattle.std.specs.List.{list_any};
 ghost use Rattle.json.specs.Token.{begin_array, begin_object, end_array, end_object, key};
 ghost use Rattle.snap_json.specs.Each.{each_from};
-ghost use Rattle.snap_json.specs.Documents.{fence_tokens, fenced_text};
-ghost use Rattle.snap_json.specs.Documents.{health_text, health_tokens, healthy_text, line_of};
-ghost use Rattle.snap_json.specs.Documents.{list_text, named_tokens, status_tokens, value_tokens};
+ghost use Rattle.snap_json.specs.Documents.{fence_tokens, fenced_text, health_text, health_tokens, healthy_text};
+ghost use Rattle.snap_json.specs.Documents.{line_of, list_text, named_tokens, status_tokens, value_tokens};
 
 use crate::member::{put_fence, put_status, put_value};
 use json::Writer;

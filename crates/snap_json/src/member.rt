@@ -1,9 +1,7 @@
 //! The objects of single segments.
 ghost use Rattle.std.specs.Prelude.{◌≡◌, ◌++◌, ◌∷◌, [], IfOk, OnOk};
-ghost use Rattle.json.specs.Print.{print};
-ghost use Rattle.json.specs.Token.{end_object};
-ghost use Rattle.snap_json.specs.Documents.{bytes_tokens, entry_tokens, fence_tokens};
-ghost use Rattle.snap_json.specs.Documents.{head_tokens, status_tokens};
+ghost use Rattle.json.specs.{Print.print, Token.end_object};
+ghost use Rattle.snap_json.specs.Documents.{bytes_tokens, entry_tokens, fence_tokens, head_tokens, status_tokens};
 
 use base64::engine::general_purpose::STANDARD;
 use json::Writer;

@@ -1,7 +1,6 @@
 //! Values as quoted text.
 ghost use Rattle.std.specs.Prelude.{◌≡◌, IfOk, IfSome, false, is_some, option_map};
-ghost use Rattle.snap_json.specs.Quotation.{are_plain, is_plain, is_printable, is_white, quote_of};
-ghost use Rattle.snap_json.specs.Quotation.{quoted};
+ghost use Rattle.snap_json.specs.Quotation.{are_plain, is_plain, is_printable, is_white, quote_of, quoted};
 
 use json::Writer;
 use std::alloc::{AllocError, Global};

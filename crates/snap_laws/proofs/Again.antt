@@ -2,23 +2,14 @@
 use Rattle.std.proofs.Common.{◌≡◌, ℕ, ◌<◌, List, length, map, get_or, All, sym, subst, ◌∙◌, arith}
 use Rattle.std.proofs.lemmas.List.{length-map}
 use Rattle.std.proofs.lemmas.Option.{slice_get_within, slice_get-get_or, get_or_from_slice_get}
-use Rattle.snap_history.specs.History.{Update}
-use Rattle.snap_history.specs.Pairs.{Pairs}
-use Rattle.snap_history.proofs.Pairs.{element}
-use Rattle.snap_register.specs.declared.plan.Plan.{Plan}
-use Rattle.snap_register.specs.History.{starts}
-use Rattle.snap_register.specs.Seat.{Known}
-use Rattle.snap_writer.specs.Writer.{WriterState}
-use Rattle.snap_writer.specs.Life.{resting}
-use Rattle.snap_restart.specs.LifeCrash.{Begun, IsRecovered}
-use Rattle.snap_restart.proofs.LifeStarts.{bytes_left}
-use Rattle.snap_restart.specs.Closed.{IsHistory}
-use Rattle.snap_restart.specs.Opened.{IsOpened}
-use Rattle.snap_restart.specs.Crash.{AreOpened, AnyCut}
-use Rattle.snap_restart.proofs.Removals.{get_map}
+use Rattle.snap_history.{specs.History.Update, specs.Pairs.Pairs, proofs.Pairs.element}
+use Rattle.snap_register.specs.{declared.plan.Plan.Plan, History.starts, Seat.Known}
+use Rattle.snap_writer.specs.{Writer.WriterState, Life.resting}
 use Rattle.snap_restart.proofs.Crash.{its_segment, its_device, opened_on, unmap}
-use Rattle.snap_laws.specs.Again.{AreOfOne, GoOnBehind}
-use Rattle.snap_laws.proofs.Openings.{at_rest_recovers}
+use Rattle.snap_restart.specs.{LifeCrash.Begun, LifeCrash.IsRecovered, Closed.IsHistory, Opened.IsOpened}
+use Rattle.snap_restart.specs.{Crash.AreOpened, Crash.AnyCut}
+use Rattle.snap_restart.proofs.{LifeStarts.bytes_left, Removals.get_map}
+use Rattle.snap_laws.{specs.Again.AreOfOne, specs.Again.GoOnBehind, proofs.Openings.at_rest_recovers}
 use Rattle.snap_disk.specs.declared.disk.Disk as Disk
 
 module _ {D : Type 0} (disk : Disk.Ghosts D) where

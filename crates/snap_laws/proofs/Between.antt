@@ -1,30 +1,23 @@
 -- Commands between two openings, by their contracts.
-use Rattle.std.proofs.Common.{◌≡◌, ℕ, ◌+◌, false, inl, inr, List, [], ◌∷◌, Option, Some, Result, Ok, Err, IfOk}
-use Rattle.std.proofs.Common.{OnOk, slice_get, slice_set, refl, sym, subst, ◌∙◌}
-use mathlib.Core.Logic.{dite}
-use native.Mathlib.Decide.{ℕ_discrete}
-use Rattle.std.proofs.lemmas.List.{length-set}
-use Rattle.std.proofs.lemmas.Option.{slice_get_within, same_Some}
-use Rattle.snap_disk.specs.Device.{Device, MayLeave}
-use Rattle.snap_disk.specs.Time.{LeavesOnly}
-use Rattle.snap_slot.specs.Layout.{Holds, IsFileOf}
-use Rattle.snap_segment.specs.Old.{OldHolds}
-use Rattle.snap_segment.specs.Segment.{SegmentState}
-use Rattle.snap_slot.specs.States.{IsAtRest, IsEither}
+use Rattle.std.proofs.Common.{◌≡◌, ℕ, ◌+◌, false, inl, inr, List, [], ◌∷◌, Option, Some, Result, Ok, Err, IfOk, OnOk}
+use Rattle.std.proofs.Common.{slice_get, slice_set, refl, sym, subst, ◌∙◌}
+use Rattle.std.proofs.lemmas.{List.length-set, Option.slice_get_within, Option.same_Some}
+use Rattle.snap_disk.specs.{Device.Device, Device.MayLeave, Time.LeavesOnly}
+use Rattle.snap_slot.specs.{Layout.Holds, Layout.IsFileOf, States.IsAtRest, States.IsEither}
 use Rattle.snap_slot.proofs.Rest.{at_rest_file, at_rest_leaves}
+use Rattle.snap_segment.specs.{Old.OldHolds, Segment.SegmentState}
 use Rattle.snap_history.proofs.Lists.{get-set_same, get-set_other}
 use Rattle.snap_writer.proofs.Crashes.{CountsNow}
 use Rattle.snap_restart.specs.Restarts.{Put, PutCutOff, Spared, Remade, Works, from_there}
-use Rattle.snap_order.specs.declared.order.FileOrder.{FileOrder}
-use Rattle.snap_order.specs.declared.order.FileOrder.TheVariants as order
-use Rattle.snap_order.specs.declared.status.Status.{Status}
+use Rattle.snap_order.specs.declared.{order.FileOrder.FileOrder, status.Status.Status}
 use Rattle.snap_file_commands.specs.Commands.{EndsOrder, EndsMaking, IsNewlyMade, IsStored}
-use Rattle.snap_file_commands.specs.declared.fault.CommandFault.{CommandFault}
-use Rattle.snap_file_commands.specs.Effects.{LeavesNoMore}
-use Rattle.snap_file_commands.specs.declared.migration.MigrationFault.{MigrationFault}
-use Rattle.snap_file_commands.specs.Migration.{EndsMigration}
 use Rattle.snap_file_commands.specs.Foundation.{IsBlank, IsDone, EndsFounding}
+use Rattle.snap_file_commands.specs.{declared.fault.CommandFault.CommandFault, Effects.LeavesNoMore}
+use Rattle.snap_file_commands.specs.{declared.migration.MigrationFault.MigrationFault, Migration.EndsMigration}
 use Rattle.snap_laws.specs.Between.{GoesOnWith, PutGoesOn, CutOffGoesOn, BeginsAgain, InitGoesOn}
+use mathlib.Core.Logic.{dite}
+use native.Mathlib.Decide.{ℕ_discrete}
+use Rattle.snap_order.specs.declared.order.FileOrder.TheVariants as order
 use Rattle.snap_disk.specs.declared.disk.Disk as Disk
 
 module _ {D : Type 0} (disk : Disk.Ghosts D) where

@@ -1,28 +1,23 @@
 -- A client's calls over an honest connection.
 use Rattle.std.proofs.Common.{◌≡◌, ◌⊎◌, ℕ, ◌≤◌, inl, inr, List, [], ◌∷◌, ◌++◌, length, map, All, Option, Some, None}
 use Rattle.std.proofs.Common.{refl, ap, sym, subst, ◌∙◌, arith, append_assoc, append-nil, length-append}
-use Rattle.std.proofs.lemmas.List.Elements.{All-tail}
-use Rattle.std.specs.List.{concat}
-use Rattle.std.specs.Int.{w32, to_be_bytes}
+use Rattle.std.{proofs.lemmas.List.Elements.All-tail, specs.List.concat, specs.Int.w32, specs.Int.to_be_bytes}
 use Rattle.snap_disk.specs.declared.refusal.Refusal.{Refusal}
-use Rattle.snap_disk.specs.declared.refusal.Refusal.TheVariants as refusals
 use Rattle.snap_history.specs.History.{Update, Start}
 use Rattle.snap_register.specs.Seat.{Known}
-use Rattle.snap_frame.specs.declared.request.Request.{Request}
-use Rattle.snap_frame.specs.declared.request.Request.TheVariants as request
-use Rattle.snap_frame.specs.declared.reply.Reply.{Reply}
 use Rattle.snap_frame.specs.declared.reply.Reply.TheVariants.{Stored, Snapshot, Part, Refused}
-use Rattle.snap_frame.specs.declared.frame_buffer.Failure.{Failure}
 use Rattle.snap_frame.specs.declared.frame_buffer.Failure.TheVariants.{TooLarge, NoMemory}
 use Rattle.snap_frame.specs.Messages.{max_payload, payload, frame, says, Says}
-use Rattle.snap_frame.proofs.Exact.{same_frame}
-use Rattle.snap_frame.proofs.Lengths.{says_fits}
+use Rattle.snap_frame.specs.declared.{request.Request.Request, reply.Reply.Reply, frame_buffer.Failure.Failure}
+use Rattle.snap_frame.proofs.{Exact.same_frame, Lengths.says_fits}
 use Rattle.snap_session.specs.Talk.{Answer, Run, Moves, Phase, frames, refused_too_large}
 use Rattle.snap_service.specs.Answers.{Answers}
 use Rattle.snap_client.specs.Calls.{ClientState}
 use Rattle.snap_laws.specs.Told.{Stands, IsSendable, AreTold}
 use Rattle.snap_laws.specs.Laws.{Returned, Converses, AllStand}
 use Rattle.snap_laws.proofs.Payloads.{head_is}
+use Rattle.snap_disk.specs.declared.refusal.Refusal.TheVariants as refusals
+use Rattle.snap_frame.specs.declared.request.Request.TheVariants as request
 
 -- ---- what a client wrote and read over some calls
 

@@ -1,12 +1,10 @@
 -- Replies that a client returned to its caller over an honest connection are among what the service has seen.
 use Rattle.std.proofs.Common.{◌≡◌, ℕ, List, ◌++◌, Option, ap, sym, ◌∙◌, append_assoc}
-use Rattle.snap_register.specs.History.{starts}
-use Rattle.snap_register.specs.Rule.{segments}
+use Rattle.snap_register.specs.{History.starts, Rule.segments}
 use Rattle.snap_session.specs.Talk.{frames}
 use Rattle.snap_client.specs.Calls.{fresh}
-use Rattle.snap_laws.specs.Laws.{ClientLaw}
-use Rattle.snap_laws.proofs.Runs.{session_told}
 use Rattle.snap_laws.proofs.Calls.{spoke, run_fits, tail_is, answers_stand}
+use Rattle.snap_laws.{specs.Laws.ClientLaw, proofs.Runs.session_told}
 
 pub answered_stands : {R W : Type 0} (remaining : R → Option (List ℕ))
     (contents : W → Option (List ℕ)) → ClientLaw remaining contents

@@ -1,32 +1,22 @@
 -- Replies are in what a crash leaves, and in what any number of crashes leave.
-use Rattle.std.proofs.Common.{◌≡◌, ⊎_elim, ℕ, ◌<◌, inl, inr, List, [], ◌∷◌, ◌++◌, length, Option, refl, sym, subst}
-use Rattle.std.proofs.Common.{◌∙◌, arith, append_assoc}
-use Rattle.snap_register.specs.Registers.{Moment}
+use Rattle.std.proofs.Common.{◌≡◌, ⊎_elim, ℕ, ◌<◌, inl, inr, List, [], ◌∷◌, ◌++◌, length, Option, refl, sym, subst, ◌∙◌}
+use Rattle.std.proofs.Common.{arith, append_assoc}
+use Rattle.snap_register.specs.{Registers.Moment, declared.plan.Plan.Plan, History.starts, History.updates}
+use Rattle.snap_register.specs.{Rule.segments, Rule.Kept, Seat.Known}
 use Rattle.snap_history.specs.History.{Update, Start, IsBeginning}
-use Rattle.snap_history.proofs.Beginnings.{beginning-self, beginning-trans}
-use Rattle.snap_history.proofs.Moments.{value-push}
-use Rattle.snap_register.specs.declared.plan.Plan.{Plan}
-use Rattle.snap_register.specs.History.{starts, updates}
-use Rattle.snap_register.specs.Rule.{segments, Kept}
-use Rattle.snap_register.specs.Seat.{Known}
-use Rattle.snap_frame.specs.declared.request.Request.{Request}
-use Rattle.snap_frame.specs.declared.reply.Reply.{Reply}
-use Rattle.snap_writer.specs.Writer.{WriterState}
-use Rattle.snap_writer.specs.Life.{Place}
-use Rattle.snap_restart.proofs.LifeCrash.{seen_saw}
-use Rattle.snap_restart.proofs.LifeStarts.{StartsAfter}
-use Rattle.snap_restart.specs.Crash.{AreOpened, GoesOn}
-use Rattle.snap_restart.specs.Restarts.{Restarts, First, Crashed, Interrupted, Spared, Put, PutCutOff, Remade}
-use Rattle.snap_restart.specs.Restarts.{update, without}
-use Rattle.snap_restart.proofs.Commands.{stored, cut_off}
-use Rattle.snap_restart.proofs.Crash.{starts_after}
+use Rattle.snap_history.proofs.{Beginnings.beginning-self, Beginnings.beginning-trans, Moments.value-push}
+use Rattle.snap_frame.specs.declared.{request.Request.Request, reply.Reply.Reply}
+use Rattle.snap_writer.specs.{Writer.WriterState, Life.Place}
+use Rattle.snap_restart.specs.Restarts.{Restarts, First, Crashed, Interrupted, Spared, Put, PutCutOff, Remade, update}
+use Rattle.snap_restart.specs.Restarts.{without}
 use Rattle.snap_restart.proofs.Starts.{all_devices, history_on, last}
+use Rattle.snap_restart.{proofs.LifeCrash.seen_saw, proofs.LifeStarts.StartsAfter, specs.Crash.AreOpened}
+use Rattle.snap_restart.{specs.Crash.GoesOn, proofs.Commands.stored, proofs.Commands.cut_off, proofs.Crash.starts_after}
 use Rattle.snap_laws.specs.Told.{Stands, IsTold}
 use Rattle.snap_laws.specs.Laws.{SessionUpTo, SessionTold, WasAnswered, AllStand, WasSeenIn}
 use Rattle.snap_laws.specs.Ever.{WasTold, WasEverTold, EverLaw}
-use Rattle.snap_laws.proofs.ClientAnswers.{answered_stands}
-use Rattle.snap_laws.proofs.Runs.{session_told}
 use Rattle.snap_laws.proofs.Stands.{stands_on, stands_earlier, stands_without, beside_map, beside_at}
+use Rattle.snap_laws.proofs.{ClientAnswers.answered_stands, Runs.session_told}
 use Rattle.snap_disk.specs.declared.disk.Disk as Disk
 
 -- what a seat had seen is a beginning of the history at the moment

@@ -1,27 +1,20 @@
 -- New registers, after all writers' seats are split off, keep their rule.
-use Rattle.std.proofs.Common.{◌≡◌, ℕ, zero, suc, ◌+◌, ◌-◌, ◌<◌, ◌≤◌, List, [], ◌∷◌, ◌++◌, length, Some, slice_get}
-use Rattle.std.proofs.Common.{refl, ap, sym, subst, ◌∙◌, arith, length-append}
+use Rattle.std.proofs.Common.{◌≡◌, ℕ, zero, suc, ◌+◌, ◌-◌, ◌<◌, ◌≤◌, List, [], ◌∷◌, ◌++◌, length, Some, slice_get, refl}
+use Rattle.std.proofs.Common.{ap, sym, subst, ◌∙◌, arith, length-append}
 use Rattle.std.proofs.lemmas.Option.{slice_get_within}
+use Rattle.snap_register.specs.Rule.{segments, seats, size, IsWriter, Kept, first_role, without_first_role}
+use Rattle.snap_register.specs.Setup.{first_view, opening_words, IsReady, IsFirst}
+use Rattle.snap_register.proofs.Opens.{opens, first_is, enough, bare, first_after}
+use Rattle.snap_register.specs.{Registers.Moment, declared.plan.Entry.Entry, declared.plan.Plan.Plan}
+use Rattle.snap_register.specs.{declared.plan.SeatView.SeatView, History.updates, History.only}
+use Rattle.snap_register.proofs.{Joins.gives, Updates.updates_count}
+use Rattle.snap_writer.specs.{Writer.WriterState, Life.Place, Life.seen_at}
+use Rattle.snap_restart.specs.{LifeLaws.IsSeatOf, Crash.IsLifeFrom, Restarts.Crashed}
+use Rattle.snap_laws.specs.Moment.{ShowNothing, HasNone, AtOnceLaw, OverLaw}
 use mathlib.Core.Logic.{dite}
 use mathlib.Core.Option.{some}
 use native.Mathlib.Decide.{ℕ_discrete}
 use lib.ListN.{get_elem?}
-use Rattle.snap_register.specs.Registers.{Moment}
-use Rattle.snap_register.specs.declared.plan.Entry.{Entry}
-use Rattle.snap_register.specs.declared.plan.Plan.{Plan}
-use Rattle.snap_register.specs.declared.plan.SeatView.{SeatView}
-use Rattle.snap_register.specs.History.{updates, only}
-use Rattle.snap_register.specs.Rule.{segments, seats, size, IsWriter, Kept, first_role, without_first_role}
-use Rattle.snap_register.specs.Setup.{first_view, opening_words, IsReady, IsFirst}
-use Rattle.snap_register.proofs.Joins.{gives}
-use Rattle.snap_register.proofs.Opens.{opens, first_is, enough, bare, first_after}
-use Rattle.snap_register.proofs.Updates.{updates_count}
-use Rattle.snap_writer.specs.Writer.{WriterState}
-use Rattle.snap_writer.specs.Life.{Place, seen_at}
-use Rattle.snap_restart.specs.LifeLaws.{IsSeatOf}
-use Rattle.snap_restart.specs.Crash.{IsLifeFrom}
-use Rattle.snap_restart.specs.Restarts.{Crashed}
-use Rattle.snap_laws.specs.Moment.{ShowNothing, HasNone, AtOnceLaw, OverLaw}
 use Rattle.snap_disk.specs.declared.disk.Disk as Disk
 
 -- ---- the end of a list of views

@@ -4,10 +4,8 @@ use Rattle.std.specs.Option.{option_to_list}
 use Rattle.snap_memory.proofs.Popped.{last_has}
 use Rattle.snap_writer.specs.Writer.{WriterState}
 use Rattle.snap_writer.specs.Life.{Lived, HasLived, IsWriterOf}
-use Rattle.snap_restart.specs.LifeDurability.{Keeps, StaysLaw}
-use Rattle.snap_restart.proofs.Placed.{same_file}
-use Rattle.snap_restart.proofs.LifeDurability.{lived_is}
-use Rattle.snap_restart.specs.Crash.{AreOpened}
+use Rattle.snap_restart.specs.{LifeDurability.Keeps, LifeDurability.StaysLaw, Crash.AreOpened}
+use Rattle.snap_restart.proofs.{Placed.same_file, LifeDurability.lived_is}
 use Rattle.snap_laws.specs.NoLoss.{IsAWriter, LosesNothing}
 use Rattle.snap_disk.specs.declared.disk.Disk as Disk
 

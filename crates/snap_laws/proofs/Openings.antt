@@ -1,30 +1,21 @@
 -- The premises of the law of a cut if all writers are at rest and all are back, and what follows
 -- for any number of starts.
 use Rattle.std.proofs.Common.{◌≡◌, ℕ, List, [], length, map, refl, ap, sym, subst, ◌∙◌, arith}
-use Rattle.std.proofs.lemmas.List.{length-map}
-use Rattle.std.proofs.lemmas.Option.{same_Some, slice_get_within}
+use Rattle.std.proofs.lemmas.{List.length-map, Option.same_Some, Option.slice_get_within}
 use Rattle.snap_disk.specs.Device.{MayLeave}
 use Rattle.snap_slot.proofs.Rest.{at_rest_leaves}
 use Rattle.snap_history.specs.History.{Update, IsBeginning, updates_of, number_after}
 use Rattle.snap_history.specs.Pairs.{Pairs}
-use Rattle.snap_history.proofs.Beginnings.{beginning-self, number-beginning}
-use Rattle.snap_history.proofs.Pairs.{element}
+use Rattle.snap_history.proofs.{Beginnings.beginning-self, Beginnings.number-beginning, Pairs.element}
 use Rattle.snap_memory.proofs.Collects.{grows_self}
-use Rattle.snap_register.specs.declared.plan.Plan.{Plan}
-use Rattle.snap_register.specs.History.{starts}
-use Rattle.snap_register.specs.Seat.{Known}
-use Rattle.snap_writer.specs.Writer.{WriterState}
+use Rattle.snap_register.specs.{declared.plan.Plan.Plan, History.starts, Seat.Known}
 use Rattle.snap_writer.specs.Life.{Place, resting, seen_at, Sees, CrashLeaves}
-use Rattle.snap_writer.proofs.Crashes.{CountsNow}
-use Rattle.snap_restart.specs.LifeCrash.{Recovers}
-use Rattle.snap_restart.proofs.Placed.{same_file}
-use Rattle.snap_restart.proofs.LifeCrash.{each_seen}
-use Rattle.snap_restart.specs.Closed.{IsHistory}
-use Rattle.snap_restart.specs.Opened.{IsBack, IsOpened}
-use Rattle.snap_restart.specs.Restarts.{First, Interrupted}
+use Rattle.snap_writer.{specs.Writer.WriterState, proofs.Crashes.CountsNow}
 use Rattle.snap_restart.specs.Crash.{AreOpened, StayKept, AnyCut}
-use Rattle.snap_restart.proofs.Removals.{get_map}
 use Rattle.snap_restart.proofs.Crash.{its_segment, its_device, opened_on, unmap}
+use Rattle.snap_restart.specs.{LifeCrash.Recovers, Closed.IsHistory, Opened.IsBack, Opened.IsOpened, Restarts.First}
+use Rattle.snap_restart.specs.Restarts.{Interrupted}
+use Rattle.snap_restart.proofs.{Placed.same_file, LifeCrash.each_seen, Removals.get_map}
 use Rattle.snap_laws.specs.Worked.{IsLeft, IsRecoveredNow, KeepAStart, ComeThrough}
 use Rattle.snap_laws.specs.Again.{AreOfOne}
 use Rattle.snap_disk.specs.declared.disk.Disk as Disk

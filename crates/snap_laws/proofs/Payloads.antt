@@ -1,26 +1,21 @@
 -- A payload can be read as one request or reply only: the one that the service got or gave.
-use Rattle.std.proofs.Common.{◌≡◌, ℕ, ◌<◌, ◌^◌, inl, inr, List, [], ◌∷◌, ◌++◌, drop, get_or, map, ap, sym, subst}
-use Rattle.std.proofs.Common.{◌∙◌, arith}
+use Rattle.std.proofs.Common.{◌≡◌, ℕ, ◌<◌, ◌^◌, inl, inr, List, [], ◌∷◌, ◌++◌, drop, get_or, map, ap, sym, subst, ◌∙◌}
+use Rattle.std.proofs.Common.{arith}
 use Rattle.snap_history.specs.History.{Update, IsBeginning}
-use Rattle.snap_register.specs.History.{starts}
-use Rattle.snap_register.specs.Rule.{segments}
-use Rattle.snap_register.specs.Seat.{Known}
-use Rattle.snap_frame.specs.declared.named.NamedValue.{NamedValue}
-use Rattle.snap_frame.specs.segment_value.SegmentValue.{SegmentValue}
-use Rattle.snap_frame.specs.declared.request.Request.{Request}
-use Rattle.snap_frame.specs.declared.request.Request.TheVariants as request
-use Rattle.snap_frame.specs.declared.reply.Reply.{Reply}
+use Rattle.snap_register.specs.{History.starts, Rule.segments, Seat.Known}
 use Rattle.snap_frame.specs.declared.reply.Reply.TheVariants.{Stored, Snapshot, Part}
-use Rattle.snap_frame.specs.Messages.{payload, says, value_bytes, named_bytes, IsAskable, Asks, IsValue}
-use Rattle.snap_frame.specs.Messages.{IsNamedValue, IsInLimits}
-use Rattle.snap_frame.specs.Values.{pair_of}
+use Rattle.snap_frame.specs.Messages.{payload, says, value_bytes, named_bytes, IsAskable, Asks, IsValue, IsNamedValue}
+use Rattle.snap_frame.specs.Messages.{IsInLimits}
 use Rattle.snap_frame.proofs.BigEndian.{same_number, same_set}
 use Rattle.snap_frame.proofs.Behind.{values_apart, named_apart, same_entries}
+use Rattle.snap_frame.specs.{declared.named.NamedValue.NamedValue, segment_value.SegmentValue.SegmentValue}
+use Rattle.snap_frame.specs.{declared.request.Request.Request, declared.reply.Reply.Reply, Values.pair_of}
 use Rattle.snap_session.specs.Talk.{Answer}
 use Rattle.snap_service.specs.Answers.{Answers}
 use Rattle.snap_restart.specs.LifeCrash.{Has}
 use Rattle.snap_laws.specs.Told.{IsMemoryAfter, IsPartAfter, Stands, IsTold}
 use Rattle.snap_laws.proofs.Replies.{stored, replied}
+use Rattle.snap_frame.specs.declared.request.Request.TheVariants as request
 
 -- the first elements are equal
 pub head_is : (m n : ℕ) (xs ys : List ℕ) → m ∷ xs ≡ n ∷ ys → m ≡ n

@@ -1,25 +1,21 @@
 -- The laws' premises can be met: a session answers one request, and a client makes that call.
 use Rattle.std.proofs.Common.{◌≡◌, ℕ, inl, List, [], ◌∷◌, ◌++◌, Option, Some, None, Result, Ok, Err, IfOk, refl, ap}
 use Rattle.std.proofs.Common.{sym, ◌∙◌, arith, append-nil}
-use Rattle.std.proofs.lemmas.List.Elements.{All-cons}
-use Rattle.std.proofs.lemmas.Option.{same_Some}
 use Rattle.std.specs.Io.KnownBytes.{Appends, Consumes}
+use Rattle.std.proofs.lemmas.{List.Elements.All-cons, Option.same_Some}
 use Rattle.snap_register.specs.Seat.{Known}
-use Rattle.snap_frame.specs.declared.request.Request.{Request}
-use Rattle.snap_frame.specs.declared.request.Request.TheVariants as request
-use Rattle.snap_frame.specs.declared.reply.Reply.{Reply}
-use Rattle.snap_frame.specs.declared.reply.Reply.TheVariants.{Stored}
 use Rattle.snap_frame.specs.Messages.{payload, frame, says, IsInLimits}
+use Rattle.snap_frame.specs.declared.{request.Request.Request, reply.Reply.Reply, reply.Reply.TheVariants.Stored}
 use Rattle.snap_frame.proofs.Lengths.{says_fits}
-use Rattle.snap_session.specs.Talk as session
 use Rattle.snap_service.specs.Answers.{Answers, Settled}
 use Rattle.snap_client.specs.declared.fault.ClientFault.{ClientFault}
 use Rattle.snap_client.specs.Calls.{ClientState, Calls, fresh}
-use Rattle.snap_client.specs.Calls as calls
-use Rattle.snap_laws.specs.Told.{IsSendable}
-use Rattle.snap_laws.specs.Laws.{SessionUpTo, Begins}
 use Rattle.snap_laws.specs.Heard.{bytes_of, socket, HeardLaw, HearsFrom, scanner_after, first_update, FirstHeard}
+use Rattle.snap_laws.specs.{Told.IsSendable, Laws.SessionUpTo, Laws.Begins}
 use Rattle.snap_laws.proofs.ClientAnswers.{answered_stands}
+use Rattle.snap_frame.specs.declared.request.Request.TheVariants as request
+use Rattle.snap_session.specs.Talk as session
+use Rattle.snap_client.specs.Calls as calls
 
 -- a session that read one request and wrote the reply to it
 abbrev one_turn : (a b : Known) (q : Request) (r : Reply) → IsSendable q → IsInLimits r → Answers a q r b

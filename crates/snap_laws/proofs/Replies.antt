@@ -3,22 +3,17 @@ use Rattle.std.proofs.Common.{◌≡◌, ⊎_elim, ℕ, ◌^◌, ◌<◌, List, 
 use Rattle.snap_disk.specs.declared.refusal.Refusal.{Refusal}
 use Rattle.snap_history.specs.History.{Update, IsBeginning}
 use Rattle.snap_history.proofs.Beginnings.{beginning-self, beginning-trans}
-use Rattle.snap_register.specs.declared.plan.Plan.{Plan}
-use Rattle.snap_register.specs.History.{starts}
-use Rattle.snap_register.specs.Rule.{segments}
 use Rattle.snap_register.specs.Seat.{Known, Grows, IsMemory}
+use Rattle.snap_register.specs.{declared.plan.Plan.Plan, History.starts, Rule.segments}
 use Rattle.snap_scan.proofs.Sets.{at_below}
-use Rattle.snap_memory.specs.Scans.{BeginsFresh, MayRefuse}
-use Rattle.snap_memory.specs.Sets.{size}
-use Rattle.snap_memory.specs.Values.{pair_of}
-use Rattle.snap_frame.specs.declared.request.Request.{Request}
-use Rattle.snap_frame.specs.declared.request.Request.TheVariants as request
-use Rattle.snap_frame.specs.declared.reply.Reply.{Reply}
+use Rattle.snap_memory.specs.{Scans.BeginsFresh, Scans.MayRefuse, Sets.size, Values.pair_of}
 use Rattle.snap_frame.specs.declared.reply.Reply.TheVariants.{Stored, Snapshot, Status, Part, Refused}
-use Rattle.snap_service.specs.Answers.{Answers, AnswersUpdate, AnswersScan, AnswersPart, AnswersStatus, Outside}
-use Rattle.snap_service.specs.Answers.{Long, Unseen, Settled}
+use Rattle.snap_frame.specs.declared.{request.Request.Request, reply.Reply.Reply}
+use Rattle.snap_service.specs.Answers.{Answers, AnswersUpdate, AnswersScan, AnswersPart, AnswersStatus, Outside, Long}
+use Rattle.snap_service.specs.Answers.{Unseen, Settled}
 use Rattle.snap_restart.specs.LifeCrash.{Has}
 use Rattle.snap_laws.specs.Told.{IsPartAfter, Stands}
+use Rattle.snap_frame.specs.declared.request.Request.TheVariants as request
 
 -- b has seen all that a has, and maybe more, of the same registers
 abbrev pub Sees : Known → Known → Type 0

@@ -1,17 +1,11 @@
 -- Runs of a service: what it replied during a run is in what it has seen after the run.
 use Rattle.std.proofs.Common.{ℕ, inl, inr, List, [], ◌∷◌, ◌++◌, sym, subst}
-use Rattle.snap_history.specs.History.{Update, IsBeginning}
-use Rattle.snap_history.proofs.Beginnings.{beginning-trans}
-use Rattle.snap_register.specs.declared.plan.Plan.{Plan}
-use Rattle.snap_register.specs.History.{starts}
-use Rattle.snap_register.specs.Rule.{segments}
-use Rattle.snap_register.specs.Seat.{Known}
+use Rattle.snap_history.{specs.History.Update, specs.History.IsBeginning, proofs.Beginnings.beginning-trans}
+use Rattle.snap_register.specs.{declared.plan.Plan.Plan, History.starts, Rule.segments, Seat.Known}
 use Rattle.snap_session.specs.Talk.{Answer, Run, Stays, Moves}
 use Rattle.snap_service.specs.Answers.{Answers}
-use Rattle.snap_laws.specs.Told.{IsTold, AreTold}
-use Rattle.snap_laws.specs.Laws.{SessionLaw}
 use Rattle.snap_laws.proofs.Replies.{Sees, sees_same, sees_then, answered}
-use Rattle.snap_laws.proofs.Payloads.{told}
+use Rattle.snap_laws.{specs.Told.IsTold, specs.Told.AreTold, specs.Laws.SessionLaw, proofs.Payloads.told}
 
 answer_sees : (a b : Known) (x y : List ℕ) → Answer Answers a x y b → Sees a b
 answer_sees a b x y (fits, inl is) = answered a b is.0 is.1 is.3

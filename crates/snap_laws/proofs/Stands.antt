@@ -4,15 +4,13 @@ use Rattle.std.proofs.Common.{append_assoc}
 use Rattle.std.proofs.lemmas.Option.{same_Some}
 use Rattle.snap_history.specs.History.{Update, Start, IsBeginning, number_after, value_after}
 use Rattle.snap_history.proofs.Beginnings.{beginning-trans}
-use Rattle.snap_frame.specs.declared.request.Request.{Request}
-use Rattle.snap_frame.specs.declared.request.Request.TheVariants as request
-use Rattle.snap_frame.specs.declared.reply.Reply.{Reply}
 use Rattle.snap_frame.specs.declared.reply.Reply.TheVariants.{Stored, Snapshot, Part}
+use Rattle.snap_frame.specs.declared.{request.Request.Request, reply.Reply.Reply}
 use Rattle.snap_restart.proofs.LifeStarts.{StartsAfter, number_on, value_on}
 use Rattle.snap_restart.specs.Restarts.{without, from_there}
 use Rattle.snap_restart.proofs.Commands.{without-append, number_without, value_without}
-use Rattle.snap_laws.specs.Told.{Stands, SideBySide}
-use Rattle.snap_laws.specs.Ever.{UpdatesAnother}
+use Rattle.snap_laws.specs.{Told.Stands, Told.SideBySide, Ever.UpdatesAnother}
+use Rattle.snap_frame.specs.declared.request.Request.TheVariants as request
 
 -- ---- a longer history
 

@@ -1,29 +1,20 @@
 -- The premises of the law of a cut if two writers are at work.
 use Rattle.std.proofs.Common.{◌≡◌, ◌⊎◌, ℕ, zero, suc, ◌+◌, ◌≤◌, inl, inr, List, [], ◌∷◌, ◌++◌, length, Option, Some}
 use Rattle.std.proofs.Common.{slice_get, refl, ap, sym, subst, ◌∙◌, arith, length-append}
-use Rattle.std.specs.Option.{option_to_list}
-use Rattle.std.proofs.lemmas.Bool.{cases_lt}
-use Rattle.std.proofs.lemmas.Option.{same_Some}
+use Rattle.std.{specs.Option.option_to_list, proofs.lemmas.Bool.cases_lt, proofs.lemmas.Option.same_Some}
 use Rattle.snap_history.specs.History.{Update, IsBeginning, number_after}
-use Rattle.snap_history.specs.Limits.{IsNumber, IsShort}
-use Rattle.snap_history.specs.declared.limits.TheConstants.{LAST_NUMBER}
+use Rattle.snap_history.specs.{Limits.IsNumber, Limits.IsShort, declared.limits.TheConstants.LAST_NUMBER}
 use Rattle.snap_history.proofs.Beginnings.{beginning-self}
 use Rattle.snap_scan.specs.Looks.{most_looks}
-use Rattle.snap_register.specs.declared.plan.Plan.{Plan}
-use Rattle.snap_register.specs.History.{starts}
-use Rattle.snap_register.specs.Rule.{segments}
-use Rattle.snap_register.specs.Seat.{Known}
+use Rattle.snap_register.specs.{declared.plan.Plan.Plan, History.starts, Rule.segments, Seat.Known}
 use Rattle.snap_segment.specs.Segment.{SegmentState}
 use Rattle.snap_writer.specs.Writer.{WriterState, number_of}
-use Rattle.snap_writer.specs.Judge.{IsJudged}
-use Rattle.snap_writer.specs.declared.judgement.Judgement.TheVariants.{Go}
 use Rattle.snap_writer.specs.Life.{Place, in_store, resting, seen_at, Sees, Shows, StoresFirst, IsWriterOf}
+use Rattle.snap_writer.specs.{Judge.IsJudged, declared.judgement.Judgement.TheVariants.Go}
 use Rattle.snap_restart.specs.LifeLaws.{IsLivedIn}
-use Rattle.snap_restart.proofs.LifeCrash.{each_seen, cut_recovers}
-use Rattle.snap_restart.proofs.Crash.{opened_on}
-use Rattle.snap_laws.specs.Opened.{AreNew}
+use Rattle.snap_restart.proofs.{LifeCrash.each_seen, LifeCrash.cut_recovers, Crash.opened_on}
 use Rattle.snap_laws.specs.Together.{stored_unshown, AreTwo, IsRecoveredAt}
-use Rattle.snap_laws.proofs.Openings.{sees_itself}
+use Rattle.snap_laws.{specs.Opened.AreNew, proofs.Openings.sees_itself}
 use Rattle.snap_disk.specs.declared.disk.Disk as Disk
 
 module _ {D : Type 0} (disk : Disk.Ghosts D) where

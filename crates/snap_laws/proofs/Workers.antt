@@ -1,17 +1,10 @@
 -- Sessions on a service that answers as a scanner does.
 use Rattle.std.proofs.Common.{ℕ, List, ◌++◌, refl, subst}
-use Rattle.snap_register.specs.History.{starts}
-use Rattle.snap_register.specs.Rule.{segments}
-use Rattle.snap_register.specs.Seat.{Known}
-use Rattle.snap_frame.specs.declared.request.Request.{Request}
-use Rattle.snap_frame.specs.declared.reply.Reply.{Reply}
-use Rattle.snap_session.specs.Talk.{start}
-use Rattle.snap_session.specs.Wrapped.{AnswersAs}
-use Rattle.snap_session.proofs.Wrapped.{shared}
+use Rattle.snap_register.specs.{History.starts, Rule.segments, Seat.Known}
+use Rattle.snap_frame.specs.declared.{request.Request.Request, reply.Reply.Reply}
+use Rattle.snap_session.{specs.Talk.start, specs.Wrapped.AnswersAs, proofs.Wrapped.shared}
 use Rattle.snap_service.specs.Answers.{Answers}
-use Rattle.snap_laws.specs.Told.{AreTold}
-use Rattle.snap_laws.specs.Worker.{OfScannerLaw, WorkerLaw}
-use Rattle.snap_laws.proofs.Runs.{session_told}
+use Rattle.snap_laws.{specs.Told.AreTold, specs.Worker.OfScannerLaw, specs.Worker.WorkerLaw, proofs.Runs.session_told}
 
 module _ {S : Type 0} (gives : S → Request → Reply → S → Type 0) (scanner : S → Known)
     (answers : AnswersAs scanner gives Answers) where

@@ -1,13 +1,9 @@
 -- One opening after another.
 use Rattle.std.specs.Prelude.{◌≡◌, ℕ, List, length, map, Some, slice_get}
 use Rattle.snap_history.specs.History.{Update, IsBeginning}
-use Rattle.snap_register.specs.declared.plan.Plan.{Plan}
-use Rattle.snap_register.specs.History.{starts}
-use Rattle.snap_register.specs.Seat.{Known}
-use Rattle.snap_writer.specs.Writer.{WriterState}
-use Rattle.snap_writer.specs.Life.{resting, IsWriterOf}
-use Rattle.snap_restart.specs.LifeCrash.{all_seen}
-use Rattle.snap_restart.specs.Crash.{AllHonest, GoesOn}
+use Rattle.snap_register.specs.{declared.plan.Plan.Plan, History.starts, Seat.Known}
+use Rattle.snap_writer.specs.{Writer.WriterState, Life.resting, Life.IsWriterOf}
+use Rattle.snap_restart.specs.{LifeCrash.all_seen, Crash.AllHonest, Crash.GoesOn}
 use Rattle.snap_disk.specs.declared.disk.Disk as Disk
 
 module _ {D : Type 0} (disk : Disk.Ghosts D) where

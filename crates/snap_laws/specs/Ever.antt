@@ -1,17 +1,13 @@
 -- The replies over any number of crashes and starts.
 use Rattle.std.specs.Prelude.{◌≡◌, ◌≢◌, ◌⊎◌, ℕ, ◌+◌, List, [], ◌∷◌, ◌++◌, Option, Some, slice_get}
 use Rattle.snap_history.specs.History.{Update, Start}
-use Rattle.snap_register.specs.declared.plan.Plan.{Plan}
-use Rattle.snap_register.specs.declared.plan.SeatView.{SeatView}
-use Rattle.snap_register.specs.Seat.{Known}
-use Rattle.snap_frame.specs.declared.request.Request.{Request}
-use Rattle.snap_frame.specs.declared.request.Request.TheVariants as request
-use Rattle.snap_frame.specs.declared.reply.Reply.{Reply}
-use Rattle.snap_frame.specs.declared.reply.Reply.TheVariants.{Stored}
+use Rattle.snap_register.specs.{declared.plan.Plan.Plan, declared.plan.SeatView.SeatView, Seat.Known}
 use Rattle.snap_frame.specs.Messages.{Asks, Says}
+use Rattle.snap_frame.specs.declared.{request.Request.Request, reply.Reply.Reply, reply.Reply.TheVariants.Stored}
 use Rattle.snap_restart.specs.Restarts.{Restarts, First, Crashed, Interrupted, Spared, Put, PutCutOff, Remade, Last}
 use Rattle.snap_laws.specs.Told.{Stands, HasNumber}
 use Rattle.snap_laws.specs.Laws.{SessionUpTo, WasAnswered, WasSeenIn}
+use Rattle.snap_frame.specs.declared.request.Request.TheVariants as request
 use Rattle.snap_disk.specs.declared.disk.Disk as Disk
 
 -- Some session of the service, which has reached the state b since, gave out or owed bytes that say

@@ -1,20 +1,15 @@
 -- Clients that receive what a service replies: the laws' premises can be met.
 use Rattle.std.specs.Prelude.{◌≡◌, ℕ, ◌^◌, List, [], ◌∷◌, Option, Some, None}
 use Rattle.snap_history.specs.History.{Update}
-use Rattle.snap_register.specs.declared.plan.Plan.{Plan}
-use Rattle.snap_register.specs.History.{starts}
-use Rattle.snap_register.specs.Seat.{Known}
-use Rattle.snap_frame.specs.declared.request.Request.{Request}
-use Rattle.snap_frame.specs.declared.request.Request.TheVariants as request
-use Rattle.snap_frame.specs.declared.reply.Reply.{Reply}
-use Rattle.snap_frame.specs.declared.reply.Reply.TheVariants.{Stored}
+use Rattle.snap_register.specs.{declared.plan.Plan.Plan, History.starts, Seat.Known, Registers.no_registers}
 use Rattle.snap_frame.specs.Messages.{payload, frame, IsInLimits}
+use Rattle.snap_frame.specs.declared.{request.Request.Request, reply.Reply.Reply, reply.Reply.TheVariants.Stored}
 use Rattle.snap_service.specs.Answers.{Answers}
-use Rattle.snap_register.specs.Registers.{no_registers}
-use Rattle.snap_client.specs.Calls as calls
 use Rattle.snap_restart.specs.LifeCrash.{Has}
 use Rattle.snap_laws.specs.Told.{IsSendable}
 use Rattle.snap_laws.specs.Laws.{SessionUpTo, Begins, WasAnswered}
+use Rattle.snap_frame.specs.declared.request.Request.TheVariants as request
+use Rattle.snap_client.specs.Calls as calls
 
 -- a reader that has these bytes left, or a writer that has received them
 abbrev pub bytes_of : List ℕ → Option (List ℕ)

@@ -2,23 +2,15 @@
 -- seen. So they are in what a crash at any moment leaves.
 use Rattle.std.specs.Prelude.{◌≡◌, ℕ, ◌<◌, List, [], ◌∷◌, ◌++◌, length, map, All, Option, Some, None, Ok, slice_get}
 use Rattle.std.specs.List.{concat}
-use Rattle.snap_register.specs.Registers.{Moment}
+use Rattle.snap_register.specs.{Registers.Moment, declared.plan.SeatView.SeatView, History.starts, History.updates}
+use Rattle.snap_register.specs.{Rule.segments, Rule.Kept, Seat.Known, Seat.IsMemory}
 use Rattle.snap_history.specs.History.{Update, Start, IsBeginning}
 use Rattle.snap_history.specs.Pairs.{Pairs}
-use Rattle.snap_register.specs.declared.plan.SeatView.{SeatView}
-use Rattle.snap_register.specs.History.{starts, updates}
-use Rattle.snap_register.specs.Rule.{segments, Kept}
-use Rattle.snap_register.specs.Seat.{Known, IsMemory}
-use Rattle.snap_memory.specs.Scans.{BeginsFresh}
-use Rattle.snap_memory.specs.Values.{pair_of}
-use Rattle.snap_writer.specs.Writer.{WriterState}
-use Rattle.snap_writer.specs.Life.{Place, CrashLeaves}
-use Rattle.snap_frame.specs.declared.request.Request.{Request}
-use Rattle.snap_frame.specs.declared.reply.Reply.{Reply}
+use Rattle.snap_memory.specs.{Scans.BeginsFresh, Values.pair_of}
+use Rattle.snap_writer.specs.{Writer.WriterState, Life.Place, Life.CrashLeaves}
 use Rattle.snap_frame.specs.declared.reply.Reply.TheVariants.{Stored, Snapshot, Part}
-use Rattle.snap_frame.specs.Messages.{payload}
+use Rattle.snap_frame.specs.{declared.request.Request.Request, declared.reply.Reply.Reply, Messages.payload}
 use Rattle.snap_session.specs.Talk.{Talk, Moves, frames}
-use Rattle.snap_session.specs.Talk as session
 use Rattle.snap_session.specs.Turns.{Turns}
 use Rattle.snap_service.specs.Answers.{Answers, AnswersUpdate, AnswersScan, AnswersPart}
 use Rattle.snap_client.specs.Calls.{ClientState, Reaches, fresh}
@@ -26,6 +18,7 @@ use Rattle.snap_restart.specs.LifeCrash.{Has, Begun, IsRecovered}
 use Rattle.snap_restart.specs.LifeLaws.{IsSeatOf, IsSeenIn}
 use Rattle.snap_restart.specs.Crash.{IsLifeFrom, AreOpened, GoesOn}
 use Rattle.snap_laws.specs.Told.{IsPartAfter, Stands, IsSendable, SideBySide, AreTold}
+use Rattle.snap_session.specs.Talk as session
 use Rattle.snap_disk.specs.declared.disk.Disk as Disk
 
 -- ---- a reply

@@ -2,13 +2,11 @@
 use Rattle.std.specs.Prelude.{◌≡◌, ℕ, ◌<◌, List, [], ◌∷◌, length, Some, slice_get}
 use Rattle.snap_history.specs.History.{Update, Start, updates_of}
 use Rattle.snap_history.specs.Pairs.{Pairs}
-use Rattle.snap_register.specs.History.{starts}
-use Rattle.snap_register.specs.Setup.{IsReady}
+use Rattle.snap_register.specs.{History.starts, Setup.IsReady}
 use Rattle.snap_writer.specs.Writer.{WriterState}
 use Rattle.snap_writer.specs.Life.{Place, seen_at, CrashLeaves}
-use Rattle.snap_restart.specs.LifeCrash.{Begun, IsRecovered}
 use Rattle.snap_restart.specs.Crash.{IsLifeFrom, AllHonest, AreOpened}
-use Rattle.snap_restart.specs.Restarts.{FollowCrash, Restarts}
+use Rattle.snap_restart.specs.{LifeCrash.Begun, LifeCrash.IsRecovered, Restarts.FollowCrash, Restarts.Restarts}
 use Rattle.snap_disk.specs.declared.disk.Disk as Disk
 
 -- h has no update of any of the n files

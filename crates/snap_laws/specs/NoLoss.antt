@@ -2,8 +2,7 @@
 use Rattle.std.specs.Prelude.{◌≡◌, ℕ, ◌≤◌, List}
 use Rattle.snap_slot.specs.Layout.{IsFileOf}
 use Rattle.snap_register.specs.declared.plan.Plan.{Plan}
-use Rattle.snap_writer.specs.Writer.{WriterState}
-use Rattle.snap_writer.specs.Life.{IsWriterOf}
+use Rattle.snap_writer.specs.{Writer.WriterState, Life.IsWriterOf}
 use Rattle.snap_disk.specs.declared.disk.Disk as Disk
 
 module _ {D : Type 0} (disk : Disk.Ghosts D) where

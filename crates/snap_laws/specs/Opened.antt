@@ -2,8 +2,7 @@
 use Rattle.std.specs.Prelude.{◌≡◌, ℕ, List, length, map, Some, slice_get}
 use Rattle.snap_history.specs.Pairs.{Pairs}
 use Rattle.snap_writer.specs.Writer.{WriterState}
-use Rattle.snap_restart.specs.Opened.{IsOpened, IsFresh}
-use Rattle.snap_restart.specs.Crash.{AreOpened}
+use Rattle.snap_restart.specs.{Opened.IsOpened, Opened.IsFresh, Crash.AreOpened}
 use Rattle.snap_disk.specs.declared.disk.Disk as Disk
 
 -- the writers with which the files on these devices were opened

@@ -1,8 +1,7 @@
 -- A crash that finds two writers at work.
 use Rattle.std.specs.Prelude.{◌≡◌, ℕ, List, []}
 use Rattle.snap_history.specs.Pairs.{Pairs}
-use Rattle.snap_register.specs.declared.plan.Plan.{Plan}
-use Rattle.snap_register.specs.History.{starts}
+use Rattle.snap_register.specs.{declared.plan.Plan.Plan, History.starts}
 use Rattle.snap_writer.specs.Writer.{WriterState}
 use Rattle.snap_writer.specs.Life.{Place, resting, CrashLeaves, IsWriterOf}
 use Rattle.snap_restart.specs.LifeCrash.{Recovers}

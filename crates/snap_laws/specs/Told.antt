@@ -1,16 +1,13 @@
 -- The replies that a client received, and the histories that have what they say.
 use Rattle.std.specs.Prelude.{◌≡◌, ℕ, ◌<◌, ◌≤◌, ◌^◌, List, [], ◌∷◌, length, map, Some, slice_get}
 use Rattle.snap_history.specs.History.{Update, Start, IsBeginning, number_after, value_after}
-use Rattle.snap_frame.specs.declared.request.Request.{Request}
-use Rattle.snap_frame.specs.declared.request.Request.TheVariants as request
-use Rattle.snap_frame.specs.declared.reply.Reply.{Reply}
 use Rattle.snap_frame.specs.declared.reply.Reply.TheVariants.{Stored, Snapshot, Part}
-use Rattle.snap_frame.specs.declared.named.NamedValue.{NamedValue}
 use Rattle.snap_frame.specs.Messages.{max_payload, payload, IsAskable, Asks, Says}
-use Rattle.snap_frame.specs.Sets.{named, IsAt}
-use Rattle.snap_frame.specs.Values.{pair_of}
+use Rattle.snap_frame.specs.{declared.request.Request.Request, declared.reply.Reply.Reply}
+use Rattle.snap_frame.specs.{declared.named.NamedValue.NamedValue, Sets.named, Sets.IsAt, Values.pair_of}
 use Rattle.snap_service.specs.Answers.{segment_of, named_pair}
 use Rattle.snap_restart.specs.LifeCrash.{Has}
+use Rattle.snap_frame.specs.declared.request.Request.TheVariants as request
 
 -- these are the number and the value of each of n segments after the updates `part`
 pub record IsMemoryAfter (n : ℕ) (start : Start) (part : List Update)

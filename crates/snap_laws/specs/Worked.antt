@@ -1,15 +1,10 @@
 -- A crash of all devices that were returned by closing, and such devices in any number of starts.
 use Rattle.std.specs.Prelude.{◌≡◌, ℕ, List, [], length, map, Some, slice_get}
 use Rattle.snap_disk.specs.Device.{MayLeave}
-use Rattle.snap_history.specs.History.{Update, Start}
-use Rattle.snap_history.specs.Pairs.{Pairs}
-use Rattle.snap_register.specs.declared.plan.Plan.{Plan}
-use Rattle.snap_register.specs.History.{starts}
-use Rattle.snap_register.specs.Seat.{Known}
-use Rattle.snap_writer.specs.Writer.{WriterState}
-use Rattle.snap_writer.specs.Life.{resting}
-use Rattle.snap_restart.specs.LifeCrash.{Recovers}
-use Rattle.snap_restart.specs.Restarts.{Restarts}
+use Rattle.snap_history.specs.{History.Update, History.Start, Pairs.Pairs}
+use Rattle.snap_register.specs.{declared.plan.Plan.Plan, History.starts, Seat.Known}
+use Rattle.snap_writer.specs.{Writer.WriterState, Life.resting}
+use Rattle.snap_restart.specs.{LifeCrash.Recovers, Restarts.Restarts}
 use Rattle.snap_disk.specs.declared.disk.Disk as Disk
 
 module _ {D : Type 0} (disk : Disk.Ghosts D) where

@@ -1,15 +1,11 @@
 -- The sessions of a server's worker, whose service is a scanner's with others around it.
 use Rattle.std.specs.Prelude.{◌≡◌, ℕ, List, ◌++◌, Option}
 use Rattle.snap_history.specs.History.{Update, IsBeginning}
-use Rattle.snap_register.specs.History.{starts}
-use Rattle.snap_register.specs.Rule.{segments}
-use Rattle.snap_register.specs.Seat.{Known}
-use Rattle.snap_frame.specs.declared.request.Request.{Request}
-use Rattle.snap_frame.specs.declared.reply.Reply.{Reply}
+use Rattle.snap_register.specs.{History.starts, Rule.segments, Seat.Known}
+use Rattle.snap_frame.specs.declared.{request.Request.Request, reply.Reply.Reply}
 use Rattle.snap_session.specs.Talk.{Talk, Moves, start}
 use Rattle.snap_session.specs.Turns.{Turns}
-use Rattle.snap_laws.specs.Told.{AreTold}
-use Rattle.snap_laws.specs.Laws.{SessionUpTo}
+use Rattle.snap_laws.specs.{Told.AreTold, Laws.SessionUpTo}
 
 module _ {S : Type 0} (gives : S → Request → Reply → S → Type 0) (scanner : S → Known) where
   -- a session from its start, while the service went from one state to another, with other sessions'

@@ -1,19 +1,10 @@
 //! Replies that a client received are in the memory that a crash leaves.
 
 ghost use Rattle.std.specs.Prelude.{IfOk};
-ghost use Rattle.snap_laws.specs.Told.{IsSendable};
-ghost use Rattle.snap_laws.specs.Laws.{
-  StoredLaw,
-  ScannedLaw,
-  ScannedPartLaw,
-  RepliedLaw,
-  SessionLaw,
-  ClientLaw,
-  PlugLaw,
-};
-ghost use Rattle.snap_laws.specs.Worker.{OfScannerLaw, WorkerLaw};
-ghost use Rattle.snap_laws.specs.Ever.{EverLaw};
+ghost use Rattle.snap_laws.specs.Laws.{StoredLaw, ScannedLaw, ScannedPartLaw, RepliedLaw, SessionLaw, ClientLaw};
+ghost use Rattle.snap_laws.specs.Laws.{PlugLaw};
 ghost use Rattle.snap_laws.specs.Heard.{HeardLaw, HearsFrom, FirstHeard, bytes_of, socket};
+ghost use Rattle.snap_laws.specs.{Told.IsSendable, Worker.OfScannerLaw, Worker.WorkerLaw, Ever.EverLaw};
 
 use snap_client::{Client, ClientFault};
 use snap_desk::Desk;

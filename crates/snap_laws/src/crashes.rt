@@ -1,20 +1,15 @@
 //! The laws of a crash aren't empty: their premises follow from the contracts of real calls.
 
 ghost use Rattle.std.specs.Prelude.{◌≡◌, ℕ, ◌-◌, ◌^◌, ◌<◌, ◌≤◌, List, [], ◌∷◌, length, map, All, IfOk, OnOk, IfSome};
-ghost use Rattle.snap_history.specs.declared.limits.TheConstants.{MAX_COUNT};
-ghost use Rattle.snap_history.specs.Limits.{IsNumber, IsShort};
+ghost use Rattle.snap_history.specs.{declared.limits.TheConstants.MAX_COUNT, Limits.IsNumber, Limits.IsShort};
 ghost use Rattle.snap_slot.specs.Layout.{IsFormatted};
-ghost use Rattle.snap_segment.specs.Old.{OldHolds};
-ghost use Rattle.snap_segment.specs.States.{IsAtRest};
-ghost use Rattle.snap_writer.specs.Judge.{IsJudged};
-ghost use Rattle.snap_writer.specs.Life.{in_store};
+ghost use Rattle.snap_segment.specs.{Old.OldHolds, States.IsAtRest};
+ghost use Rattle.snap_writer.specs.{Judge.IsJudged, Life.in_store};
 ghost use Rattle.snap_laws.specs.Worked.{IsRecoveredNow, KeepAStart, ComeThrough};
 ghost use Rattle.snap_laws.specs.Together.{AreTwo, IsRecoveredAt, stored_unshown};
-ghost use Rattle.snap_laws.specs.NoLoss.{IsAWriter, LosesNothing};
-ghost use Rattle.snap_laws.specs.Opened.{AreNew};
-ghost use Rattle.snap_laws.specs.Again.{AreOfOne, GoOnBehind};
-ghost use Rattle.snap_laws.specs.Moment.{AtOnceLaw, OverLaw};
 ghost use Rattle.snap_laws.specs.Between.{GoesOnWith, PutGoesOn, CutOffGoesOn, BeginsAgain, InitGoesOn};
+ghost use Rattle.snap_laws.specs.{NoLoss.IsAWriter, NoLoss.LosesNothing, Opened.AreNew, Again.AreOfOne};
+ghost use Rattle.snap_laws.specs.{Again.GoOnBehind, Moment.AtOnceLaw, Moment.OverLaw};
 ghost use Rattle.snap_order.specs.Order.{IsFileWithinLimits, IsPlace};
 ghost use Rattle.snap_register.specs.declared.plan.Plan.{Plan};
 ghost use Rattle.snap_restart.specs.Closed.{AreBack};

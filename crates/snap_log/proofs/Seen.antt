@@ -1,18 +1,12 @@
 -- Shown text has no byte below 32.
-use Rattle.std.proofs.Common.{arith, append_assoc, refl, ◌≡◌, ◌≤◌, ◌+◌, ◌/◌, ◌%◌, ◌==◌, ℕ, zero}
-use Rattle.std.proofs.Common.{suc, Bool, true, false, List, [], ◌∷◌, ◌++◌, All, chars, codes, cond}
-use Rattle.std.proofs.Common.{flat_map, nat_le, nat_lt, slice_index_or}
-use Rattle.std.proofs.lemmas.Bool.{leb-true}
-use Rattle.std.proofs.lemmas.Bool.Decides.{nat_tests}
+use Rattle.std.proofs.Common.{arith, append_assoc, refl, ◌≡◌, ◌≤◌, ◌+◌, ◌/◌, ◌%◌, ◌==◌, ℕ, zero, suc, Bool, true, false}
+use Rattle.std.proofs.Common.{List, [], ◌∷◌, ◌++◌, All, chars, codes, cond, flat_map, nat_le, nat_lt, slice_index_or}
 use Rattle.std.proofs.lemmas.List.Elements.{All-nil, All-cons, All-append}
-use Rattle.std.proofs.lemmas.List.Sums.{AllPass-from_list_all}
-use Rattle.std.proofs.Math.Dec.{ltb}
-use Rattle.std.proofs.Math.Utf8.{encode}
 use Rattle.std.specs.Fmt.{digits, digits_onto, digit_glyph}
-use Rattle.std.specs.List.{list_all}
-use Rattle.log.specs.declared.level.Level.{Level}
+use Rattle.std.{proofs.lemmas.Bool.leb-true, proofs.Math.Dec.ltb, proofs.Math.Utf8.encode, specs.List.list_all}
+use Rattle.std.{proofs.lemmas.Bool.Decides.nat_tests, proofs.lemmas.List.Sums.AllPass-from_list_all}
 use Rattle.log.specs.declared.level.Level.TheVariants.{Error, Warn, Info, Debug, Trace}
-use Rattle.log.specs.Level.{level_name}
+use Rattle.log.specs.{declared.level.Level.Level, Level.level_name}
 use Rattle.snap_log.specs.Line.{is_hidden, hidden_text, shown_char, shown_text, log_line, IsOneLine}
 
 -- no byte is below 32

@@ -1,6 +1,5 @@
 -- Appended characters.
-use Rattle.std.proofs.Common.{◌≡◌, ℕ, List, ◌++◌, Result, Ok, Err, OnOk, is_ok, if◌then◌else◌, ◌∙◌}
-use Rattle.std.proofs.Common.{ap}
+use Rattle.std.proofs.Common.{◌≡◌, ℕ, List, ◌++◌, Result, Ok, Err, OnOk, is_ok, if◌then◌else◌, ◌∙◌, ap}
 
 -- the appended text, replaced by an equal one
 pub pushed : {T E : Type 0} (result : Result T E) (old new text same : List ℕ)

@@ -1,12 +1,8 @@
 -- The text of a line of the log.
-use Rattle.std.specs.Prelude.{◌≡◌, ◌≤◌, ◌==◌, ◌||◌, ℕ, Bool, false, List, ◌++◌, if◌then◌else◌}
-use Rattle.std.specs.Prelude.{flat_map, chars, codes, decimal, encode_utf8, All}
-use Rattle.std.specs.Char.{is_control}
-use Rattle.std.specs.Fmt.{digits}
-use Rattle.std.specs.Int.{is_in_range}
-use Rattle.log.specs.declared.level.Level.{Level}
-use Rattle.log.specs.declared.level.Level.TheVariants.{Warn}
-use Rattle.log.specs.Level.{level_name}
+use Rattle.std.specs.Prelude.{◌≡◌, ◌≤◌, ◌==◌, ◌||◌, ℕ, Bool, false, List, ◌++◌, if◌then◌else◌, flat_map, chars, codes}
+use Rattle.std.specs.Prelude.{decimal, encode_utf8, All}
+use Rattle.std.specs.{Char.is_control, Fmt.digits, Int.is_in_range}
+use Rattle.log.specs.{declared.level.Level.Level, declared.level.Level.TheVariants.Warn, Level.level_name}
 
 -- the value of `JOURNAL_STREAM` for a stream
 abbrev pub stream_text : (device inode : ℕ) → List ℕ

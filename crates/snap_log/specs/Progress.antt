@@ -1,8 +1,7 @@
 -- Reports of lost lines.
 use Rattle.std.specs.Prelude.{◌≡◌, ◌-◌, ◌<◌, ◌⊎◌, ℕ, List, Option}
 use Rattle.std.specs.Io.KnownBytes.{Appends}
-use Rattle.snap_log.specs.declared.output.Progress.{Progress}
-use Rattle.snap_log.specs.Line.{lost_line, on_its_own}
+use Rattle.snap_log.specs.{declared.output.Progress.Progress, Line.lost_line, Line.on_its_own}
 
 -- Either nothing more is reported; or more lines were lost than reported before, and standard error
 -- got the line that reports the difference.

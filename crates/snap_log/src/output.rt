@@ -1,8 +1,7 @@
 //! The writing thread.
 ghost use Rattle.std.specs.Prelude.{◌≡◌, ◌≤◌, IfOk, not, string_bytes, true};
 ghost use Rattle.std.specs.Io.KnownBytes.{Appends};
-ghost use Rattle.snap_log.specs.Line.{lost_line, on_its_own};
-ghost use Rattle.snap_log.specs.Progress.{TellsLost};
+ghost use Rattle.snap_log.specs.{Line.lost_line, Line.on_its_own, Progress.TellsLost};
 
 use crate::line::line_of;
 use crate::lines::Waiting;

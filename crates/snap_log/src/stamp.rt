@@ -1,6 +1,5 @@
 //! The beginning of a line: the time, or the journal's priority.
-ghost use Rattle.std.specs.Prelude.{◌≡◌, []};
-ghost use Rattle.std.specs.Fmt.InlineText.{inline_text};
+ghost use Rattle.std.specs.{Prelude.◌≡◌, Prelude.[], Fmt.InlineText.inline_text};
 
 use crate::Destination;
 use jiff::Timestamp;

@@ -1,28 +1,23 @@
 -- What a scan's looks show of what its seat has seen. A moment is a length of that list.
-use Rattle.std.proofs.Common.{◌≡◌, ℕ, ◌+◌, ◌-◌, ◌*◌, ◌^◌, ◌<◌, ◌≤◌, inl, inr, List, [], ◌∷◌, ◌++◌, length, take}
-use Rattle.std.proofs.Common.{drop, replicate, Some}
-use Rattle.std.proofs.Common.{slice_index, slice_get, slice_set, refl, ap, sym, ◌∙◌, subst, arith, append_assoc}
+use Rattle.std.proofs.Common.{◌≡◌, ℕ, ◌+◌, ◌-◌, ◌*◌, ◌^◌, ◌<◌, ◌≤◌, inl, inr, List, [], ◌∷◌, ◌++◌, length, take, drop}
+use Rattle.std.proofs.Common.{replicate, Some, slice_index, slice_get, slice_set, refl, ap, sym, ◌∙◌, subst, arith}
+use Rattle.std.proofs.Common.{append_assoc}
 use Rattle.std.proofs.Math.Seq.{take-append-add, take-append_seam, take-length}
-use Rattle.std.proofs.lemmas.Bool.{cases_eq, cases_lt}
 use Rattle.std.proofs.lemmas.List.{take-append-drop, append-nil, length-set, length_push, length-replicate}
-use Rattle.std.proofs.lemmas.List.{length-append}
-use Rattle.std.proofs.lemmas.List.{get_or-set_same, get_or-set_other}
-use Rattle.std.proofs.lemmas.Option.{same_Some}
+use Rattle.std.proofs.lemmas.List.{length-append, get_or-set_same, get_or-set_other}
+use Rattle.std.proofs.{lemmas.Bool.cases_eq, lemmas.Bool.cases_lt, lemmas.Option.same_Some, Math.Nat.mul-le-mul_left}
 use Rattle.snap_history.specs.History.{Update, Start, IsBeginning, number_after}
 use Rattle.snap_history.proofs.Beginnings.{beginning-self, beginning-trans, take-beginning}
 use Rattle.snap_history.proofs.Lists.{get-set_same, get-set_other, get-replicate}
 use Rattle.snap_history.proofs.Moments.{number-le}
-use Rattle.std.proofs.Math.Nat.{mul-le-mul_left}
 use Rattle.snap_scan.specs.Looks.{most_looks, IsClean, IsBorrow, IsTurn, IsNoFall}
 use Rattle.snap_scan.specs.Course.{HasTurn, Borrows}
 use Rattle.snap_scan.specs.Sets.{Names, named, size, IsAt}
 use Rattle.snap_scan.proofs.Sets.{at_named, named_at, at_once, at_within, at_is, at_below, names_below}
 use Rattle.snap_scan.specs.Collects.{Numbers, Entries, IsRising, Collects, IsMoment, IsThen}
 use Rattle.snap_scan.proofs.Collects.{Collects-none, Collects-same, Collects-push, no_fall, first_low, clean_moment}
-use Rattle.snap_register.specs.declared.plan.Plan.{Plan}
-use Rattle.snap_register.specs.History.{starts}
-use Rattle.snap_register.specs.Rule.{segments}
 use Rattle.snap_register.specs.Seat.{Known, looked, number_in, Grows, IsBelow, Looks}
+use Rattle.snap_register.specs.{declared.plan.Plan.Plan, History.starts, Rule.segments}
 use Rattle.snap_memory.specs.Scans.{BeginsFresh, IsCleanScan, IsBorrowedScan, TakesLooksOf}
 
 -- A list and its moments:

@@ -1,20 +1,13 @@
 -- What a scanner has cached stays valid as its seat sees more.
-use Rattle.std.proofs.Common.{◌≡◌, ℕ, ◌<◌, inl, inr, List, Option, Some, length, slice_get, slice_set, get_or, refl}
-use Rattle.std.proofs.Common.{ap, sym, subst, ◌∙◌, arith}
-use Rattle.std.proofs.lemmas.Bool.{cases_eq}
-use Rattle.std.proofs.lemmas.Option.{same_Some, slice_get_read}
+use Rattle.std.proofs.Common.{◌≡◌, ℕ, ◌<◌, inl, inr, List, Option, Some, length, slice_get, slice_set, get_or, refl, ap}
+use Rattle.std.proofs.Common.{sym, subst, ◌∙◌, arith}
+use Rattle.std.proofs.lemmas.{Bool.cases_eq, Option.same_Some, Option.slice_get_read}
 use Rattle.snap_history.specs.History.{number_after, value_after}
-use Rattle.snap_history.proofs.Beginnings.{beginning-trans}
-use Rattle.snap_history.proofs.Lists.{get-set_same, get-set_other}
-use Rattle.snap_register.specs.declared.plan.Plan.{Plan}
-use Rattle.snap_register.specs.History.{starts}
-use Rattle.snap_register.specs.Rule.{segments}
-use Rattle.snap_register.specs.Seat.{Known, Grows}
-use Rattle.snap_scan.specs.Values.{pair_of}
-use Rattle.snap_scan.specs.declared.segment_value.SegmentValue.{SegmentValue}
+use Rattle.snap_history.proofs.{Beginnings.beginning-trans, Lists.get-set_same, Lists.get-set_other}
+use Rattle.snap_register.specs.{declared.plan.Plan.Plan, History.starts, Rule.segments, Seat.Known, Seat.Grows}
+use Rattle.snap_scan.specs.{Values.pair_of, declared.segment_value.SegmentValue.SegmentValue}
 use Rattle.snap_memory.specs.Rooms.{WasSeen, IsAnswerable, IsKeptOf, AreKept, Fits}
-use Rattle.snap_memory.specs.declared.room.Room.{Room}
-use Rattle.snap_memory.specs.declared.room.Room.TheVariants.{Absent, Kept}
+use Rattle.snap_memory.specs.declared.room.Room.{Room, TheVariants.Absent, TheVariants.Kept}
 
 pub seen_grown : (a b : Known) (i : ℕ) (x : ℕ × List ℕ) → Grows a b → WasSeen a i x → WasSeen b i x
 seen_grown a b i x g was = record {

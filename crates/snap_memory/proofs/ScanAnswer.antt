@@ -1,31 +1,21 @@
 -- The answer of a scan is the memory of one moment.
-use Rattle.std.proofs.Common.{◌≡◌, ℕ, inl, inr, ◌+◌, ◌-◌, ◌^◌, ◌<◌, ◌≤◌, List, [], length, map, All, Some}
-use Rattle.std.proofs.Common.{slice_get, get_or, ap, sym, subst, ◌∙◌, arith}
+use Rattle.std.proofs.Common.{◌≡◌, ℕ, inl, inr, ◌+◌, ◌-◌, ◌^◌, ◌<◌, ◌≤◌, List, [], length, map, All, Some, slice_get}
+use Rattle.std.proofs.Common.{get_or, ap, sym, subst, ◌∙◌, arith, Result, Ok, Err, OnOk, IfOk}
 use Rattle.std.proofs.lemmas.Option.{same_Some, slice_get-get_or, slice_get-map}
-use Rattle.std.proofs.lemmas.List.{length-map}
+use Rattle.std.proofs.lemmas.{List.length-map, Nat.pow_below, Bool.cases_lt}
 use Rattle.std.specs.Option.{option_map}
-use Rattle.std.proofs.lemmas.Nat.{pow_below}
 use Rattle.snap_history.specs.History.{Update, Start, IsBeginning, number_after, value_after}
-use Rattle.snap_history.proofs.Beginnings.{number-beginning}
-use Rattle.snap_register.specs.declared.plan.Plan.{Plan}
-use Rattle.snap_register.specs.declared.view.View.{View}
+use Rattle.snap_history.{proofs.Beginnings.number-beginning, specs.Limits.IsShort, proofs.Moments.value_same}
 use Rattle.snap_register.specs.declared.view.View.TheVariants.{Collected, Borrowed}
-use Rattle.snap_register.specs.History.{starts}
 use Rattle.snap_register.specs.Seat.{Known, looked, own_of, number_in, value_in, Grows, IsValue, IsView, MayPublish}
-use Rattle.snap_register.specs.Rule.{segments}
+use Rattle.snap_register.specs.{declared.plan.Plan.Plan, declared.view.View.View, History.starts, Rule.segments}
 use Rattle.snap_scan.specs.Sets.{Names, named, size}
 use Rattle.snap_scan.proofs.Sets.{at_named, at_some, at_below, all_at, all_size}
+use Rattle.snap_scan.specs.{Values.pair_of, declared.segment_value.SegmentValue.SegmentValue}
 use Rattle.snap_memory.specs.Scans.{BeginsFresh, IsCleanScan, IsBorrowedScan, IsScan, IsSnapshot, IsPart, HasPart}
 use Rattle.snap_memory.specs.Scans.{AreLooked, IsSetOf, all_of}
-use Rattle.snap_history.specs.Limits.{IsShort}
-use Rattle.snap_scan.specs.Values.{pair_of}
-use Rattle.snap_scan.specs.declared.segment_value.SegmentValue.{SegmentValue}
 use Rattle.snap_memory.specs.Rooms.{WasSeen, number_of, AreEntries}
-use Rattle.snap_memory.specs.declared.room.Found.{Found}
-use Rattle.snap_memory.proofs.Collects.{beginning-take}
-use Rattle.snap_history.proofs.Moments.{value_same}
-use Rattle.std.proofs.Common.{Result, Ok, Err, OnOk, IfOk}
-use Rattle.std.proofs.lemmas.Bool.{cases_lt}
+use Rattle.snap_memory.{specs.declared.room.Found.Found, proofs.Collects.beginning-take}
 
 -- two beginnings of one list in which a segment has the same number have the same value of it
 ordered : (start : Start) (h p q : List Update) (i : ℕ) → IsBeginning p h → IsBeginning q h

@@ -1,17 +1,12 @@
 -- The cache of a scanner.
 use Rattle.std.specs.Prelude.{◌≡◌, ℕ, ◌<◌, List, [], length, Some, Option, slice_get, slice_index, get_or}
-use Rattle.snap_history.specs.History.{Update, IsBeginning}
-use Rattle.snap_history.specs.Limits.{IsShort}
+use Rattle.snap_history.specs.{History.Update, History.IsBeginning, Limits.IsShort}
 use Rattle.snap_register.specs.Rule.{segments}
 use Rattle.snap_register.specs.Seat.{Known, looked, number_in, value_in}
-use Rattle.snap_scan.specs.Sets.{Names}
-use Rattle.snap_scan.specs.Values.{pair_of}
-use Rattle.snap_scan.specs.declared.limits.TheConstants.{MAX_SEGMENTS}
+use Rattle.snap_scan.specs.{Sets.Names, Values.pair_of, declared.limits.TheConstants.MAX_SEGMENTS}
 use Rattle.snap_scan.specs.declared.segment_value.SegmentValue.{SegmentValue}
-use Rattle.snap_memory.specs.declared.room.Room.{Room}
-use Rattle.snap_memory.specs.declared.room.Room.TheVariants.{Absent, Kept}
-use Rattle.snap_memory.specs.declared.room.Found.{Found}
-use Rattle.snap_memory.specs.declared.room.Found.TheVariants.{Looked, Viewed}
+use Rattle.snap_memory.specs.declared.room.{Room.Room, Room.TheVariants.Absent, Room.TheVariants.Kept, Found.Found}
+use Rattle.snap_memory.specs.declared.room.{Found.TheVariants.Looked, Found.TheVariants.Viewed}
 
 -- segment i had this number and value after a beginning of what the seat has seen
 pub record WasSeen (seat : Known) (i : ℕ) (x : ℕ × List ℕ) : Type 0 where

@@ -1,14 +1,12 @@
 -- The answers of scans, in terms of what the seat had seen before and has seen afterwards.
 use Rattle.std.specs.Prelude.{◌≡◌, ℕ, ◌+◌, ◌-◌, ◌^◌, ◌<◌, ◌≤◌, ◌⊎◌, List, ◌∷◌, ◌++◌, length, Some, slice_get}
 use Rattle.snap_history.specs.History.{Update, IsBeginning}
+use Rattle.snap_register.specs.Seat.{Known, Grows, looked, number_in, value_in, HasFoundUpdate, IsMemory, IsMemoryOf}
+use Rattle.snap_register.specs.Seat.{IsValue}
 use Rattle.snap_register.specs.Rule.{segments}
-use Rattle.snap_disk.specs.declared.refusal.Refusal.{Refusal}
-use Rattle.snap_disk.specs.declared.refusal.Refusal.TheVariants.{NoMemory, Worn}
-use Rattle.snap_register.specs.Seat.{Known, Grows, looked, number_in, value_in, HasFoundUpdate, IsMemory}
-use Rattle.snap_register.specs.Seat.{IsMemoryOf, IsValue}
+use Rattle.snap_register.specs.declared.view.View.{View, TheVariants.Collected, TheVariants.Borrowed}
+use Rattle.snap_disk.specs.declared.refusal.Refusal.{Refusal, TheVariants.NoMemory, TheVariants.Worn}
 use Rattle.snap_scan.specs.Sets.{Names, IsAt, size}
-use Rattle.snap_register.specs.declared.view.View.{View}
-use Rattle.snap_register.specs.declared.view.View.TheVariants.{Collected, Borrowed}
 use Rattle.snap_scan.specs.Looks.{most_looks}
 
 -- the scan made looks, and the list begins with what the seat had seen at the first of them

@@ -4,8 +4,7 @@ ghost use Rattle.snap_register.specs.Rule.{segments};
 ghost use Rattle.snap_register.specs.Seat.{Grows, IsBelow, looked};
 ghost use Rattle.snap_scan.specs.Sets.{Names, size};
 ghost use Rattle.snap_memory.specs.Scans.{IsScan, IsSnapshot, HasPart, KeepsOthers, IsSetOf, HasLooks, CanScan};
-ghost use Rattle.snap_memory.specs.Scans.{AreLooked};
-ghost use Rattle.snap_memory.specs.Scans.{TakesLooks, TakesLooksOf};
+ghost use Rattle.snap_memory.specs.Scans.{AreLooked, TakesLooks, TakesLooksOf};
 
 use snap_register::{Looker, SnapshotBuf, View};
 use snap_scan::{MAX_SEGMENTS, Next, Scan, SegmentSet};

@@ -4,11 +4,10 @@ ghost use Rattle.snap_history.specs.Limits.{IsShort};
 ghost use Rattle.snap_register.specs.Rule.{segments};
 ghost use Rattle.snap_register.specs.Seat.{Grows, IsBelow, Known};
 ghost use Rattle.snap_scan.specs.Sets.{named, size};
-ghost use Rattle.snap_scan.specs.Values.{pair_of};
-ghost use Rattle.snap_scan.specs.declared.segment_value.SegmentValue.{SegmentValue};
+ghost use Rattle.snap_scan.specs.{Values.pair_of, declared.segment_value.SegmentValue.SegmentValue};
 ghost use Rattle.snap_memory.specs.Scans.{IsPart, IsSetOf, HasLooks, TakesLooksOf};
-ghost use Rattle.snap_memory.specs.Rooms.{number_of, HasPlace, IsFoundAt, IsFound};
-ghost use Rattle.snap_memory.specs.Rooms.{WasSeen, IsKeptOf, AreKept, IsEntry, AreEntries};
+ghost use Rattle.snap_memory.specs.Rooms.{number_of, HasPlace, IsFoundAt, IsFound, WasSeen, IsKeptOf, AreKept, IsEntry};
+ghost use Rattle.snap_memory.specs.Rooms.{AreEntries};
 
 use crate::looks::gather;
 use bytes::Bytes;

@@ -1,16 +1,13 @@
 //! A scanner.
-ghost use Rattle.std.specs.Prelude.{◌≡◌, ℕ, ◌+◌, ◌<◌, ◌≤◌, ◌⊎◌, [], ◌∷◌, ◌++◌, length, map, take};
-ghost use Rattle.std.specs.Prelude.{OnOk, OnErr, IfOk, IfErr, IsTrue, ◌↔◌, All};
+ghost use Rattle.std.specs.Prelude.{◌≡◌, ℕ, ◌+◌, ◌<◌, ◌≤◌, ◌⊎◌, [], ◌∷◌, ◌++◌, length, map, take, OnOk, OnErr, IfOk};
+ghost use Rattle.std.specs.Prelude.{IfErr, IsTrue, ◌↔◌, All};
 ghost use Rattle.snap_history.specs.Limits.{IsShort};
 ghost use Rattle.snap_history.specs.declared.limits.TheConstants.{MAX_COUNT, MAX_VALUE_LEN};
 ghost use Rattle.snap_register.specs.Rule.{segments};
 ghost use Rattle.snap_register.specs.Seat.{Grows, Meets, IsBelow, AreTogether, number_in, value_in};
-ghost use Rattle.snap_scan.specs.Looks.{most_looks};
-ghost use Rattle.snap_scan.specs.Sets.{size};
-ghost use Rattle.snap_scan.specs.Values.{pair_of};
+ghost use Rattle.snap_scan.specs.{Looks.most_looks, Sets.size, Values.pair_of};
 ghost use Rattle.snap_memory.specs.Scans.{IsSnapshot, IsPart, HasPart, KeepsOthers, IsSetOf, HasLooks, CanScan};
-ghost use Rattle.snap_memory.specs.Scans.{TakesLooks};
-ghost use Rattle.snap_memory.specs.Scans.{TakesLooksOf, MayRefuse};
+ghost use Rattle.snap_memory.specs.Scans.{TakesLooks, TakesLooksOf, MayRefuse};
 ghost use Rattle.snap_disk.specs.declared.refusal.Refusal.{Refusal};
 
 use crate::looks::scan_some;

@@ -1,6 +1,5 @@
 //! The answer of a scan, in memory that is allocated once and filled again and again.
-ghost use Rattle.std.specs.Prelude.{◌≡◌, ℕ, ◌<◌, List, [], length, slice_get, Some};
-ghost use Rattle.std.specs.Prelude.{IfOk, replicate};
+ghost use Rattle.std.specs.Prelude.{◌≡◌, ℕ, ◌<◌, List, [], length, slice_get, Some, IfOk, replicate};
 ghost use Rattle.snap_history.specs.Limits.{IsShort};
 
 use snap_register::SnapshotBuf;

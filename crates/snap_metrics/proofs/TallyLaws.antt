@@ -1,26 +1,22 @@
 -- Request counts have the list's count in each number.
-use Rattle.std.proofs.Common.{◌≡◌, ℕ, if◌then◌else◌, ◌+◌, ◌-◌, ◌<◌, ◌≤◌, ◌==◌, List, [], ◌∷◌, length, fold}
-use Rattle.std.proofs.Common.{slice_index, length-set, refl, ◌∙◌, ap, arith, lit≤, ⊎_elim}
+use Rattle.std.proofs.Common.{◌≡◌, ℕ, if◌then◌else◌, ◌+◌, ◌-◌, ◌<◌, ◌≤◌, ◌==◌, List, [], ◌∷◌, length, fold, slice_index}
+use Rattle.std.proofs.Common.{length-set, refl, ◌∙◌, ap, arith, lit≤, ⊎_elim}
 use Rattle.std.proofs.lemmas.Bool.{cases_eq, eq-eqb, ne_eqb}
 use Rattle.std.proofs.lemmas.List.{get_or-set_same, get_or-set_other, get_or-replicate}
-use Rattle.snap_disk.specs.declared.refusal.Refusal.{Refusal}
 use Rattle.snap_disk.specs.declared.refusal.Refusal.TheVariants.{Malformed, NoSegment, TooLong, Conflict, OutOfStep}
-use Rattle.snap_disk.specs.declared.refusal.Refusal.TheVariants.{Fenced, Full}
-use Rattle.snap_disk.specs.declared.refusal.Refusal.TheVariants.{NoMemory, Exhausted, Damaged, Unformatted}
-use Rattle.snap_disk.specs.declared.refusal.Refusal.TheVariants.{AlreadyFormatted}
-use Rattle.snap_disk.specs.declared.refusal.Refusal.TheVariants.{DeviceFailed, WrongFile, TooLarge, NotNow, Worn}
-use Rattle.snap_disk.specs.Refusal.{code_of}
-use Rattle.snap_frame.specs.declared.request.Request.{Request}
+use Rattle.snap_disk.specs.declared.refusal.Refusal.TheVariants.{Fenced, Full, NoMemory, Exhausted, Damaged}
+use Rattle.snap_disk.specs.declared.refusal.Refusal.TheVariants.{Unformatted, AlreadyFormatted, DeviceFailed, WrongFile}
+use Rattle.snap_disk.specs.declared.refusal.Refusal.TheVariants.{TooLarge, NotNow, Worn}
+use Rattle.snap_disk.specs.{declared.refusal.Refusal.Refusal, Refusal.code_of}
 use Rattle.snap_frame.specs.declared.request.Request.TheVariants.{Update, Scan, Status, Part}
-use Rattle.snap_frame.specs.declared.reply.Reply.{Reply}
 use Rattle.snap_frame.specs.declared.reply.Reply.TheVariants.{Stored, Snapshot, Refused}
-use Rattle.snap_frame.specs.declared.reply.Reply.TheVariants as reply
 use Rattle.snap_frame.specs.Messages.{frame, payload, says}
-use Rattle.snap_metrics.specs.declared.counting_service.CountedAnswer.{CountedAnswer}
-use Rattle.snap_metrics.specs.declared.snapshot.RequestCounts.{RequestCounts}
-use Rattle.snap_metrics.specs.Numbers.{raised, raised_at}
+use Rattle.snap_frame.specs.declared.{request.Request.Request, reply.Reply.Reply}
 use Rattle.snap_metrics.specs.Tallies.{nothing, with_request, with_reply, counted}
 use Rattle.snap_metrics.specs.Answered.{tally_of, IsTallyOf, is_update, is_scan, is_part, is_status, is_refusal}
+use Rattle.snap_metrics.specs.declared.counting_service.CountedAnswer.{CountedAnswer}
+use Rattle.snap_metrics.specs.{declared.snapshot.RequestCounts.RequestCounts, Numbers.raised, Numbers.raised_at}
+use Rattle.snap_frame.specs.declared.reply.Reply.TheVariants as reply
 
 abbrev Answered : Type 0
 Answered = Request × CountedAnswer

@@ -1,17 +1,13 @@
 -- The answers of a service that counts them.
-use Rattle.std.specs.Prelude.{◌≡◌, ℕ, ◌-◌, ◌≤◌, ◌==◌, Bool, true, false, List, [], ◌∷◌, ◌++◌, fold, length}
-use Rattle.std.specs.Prelude.{count_by, sum_by, slice_index}
+use Rattle.std.specs.Prelude.{◌≡◌, ℕ, ◌-◌, ◌≤◌, ◌==◌, Bool, true, false, List, [], ◌∷◌, ◌++◌, fold, length, count_by}
+use Rattle.std.specs.Prelude.{sum_by, slice_index}
 use Rattle.snap_disk.specs.Refusal.{code_of}
-use Rattle.snap_frame.specs.declared.request.Request.{Request}
 use Rattle.snap_frame.specs.declared.request.Request.TheVariants.{Update, Scan, Status, Part}
-use Rattle.snap_frame.specs.declared.reply.Reply.{Reply}
-use Rattle.snap_frame.specs.declared.reply.Reply.TheVariants.{Refused}
 use Rattle.snap_frame.specs.Messages.{frame, payload, says}
-use Rattle.snap_metrics.specs.declared.counting_service.CountedAnswer.{CountedAnswer}
-use Rattle.snap_metrics.specs.declared.snapshot.RequestCounts.{RequestCounts}
-use Rattle.snap_metrics.specs.declared.snapshot.TheConstants.{REFUSALS}
-use Rattle.snap_metrics.specs.Numbers.{raised}
+use Rattle.snap_frame.specs.declared.{request.Request.Request, reply.Reply.Reply, reply.Reply.TheVariants.Refused}
 use Rattle.snap_metrics.specs.Tallies.{nothing, counted}
+use Rattle.snap_metrics.specs.{declared.counting_service.CountedAnswer.CountedAnswer, Numbers.raised}
+use Rattle.snap_metrics.specs.{declared.snapshot.RequestCounts.RequestCounts, declared.snapshot.TheConstants.REFUSALS}
 
 -- the inner service, and all requests that it answered, in order, each with its answer
 pub record CountedState (S : Type 0) : Type 0 where

@@ -1,8 +1,6 @@
 -- How a device's calls change the stage of its store, and what is counted.
 use Rattle.std.specs.Prelude.{◌≡◌, ℕ, ◌-◌, Option, Some, None, Result, IsOk}
-use Rattle.std.specs.Duration.{as_nanos}
-use Rattle.std.specs.Time.{instant_nanos}
-use Rattle.std.specs.declared.time.Instant.{Instant}
+use Rattle.std.specs.{Duration.as_nanos, Time.instant_nanos, declared.time.Instant.Instant}
 use Rattle.std.specs.declared.time.Duration.{Duration}
 use Rattle.snap_disk.specs.declared.refusal.Refusal.{Refusal}
 use Rattle.snap_metrics.specs.declared.stage.Stage.{Stage}

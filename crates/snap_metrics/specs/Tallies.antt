@@ -1,15 +1,13 @@
 -- Counting one answered request.
 use Rattle.std.specs.Prelude.{ℕ, ◌-◌, length, replicate}
 use Rattle.snap_disk.specs.Refusal.{code_of}
-use Rattle.snap_frame.specs.declared.request.Request.{Request}
 use Rattle.snap_frame.specs.declared.request.Request.TheVariants.{Update, Scan, Status, Part}
-use Rattle.snap_frame.specs.declared.reply.Reply.{Reply}
 use Rattle.snap_frame.specs.declared.reply.Reply.TheVariants.{Stored, Snapshot, Refused}
-use Rattle.snap_frame.specs.declared.reply.Reply.TheVariants as reply
 use Rattle.snap_frame.specs.Messages.{frame, payload, says}
-use Rattle.snap_metrics.specs.declared.snapshot.RequestCounts.{RequestCounts}
-use Rattle.snap_metrics.specs.declared.snapshot.TheConstants.{REFUSALS}
+use Rattle.snap_frame.specs.declared.{request.Request.Request, reply.Reply.Reply}
 use Rattle.snap_metrics.specs.Numbers.{raised, raised_at, raised_each}
+use Rattle.snap_metrics.specs.declared.snapshot.{RequestCounts.RequestCounts, TheConstants.REFUSALS}
+use Rattle.snap_frame.specs.declared.reply.Reply.TheVariants as reply
 
 -- each number is 0
 abbrev pub nothing : RequestCounts

@@ -2,24 +2,18 @@
 use Rattle.std.specs.Prelude.{◌≡◌, ◌⊎◌, Bool, false, true, ℕ, ◌+◌, ◌^◌, ◌<◌, ◌≤◌, List, length, All, IfSome}
 use Rattle.snap_frame.specs.Messages.{max_payload, payload, IsAskable}
 use Rattle.snap_frame.specs.declared.request.Request.{Request}
-use Rattle.snap_frame.specs.declared.request.Request.TheVariants as request
 use Rattle.snap_order.specs.Limits.{MAX_COUNT, MAX_SCANNERS, MAX_TRIES, MAX_UPDATE_VALUE, SLOT_COUNT}
-use Rattle.snap_order.specs.declared.order.Order.{Order}
-use Rattle.snap_order.specs.declared.order.Order.TheVariants as order
-use Rattle.snap_order.specs.declared.order.FileOrder.{FileOrder}
-use Rattle.snap_order.specs.declared.order.ServeOptions.{ServeOptions}
-use Rattle.snap_order.specs.declared.order.CallOptions.{CallOptions}
-use Rattle.snap_order.specs.declared.order.DumpOptions.{DumpOptions}
-use Rattle.snap_order.specs.declared.order.LoadOptions.{LoadOptions}
-use Rattle.snap_order.specs.declared.order.WatchOptions.{WatchOptions}
-use Rattle.snap_order.specs.declared.order.OutputFormat.TheVariants.{Lines}
-use Rattle.snap_order.specs.declared.order.CallRequest.{CallRequest}
-use Rattle.snap_order.specs.declared.order.CallRequest.TheVariants as question
-use Rattle.snap_order.specs.declared.order.Source.{Source}
-use Rattle.snap_order.specs.declared.order.Source.TheVariants as source
-use Rattle.snap_order.specs.declared.order.TheConstants.{MAX_ADDRESSES, MAX_CLIENTS, MAX_EVERY, MAX_IDLE}
-use Rattle.snap_order.specs.declared.order.TheConstants.{MAX_TIMEOUT, MODE_BITS}
+use Rattle.snap_order.specs.declared.order.TheConstants.{MAX_ADDRESSES, MAX_CLIENTS, MAX_EVERY, MAX_IDLE, MAX_TIMEOUT}
+use Rattle.snap_order.specs.declared.order.TheConstants.{MODE_BITS}
 use Rattle.snap_order.specs.declared.order.FileOrder.TheVariants.{Format, Put, Get, Check, Slot}
+use Rattle.snap_order.specs.declared.order.{Order.Order, FileOrder.FileOrder, ServeOptions.ServeOptions}
+use Rattle.snap_order.specs.declared.order.{CallOptions.CallOptions, DumpOptions.DumpOptions, LoadOptions.LoadOptions}
+use Rattle.snap_order.specs.declared.order.{WatchOptions.WatchOptions, OutputFormat.TheVariants.Lines}
+use Rattle.snap_order.specs.declared.order.{CallRequest.CallRequest, Source.Source}
+use Rattle.snap_frame.specs.declared.request.Request.TheVariants as request
+use Rattle.snap_order.specs.declared.order.Order.TheVariants as order
+use Rattle.snap_order.specs.declared.order.CallRequest.TheVariants as question
+use Rattle.snap_order.specs.declared.order.Source.TheVariants as source
 
 -- segment `index` is one of `count`, and a server can have `count` segments
 abbrev pub IsPlace : ℕ → ℕ → Type 0

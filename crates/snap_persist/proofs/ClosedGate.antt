@@ -1,21 +1,18 @@
 -- A store before it opens the gate: the spare gate is being closed, and the body is written while
 -- the gate of its slot is closed.
-use Rattle.std.proofs.Common.{Bool, true, false, ◌≡◌, ◌≢◌, ◌⊎◌, inl, inr, ⊎_elim, ℕ, ◌+◌, ◌-◌, ◌<◌, ◌≤◌, List, []}
-use Rattle.std.proofs.Common.{◌∷◌, length}
-use Rattle.std.proofs.Common.{slice_index, sym, ◌∙◌, ap, subst, arith}
+use Rattle.std.proofs.Common.{Bool, true, false, ◌≡◌, ◌≢◌, ◌⊎◌, inl, inr, ⊎_elim, ℕ, ◌+◌, ◌-◌, ◌<◌, ◌≤◌, List, [], ◌∷◌}
+use Rattle.std.proofs.Common.{length, slice_index, sym, ◌∙◌, ap, subst, arith}
 use Rattle.std.proofs.lemmas.Bool.{cases_eq}
 use Rattle.snap_disk.specs.Device.{Device, in_range, part, opened, MayLeave, IsTouched, IsSynced, IsWritten}
 use Rattle.snap_disk.specs.Laws.{out_apart, opened_leaves, touched_leaves, touched_twice_leaves}
 use Rattle.snap_slot.specs.declared.layout.TheConstants.{BLOCK_LEN, SLOT_COUNT, OPEN_GATE, CLOSED_GATE}
-use Rattle.snap_history.specs.Limits.{IsShort}
 use Rattle.snap_slot.specs.Layout.{slot_of, next_slot, spare_slot, gate_block, body_block, gate_at, body_at, Open}
 use Rattle.snap_slot.specs.Layout.{IsClosed, Head, IsFileOf}
-use Rattle.snap_slot.proofs.Blocks.{length-body_block}
-use Rattle.snap_slot.specs.States.{IsAtRest}
+use Rattle.snap_slot.{proofs.Blocks.length-body_block, specs.States.IsAtRest}
+use Rattle.snap_history.specs.Limits.{IsShort}
 use Rattle.snap_persist.specs.Device.{IsBodyStored, IsJustWritten}
-use Rattle.snap_persist.proofs.Kept.{apart, kept, kept_twice, inner_opened_leaves, head_kept, open_kept}
-use Rattle.snap_persist.proofs.Kept.{closed_kept, gate_changed}
-use Rattle.snap_persist.proofs.Kept.{byte_stands}
+use Rattle.snap_persist.proofs.Kept.{apart, kept, kept_twice, inner_opened_leaves, head_kept, open_kept, closed_kept}
+use Rattle.snap_persist.proofs.Kept.{gate_changed, byte_stands}
 
 module _ (i n k : ℕ) (u : List ℕ) where
   abbrev s : ℕ

@@ -1,7 +1,6 @@
 -- The parts of a segment file that writes to other parts leave unchanged.
 use Rattle.std.proofs.Common.{◌≡◌, ◌⊎◌, inl, inr, ⊎_elim, ℕ, ◌+◌, ◌-◌, ◌<◌, ◌≤◌, List, [], ◌∷◌, length, slice_index}
-use Rattle.std.proofs.Common.{sym, ◌∙◌, ap}
-use Rattle.std.proofs.Common.{subst, arith, ◌||◌}
+use Rattle.std.proofs.Common.{sym, ◌∙◌, ap, subst, arith, ◌||◌}
 use Rattle.std.proofs.lemmas.Bool.{cases_lt, or_parts, or_from}
 use Rattle.snap_disk.specs.Device.{Device, IsSettled, MayLeave, in_range, part, opened}
 use Rattle.snap_disk.specs.Laws.{out_apart, part_left, part-cons, index-part, settled_closed, settled_closed_twice}

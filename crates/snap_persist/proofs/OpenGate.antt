@@ -1,14 +1,13 @@
 -- A store that opens the gate of its new body.
 use Rattle.std.proofs.Common.{true, false, ◌≡◌, ◌≢◌, inl, inr, ⊎_elim, ℕ, ◌+◌, ◌-◌, ◌<◌, ◌≤◌, List, [], ◌∷◌, length}
-use Rattle.std.proofs.Common.{slice_index, sym}
-use Rattle.std.proofs.Common.{◌∙◌, ap, subst, arith}
+use Rattle.std.proofs.Common.{slice_index, sym, ◌∙◌, ap, subst, arith}
 use Rattle.std.proofs.lemmas.Bool.{cases_eq, or_parts}
 use Rattle.snap_disk.specs.Device.{Device, in_range, part, opened, MayLeave, IsWritten}
 use Rattle.snap_slot.specs.declared.layout.TheConstants.{BLOCK_LEN, SLOT_COUNT, OPEN_GATE}
-use Rattle.snap_history.specs.Limits.{IsNumber, IsShort}
 use Rattle.snap_slot.specs.Layout.{slot_of, next_slot, spare_slot, gate_block, body_block, gate_at, body_at, Open}
 use Rattle.snap_slot.specs.Layout.{IsClosed, Head, IsFileOf}
 use Rattle.snap_slot.specs.States.{IsEither, IsAtRest}
+use Rattle.snap_history.specs.Limits.{IsNumber, IsShort}
 use Rattle.snap_persist.specs.Device.{IsBodyStored}
 use Rattle.snap_persist.proofs.Kept.{kept, head_kept, open_kept, closed_kept, gate_changed, byte_stands}
 

@@ -1,10 +1,9 @@
 -- Why two syncs are enough for a store.
 use Rattle.std.specs.Prelude.{ℕ, ◌+◌, Bool, true, List}
 use Rattle.snap_slot.specs.Device.{Device, MayLeave, opened}
-use Rattle.snap_slot.specs.declared.layout.TheConstants.{BLOCK_LEN}
-use Rattle.snap_slot.specs.Limits.{IsNumber, IsShort}
 use Rattle.snap_slot.specs.Layout.{slot_of, next_slot, gate_at, body_at, IsClosed, IsFileOf}
-use Rattle.snap_slot.specs.States.{IsAtRest, IsEither}
+use Rattle.snap_slot.specs.{declared.layout.TheConstants.BLOCK_LEN, Limits.IsNumber, Limits.IsShort, States.IsAtRest}
+use Rattle.snap_slot.specs.States.{IsEither}
 use Rattle.snap_persist.specs.Device.{IsBodyStored}
 
 -- The slot that the next number takes is closed already, so its body may be torn.

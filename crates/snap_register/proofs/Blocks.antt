@@ -1,17 +1,15 @@
 -- Blocks of words, copied and appended.
-use Rattle.std.proofs.Common.{◌≡◌, ℕ, zero, suc, ◌+◌, ◌*◌, ◌<◌, ◌≤◌, List, [], ◌∷◌, ◌++◌, length, get_or, take}
-use Rattle.std.proofs.Common.{drop, refl, ap, sym}
-use Rattle.std.proofs.Common.{subst, ◌∙◌, arith, append_assoc, length-append}
+use Rattle.std.proofs.Common.{◌≡◌, ℕ, zero, suc, ◌+◌, ◌*◌, ◌<◌, ◌≤◌, List, [], ◌∷◌, ◌++◌, length, get_or, take, drop}
+use Rattle.std.proofs.Common.{refl, ap, sym, subst, ◌∙◌, arith, append_assoc, length-append}
 use Rattle.std.proofs.lemmas.List.{take_at, take-take, get_or_append_left, get_or-append-add, get_or_push}
 use Rattle.std.proofs.lemmas.List.{take-append-drop, drop-take}
 use Rattle.std.specs.Int.{w64, to_le_bytes}
+use Rattle.snap_history.specs.History.{Start}
+use Rattle.snap_register.specs.Words.{words_for, bytes_at, length_at, value_at, size_at, block_at, piece, behind}
+use Rattle.snap_register.specs.Words.{IsWhole, IsBlock, AreBlocks, IsRecord}
 use mathlib.Core.List.{IsPrefix}
 use mathlib.Core.Logic.{dite}
 use native.Mathlib.Decide.{ℕ_discrete}
-use Rattle.snap_history.specs.History.{Start}
-use Rattle.snap_register.specs.Words.{words_for, bytes_at, length_at, value_at, size_at, block_at, piece, behind}
-use Rattle.snap_register.specs.Words.{IsWhole, IsBlock}
-use Rattle.snap_register.specs.Words.{AreBlocks, IsRecord}
 
 pub piece_more : (ws : List ℕ) (at k : ℕ) → piece ws at (k + 1) ≡ piece ws at k
     ++ get_or ws (at + k) 0 ∷ []

@@ -1,14 +1,11 @@
 -- A seat after it stored words into the free buffer.
 use Rattle.std.proofs.Common.{◌≡◌, ℕ, ◌+◌, ◌*◌, ◌≤◌, ◌++◌, List, length, ap, sym, subst, ◌∙◌, arith, length-append}
-use mathlib.Core.List.{IsPrefix}
 use Rattle.snap_history.specs.History.{Start}
-use Rattle.snap_register.specs.declared.access.Access.{Access}
-use Rattle.snap_register.specs.Registers.{Mine}
-use Rattle.snap_register.specs.Held.{held}
 use Rattle.snap_register.specs.Words.{IsWhole, AreBlocks, piece, size_at, block_at}
-use Rattle.snap_register.specs.Steps.{draft_of, HasDrafted}
-use Rattle.snap_register.proofs.Blocks.{blocks_push, piece_length}
-use Rattle.snap_register.proofs.Lines.{prefix_trans}
+use Rattle.snap_register.specs.{declared.access.Access.Access, Registers.Mine, Held.held, Steps.draft_of}
+use Rattle.snap_register.specs.Steps.{HasDrafted}
+use Rattle.snap_register.proofs.{Blocks.blocks_push, Blocks.piece_length, Lines.prefix_trans}
+use mathlib.Core.List.{IsPrefix}
 
 -- nothing changed but the draft
 abbrev pub Drafted : Mine → Mine → Type 0

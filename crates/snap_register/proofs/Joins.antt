@@ -1,23 +1,19 @@
 -- A view is split in two, or joined with another.
-use Rattle.std.proofs.Common.{◌≡◌, ◌≢◌, ℕ, zero, suc, ◌+◌, ◌-◌, ◌<◌, ◌≤◌, ◌⊎◌, inl, inr, ⊎_elim, List, [], ◌∷◌}
-use Rattle.std.proofs.Common.{◌++◌, length}
-use Rattle.std.proofs.Common.{get_or, set, refl, ap, sym, subst, ◌∙◌, arith, le_refl}
+use Rattle.std.proofs.Common.{◌≡◌, ◌≢◌, ℕ, zero, suc, ◌+◌, ◌-◌, ◌<◌, ◌≤◌, ◌⊎◌, inl, inr, ⊎_elim, List, [], ◌∷◌, ◌++◌}
+use Rattle.std.proofs.Common.{length, get_or, set, refl, ap, sym, subst, ◌∙◌, arith, le_refl}
 use Rattle.std.proofs.lemmas.List.{length-set}
+use Rattle.atomic_table.specs.Table.{State, Splits, Joins}
+use Rattle.atomic_table.proofs.Lists.{set_else}
+use Rattle.snap_register.specs.Rule.{Has, total, Knows, Kept, messenger, reader, without_reader, first_role}
+use Rattle.snap_register.specs.Rule.{without_first_role, with_received, with_seen_of, spent}
+use Rattle.snap_register.proofs.Keeps.{turn, turn_here, turn_else, over_pins, words_same, register_stays, knows_stays}
+use Rattle.snap_register.proofs.Keeps.{seats_stay}
+use Rattle.snap_register.specs.{declared.plan.Entry.Entry, declared.plan.Plan.Plan, declared.plan.SeatView.SeatView}
+use Rattle.snap_register.specs.History.{only}
+use Rattle.snap_register.proofs.{Lines.prefix_self, Sums.total_set, Sums.total_push}
 use mathlib.Core.List.{IsPrefix}
 use mathlib.Core.Option.{some, some-injective, some-ne-none}
 use lib.ListN.{get_elem?}
-use Rattle.atomic_table.specs.Table.{State, Splits, Joins}
-use Rattle.atomic_table.proofs.Lists.{set_else}
-use Rattle.snap_register.specs.declared.plan.Entry.{Entry}
-use Rattle.snap_register.specs.declared.plan.Plan.{Plan}
-use Rattle.snap_register.specs.declared.plan.SeatView.{SeatView}
-use Rattle.snap_register.specs.Rule.{Has, total, Knows, Kept, messenger, reader, without_reader}
-use Rattle.snap_register.specs.Rule.{first_role, without_first_role, with_received, with_seen_of, spent}
-use Rattle.snap_register.specs.History.{only}
-use Rattle.snap_register.proofs.Lines.{prefix_self}
-use Rattle.snap_register.proofs.Sums.{total_set, total_push}
-use Rattle.snap_register.proofs.Keeps.{turn, turn_here, turn_else, over_pins, words_same, register_stays}
-use Rattle.snap_register.proofs.Keeps.{knows_stays, seats_stay}
 
 at_end : {A : Type 0} (l : List A) (a b : A) (j : ℕ) → get_elem? (l ++ a ∷ []) j ≡ some b
     → (get_elem? l j ≡ some b) ⊎ ((j ≡ length l) × (a ≡ b))

@@ -1,32 +1,26 @@
 -- Each step keeps the rule.
-use Rattle.std.proofs.Common.{◌≡◌, ◌≢◌, ℕ, ◌+◌, ◌-◌, ◌/◌, ◌%◌, ◌^◌, ◌<◌, ◌≤◌, ◌==◌, ⊎_elim, List, [], ◌∷◌, ◌++◌}
-use Rattle.std.proofs.Common.{length, get_or, set, false}
-use Rattle.std.proofs.Common.{refl, ap, sym, subst, ◌∙◌, arith, get_or-set_same, get_or-set_other, le_refl, cond}
-use Rattle.std.proofs.lemmas.List.{set-get_or, length-set}
-use Rattle.std.proofs.lemmas.Nat.{div-mul-add}
-use Rattle.std.proofs.lemmas.Bool.Decides.{nat_tests}
+use Rattle.std.proofs.Common.{◌≡◌, ◌≢◌, ℕ, ◌+◌, ◌-◌, ◌/◌, ◌%◌, ◌^◌, ◌<◌, ◌≤◌, ◌==◌, ⊎_elim, List, [], ◌∷◌, ◌++◌, length}
+use Rattle.std.proofs.Common.{get_or, set, false, refl, ap, sym, subst, ◌∙◌, arith, get_or-set_same, get_or-set_other}
+use Rattle.std.proofs.Common.{le_refl, cond}
+use Rattle.std.proofs.lemmas.{List.set-get_or, List.length-set, Nat.div-mul-add, Bool.Decides.nat_tests}
+use Rattle.atomic_table.specs.Table.{State, Me, step, stepped, Allows}
+use Rattle.atomic_table.{specs.Table.Act.keeps, proofs.Lists.at_set}
+use Rattle.snap_register.specs.History.{entry, sight, only, count, record_words, start_at}
+use Rattle.snap_register.specs.Rule.{segments, buffers, width, given, cell, Has, IsLegal, IsBelow, total, on, far}
+use Rattle.snap_register.specs.Rule.{beyond, other, Holds, Register, Pinned, Knows, Kept, Learns, pinning, giving}
+use Rattle.snap_register.specs.Rule.{heard, read}
+use Rattle.snap_register.proofs.Lines.{prefix_self, prefix_trans, count_prefix, record_prefix, legal_prefix}
+use Rattle.snap_register.proofs.Places.{Apart, word_apart, given_apart, given_same, given_behind, cell_behind}
+use Rattle.snap_register.proofs.Places.{given_cell, given_inside, word_inside}
+use Rattle.snap_register.proofs.Sums.{total_set, total_same, total_one, on_here, on_not, far_none, far_here, pins_at}
+use Rattle.snap_register.proofs.Sums.{pin_more}
+use Rattle.snap_register.specs.declared.plan.{Entry.Entry, Plan.Plan, Pool.Pool, SeatView.SeatView}
 use mathlib.Core.List.{IsPrefix}
 use mathlib.Core.Logic.{dite}
 use mathlib.Core.Option as maybe
 use mathlib.Core.Option.{some}
 use native.Mathlib.Decide.{ℕ_discrete}
 use lib.ListN.{get_elem?}
-use Rattle.atomic_table.specs.Table.{State, Me, step, stepped, Allows}
-use Rattle.atomic_table.specs.Table.Act.{keeps}
-use Rattle.atomic_table.proofs.Lists.{at_set}
-use Rattle.snap_register.specs.declared.plan.Entry.{Entry}
-use Rattle.snap_register.specs.declared.plan.Plan.{Plan}
-use Rattle.snap_register.specs.declared.plan.Pool.{Pool}
-use Rattle.snap_register.specs.declared.plan.SeatView.{SeatView}
-use Rattle.snap_register.specs.History.{entry, sight, only, count, record_words, start_at}
-use Rattle.snap_register.specs.Rule.{segments, buffers, width, given, cell, Has, IsLegal, IsBelow, total, on, far}
-use Rattle.snap_register.specs.Rule.{beyond, other}
-use Rattle.snap_register.specs.Rule.{Holds, Register, Pinned, Knows, Kept, Learns, pinning, giving, heard, read}
-use Rattle.snap_register.proofs.Lines.{prefix_self, prefix_trans, count_prefix, record_prefix, legal_prefix}
-use Rattle.snap_register.proofs.Places.{Apart, word_apart, given_apart, given_same, given_behind, cell_behind}
-use Rattle.snap_register.proofs.Places.{given_cell, given_inside, word_inside}
-use Rattle.snap_register.proofs.Sums.{total_set, total_same, total_one, on_here, on_not, far_none, far_here}
-use Rattle.snap_register.proofs.Sums.{pins_at, pin_more}
 
 -- f with y at j
 abbrev pub turn : {A : Type 0} → (ℕ → A) → ℕ → A → ℕ → A

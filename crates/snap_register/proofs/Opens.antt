@@ -1,34 +1,23 @@
 -- The words at the start keep the rule, and the first seat splits off the others.
 use Rattle.std.proofs.Common.{◌≡◌, ℕ, zero, suc, ◌+◌, ◌-◌, ◌*◌, ◌<◌, ◌≤◌, ⊎_elim, List, [], ◌∷◌, ◌++◌, map, length}
 use Rattle.std.proofs.Common.{get_or, refl, ap, sym, subst, ◌∙◌, arith, length-append, suc-mul, mul-le-mul_right}
-use Rattle.std.proofs.lemmas.Bool.Decides.{nat_tests}
-use Rattle.std.specs.Prelude.{replicate}
-use Rattle.std.specs.List.{flat_map}
 use Rattle.std.proofs.lemmas.List.{length-map, length-replicate, get_or_append_left, get_or-append-add}
-use Rattle.std.proofs.lemmas.List.{get_or-append_right}
-use Rattle.std.proofs.lemmas.List.{get_or-replicate, get_or_past}
+use Rattle.std.proofs.lemmas.List.{get_or-append_right, get_or-replicate, get_or_past}
+use Rattle.std.{proofs.lemmas.Bool.Decides.nat_tests, specs.Prelude.replicate, specs.List.flat_map}
+use Rattle.atomic_table.specs.{Table.Me, Table.opening, Seated.TableId}
+use Rattle.snap_register.specs.History.{no_start, start_at, updates}
+use Rattle.snap_register.specs.Rule.{segments, seats, buffers, width, given, cell, size, IsLegal, other, pins_of, Knows}
+use Rattle.snap_register.specs.Rule.{Kept}
+use Rattle.snap_register.specs.Setup.{first_view, first_pool, start_of, plan_with, unused, opening_words, IsReady}
+use Rattle.snap_register.specs.Setup.{IsSized, IsFirst}
+use Rattle.snap_register.specs.Parts.{IsNewSeat, AreWriters, AreReaders}
+use Rattle.snap_register.specs.{declared.plan.Opening.Opening, declared.plan.Plan.Plan, declared.plan.Start.Start}
+use Rattle.snap_register.specs.{declared.plan.SeatView.SeatView, Seat.Known, Seat.known, Held.Readable}
+use Rattle.snap_register.proofs.{Views.readable, Pairs.get_pushed, Places.below_product, Sums.on_not, Sums.far_none}
 use mathlib.Core.Logic.{dite}
 use mathlib.Core.Option.{some, some-injective, some-ne-none}
 use native.Mathlib.Decide.{dec_le}
 use lib.ListN.{get_elem?}
-use Rattle.atomic_table.specs.Table.{Me, opening}
-use Rattle.atomic_table.specs.Seated.{TableId}
-use Rattle.snap_register.specs.declared.plan.Opening.{Opening}
-use Rattle.snap_register.specs.declared.plan.Plan.{Plan}
-use Rattle.snap_register.specs.declared.plan.Start.{Start}
-use Rattle.snap_register.specs.declared.plan.SeatView.{SeatView}
-use Rattle.snap_register.specs.History.{no_start, start_at, updates}
-use Rattle.snap_register.specs.Rule.{segments, seats, buffers, width, given, cell, size, IsLegal, other, pins_of}
-use Rattle.snap_register.specs.Rule.{Knows, Kept}
-use Rattle.snap_register.specs.Setup.{first_view, first_pool, start_of, plan_with, unused, opening_words, IsReady}
-use Rattle.snap_register.specs.Setup.{IsSized, IsFirst}
-use Rattle.snap_register.specs.Seat.{Known, known}
-use Rattle.snap_register.specs.Parts.{IsNewSeat, AreWriters, AreReaders}
-use Rattle.snap_register.specs.Held.{Readable}
-use Rattle.snap_register.proofs.Views.{readable}
-use Rattle.snap_register.proofs.Pairs.{get_pushed}
-use Rattle.snap_register.proofs.Places.{below_product}
-use Rattle.snap_register.proofs.Sums.{on_not, far_none}
 
 fewer_looks : (l looks : ℕ) → 0 < l → (looks ≤ l * looks) × (l * looks - looks ≡ (l - 1) * looks)
 fewer_looks zero looks any = absurd (omega arith)

@@ -1,20 +1,13 @@
 -- Registers that start with packed values.
 use Rattle.std.proofs.Common.{◌≡◌, ℕ, ◌^◌, ◌≤◌, List, length, map, take, slice_get, Some, refl, ap, sym, subst, ◌∙◌}
-use Rattle.std.proofs.Common.{arith}
-use Rattle.std.proofs.Common.{mul-le-mul_right}
-use Rattle.std.proofs.lemmas.List.{length-map, take_all}
-use Rattle.std.proofs.lemmas.Option.{get_or_from_slice_get, slice_get-map}
+use Rattle.std.proofs.Common.{arith, mul-le-mul_right}
+use Rattle.std.proofs.lemmas.{List.length-map, List.take_all, Option.get_or_from_slice_get, Option.slice_get-map}
 use Rattle.std.specs.Prelude.{option_map}
-use Rattle.snap_history.specs.Pairs.{Pairs}
-use Rattle.snap_history.proofs.Pairs.{element, partner}
-use Rattle.snap_register.specs.declared.plan.Opening.{Opening}
-use Rattle.snap_register.specs.declared.plan.Plan.{Plan}
-use Rattle.snap_register.specs.declared.plan.Start.{Start}
-use Rattle.snap_register.specs.History.{no_start, start_at}
-use Rattle.snap_register.specs.Words.{value_at, IsBlock}
-use Rattle.snap_register.specs.Rule.{segments, seats}
+use Rattle.snap_history.{specs.Pairs.Pairs, proofs.Pairs.element, proofs.Pairs.partner}
 use Rattle.snap_register.specs.Setup.{start_of, plan_with, IsReady}
-use Rattle.snap_register.specs.Parts.{IsOpening, IsPacked}
+use Rattle.snap_register.specs.{declared.plan.Opening.Opening, declared.plan.Plan.Plan, declared.plan.Start.Start}
+use Rattle.snap_register.specs.{History.no_start, History.start_at, Words.value_at, Words.IsBlock, Rule.segments}
+use Rattle.snap_register.specs.{Rule.seats, Parts.IsOpening, Parts.IsPacked}
 
 start_is : (scanners looks : ℕ) (os : List Opening) (i : ℕ) (o : Opening) → slice_get os i ≡ Some o
     → start_at (plan_with scanners looks 512 os) i ≡ start_of o

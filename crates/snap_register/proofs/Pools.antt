@@ -1,37 +1,31 @@
 -- A writer's steps keep the rule: a check of a buffer, a load and a store in the free one, a
 -- publication.
 use Rattle.std.proofs.Common.{◌≡◌, ◌≢◌, ℕ, ◌+◌, ◌-◌, ◌*◌, ◌^◌, ◌<◌, ◌≤◌, List, [], ◌∷◌, ◌++◌, length, get_or, set}
-use Rattle.std.proofs.Common.{false, refl, ap, sym}
-use Rattle.std.proofs.Common.{subst, ◌∙◌, arith, length-append, get_or-set_same, get_or-set_other, le_refl}
+use Rattle.std.proofs.Common.{false, refl, ap, sym, subst, ◌∙◌, arith, length-append, get_or-set_same, get_or-set_other}
+use Rattle.std.proofs.Common.{le_refl}
 use Rattle.std.proofs.lemmas.List.{get_or_append_left, get_or_push, get_or-take, length-take-le, length-set}
+use Rattle.atomic_table.specs.Table.{State, Me, step, stepped, Allows}
+use Rattle.atomic_table.specs.Table.Act.{keeps}
+use Rattle.snap_history.specs.Limits.{IsNumber}
+use Rattle.snap_register.specs.History.{entry, only, count, number, record_words}
+use Rattle.snap_register.specs.Rule.{segments, seats, buffers, width, given, cell, Follows, IsLegal, IsWriter, total}
+use Rattle.snap_register.specs.Rule.{on, beyond, other, pins_of, Holds, Register, Writes, Knows, Kept, checked, reused}
+use Rattle.snap_register.specs.Rule.{redrafted, without_last, next_other, moved_pool, published}
+use Rattle.snap_register.proofs.Lines.{prefix_self, prefix_trans, only_push_other, count_push_same, count_push_other}
+use Rattle.snap_register.proofs.Lines.{record_last, none_between, legal_push, legal_prefix, follows_later}
+use Rattle.snap_register.proofs.Places.{cell_same, given_behind, cell_behind, given_cell, cell_inside, word_inside}
+use Rattle.snap_register.proofs.Places.{word_apart, cell_apart}
+use Rattle.snap_register.proofs.Sums.{total_same, total_le, none_on, far_none, far_le, other_ne, beyond_next, pins_at}
+use Rattle.snap_register.proofs.Sums.{pins_else, pins_moved}
+use Rattle.snap_register.proofs.Keeps.{turn, turn_here, turn_else, SameWords, words_same, words_beside, register_beside}
+use Rattle.snap_register.proofs.Keeps.{pinned_stays, knows_stays, allowed, step_keeps, loaded}
+use Rattle.snap_register.specs.declared.plan.{Entry.Entry, Plan.Plan, Pool.Pool, SeatView.SeatView}
 use mathlib.Core.List.{IsPrefix}
 use mathlib.Core.Logic.{dite}
 use mathlib.Core.Option as maybe
 use mathlib.Core.Option.{some}
 use native.Mathlib.Decide.{ℕ_discrete}
 use lib.ListN.{get_elem?}
-use Rattle.atomic_table.specs.Table.{State, Me, step, stepped, Allows}
-use Rattle.atomic_table.specs.Table.Act.{keeps}
-use Rattle.snap_history.specs.Limits.{IsNumber}
-use Rattle.snap_register.specs.declared.plan.Entry.{Entry}
-use Rattle.snap_register.specs.declared.plan.Plan.{Plan}
-use Rattle.snap_register.specs.declared.plan.Pool.{Pool}
-use Rattle.snap_register.specs.declared.plan.SeatView.{SeatView}
-use Rattle.snap_register.specs.History.{entry, only, count, number, record_words}
-use Rattle.snap_register.specs.Rule.{segments, seats, buffers, width, given, cell, Follows, IsLegal, IsWriter}
-use Rattle.snap_register.specs.Rule.{total, on}
-use Rattle.snap_register.specs.Rule.{beyond, other, pins_of, Holds, Register, Writes, Knows, Kept, checked, reused}
-use Rattle.snap_register.specs.Rule.{redrafted}
-use Rattle.snap_register.specs.Rule.{without_last, next_other, moved_pool, published}
-use Rattle.snap_register.proofs.Lines.{prefix_self, prefix_trans, only_push_other, count_push_same}
-use Rattle.snap_register.proofs.Lines.{count_push_other, record_last}
-use Rattle.snap_register.proofs.Lines.{none_between, legal_push, legal_prefix, follows_later}
-use Rattle.snap_register.proofs.Places.{cell_same, given_behind, cell_behind, given_cell, cell_inside, word_inside}
-use Rattle.snap_register.proofs.Places.{word_apart, cell_apart}
-use Rattle.snap_register.proofs.Sums.{total_same, total_le, none_on, far_none, far_le, other_ne, beyond_next}
-use Rattle.snap_register.proofs.Sums.{pins_at, pins_else, pins_moved}
-use Rattle.snap_register.proofs.Keeps.{turn, turn_here, turn_else, SameWords, words_same, words_beside, register_beside}
-use Rattle.snap_register.proofs.Keeps.{pinned_stays, knows_stays, allowed, step_keeps, loaded}
 
 module _ (S : Type 0) where
   abbrev St : Type 0

@@ -1,11 +1,9 @@
 -- The places of records' words in the table.
 use Rattle.std.proofs.Common.{◌≡◌, ℕ, ◌+◌, ◌-◌, ◌<◌, ◌++◌, List, length, get_or, ap, subst, ◌∙◌, arith, length-append}
 use Rattle.atomic_table.specs.Table.{Me}
-use Rattle.snap_register.specs.declared.plan.SeatView.{SeatView}
 use Rattle.snap_register.specs.Rule.{buffers, width, cell}
-use Rattle.snap_register.specs.Held.{held}
-use Rattle.snap_register.specs.Setup.{IsSeated}
 use Rattle.snap_register.specs.Steps.{Owns, IsFree, LiesAt, IsNext, IsLast}
+use Rattle.snap_register.specs.{declared.plan.SeatView.SeatView, Held.held, Setup.IsSeated}
 use Rattle.snap_register.proofs.Places.{cell_inside}
 
 -- the words of a record are consecutive

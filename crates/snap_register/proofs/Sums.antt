@@ -1,13 +1,11 @@
 -- Sums over all views, and the pins that a pool has counted.
-use Rattle.std.proofs.Common.{◌≡◌, ◌≢◌, ℕ, zero, suc, ◌+◌, ◌<◌, ◌≤◌, ◌==◌, cond, List, [], ◌∷◌, ◌++◌, set, get_or}
-use Rattle.std.proofs.Common.{refl, ap, sym}
-use Rattle.std.proofs.Common.{arith, length, get_or-set_same, get_or-set_other}
+use Rattle.std.proofs.Common.{◌≡◌, ◌≢◌, ℕ, zero, suc, ◌+◌, ◌<◌, ◌≤◌, ◌==◌, cond, List, [], ◌∷◌, ◌++◌, set, get_or, refl}
+use Rattle.std.proofs.Common.{ap, sym, arith, length, get_or-set_same, get_or-set_other}
 use Rattle.std.proofs.lemmas.Bool.Decides.{nat_tests}
+use Rattle.snap_register.specs.Rule.{total, on, far, beyond, other, pins_of}
+use Rattle.snap_register.specs.declared.plan.{Pool.Pool, SeatView.SeatView}
 use mathlib.Core.Option.{some, some-injective, some-ne-none}
 use lib.ListN.{get_elem?}
-use Rattle.snap_register.specs.declared.plan.Pool.{Pool}
-use Rattle.snap_register.specs.declared.plan.SeatView.{SeatView}
-use Rattle.snap_register.specs.Rule.{total, on, far, beyond, other, pins_of}
 
 -- the sum after one view has changed
 pub total_set : (f : SeatView → ℕ) (vs : List SeatView) (k : ℕ) (v w : SeatView)

@@ -1,34 +1,26 @@
 -- The registers' history as updates of a memory: what a seat knows, in its callers' terms.
 use Rattle.std.proofs.Common.{◌≡◌, ℕ, zero, suc, ◌+◌, ◌<◌, ◌≤◌, ◌==◌, Bool, true, false, cond, List, [], ◌∷◌, ◌++◌}
-use Rattle.std.proofs.Common.{length, get_or}
-use Rattle.std.proofs.Common.{Some, None, slice_get, refl, ap, sym, subst, ◌∙◌, arith, append_assoc}
+use Rattle.std.proofs.Common.{length, get_or, Some, None, slice_get, refl, ap, sym, subst, ◌∙◌, arith, append_assoc}
 use Rattle.std.specs.Prelude.{if◌then◌else◌}
-use Rattle.std.proofs.lemmas.List.{map-append, append-nil}
-use Rattle.std.proofs.lemmas.Option.{same_Some}
-use Rattle.std.proofs.lemmas.Bool.Decides.{nat_tests}
+use Rattle.std.proofs.lemmas.{List.map-append, List.append-nil, Option.same_Some, Bool.Decides.nat_tests}
+use Rattle.atomic_table.specs.Seated.{TableId}
+use Rattle.snap_history.specs.History.{Update, IsBeginning, updates_of, last_value, number_after, value_after}
+use Rattle.snap_register.specs.declared.view.View.TheVariants.{Collected, Borrowed}
+use Rattle.snap_register.specs.History.{entry, only, count, number, start_at, memory, record_words, update_of, updates}
+use Rattle.snap_register.specs.History.{starts}
+use Rattle.snap_register.specs.Rule.{segments, Has, IsLegal, Follows}
+use Rattle.snap_register.specs.Words.{value_at, size_at, IsBlock, AreBlocks, IsRecord}
+use Rattle.snap_register.specs.Held.{held, view_in, taken, Readable, CanTake, MayTake, IsPinned, IsShown}
+use Rattle.snap_register.specs.Seat.{known, looked, IsBelow, Grows, Looks, HasLooked, HasFoundUpdate, IsValue, IsView}
+use Rattle.snap_register.specs.Seat.{MayPublish, Meets, Shows}
+use Rattle.snap_register.proofs.Lines.{find, prefix_trans, count_push_same, record_prefix}
+use Rattle.snap_register.specs.declared.{plan.Entry.Entry, plan.Plan.Plan, plan.SeatView.SeatView, view.View.View}
+use Rattle.snap_register.proofs.{Blocks.record_of, Views.viewed}
+use Rattle.snap_scan.specs.Sets.{Names}
 use mathlib.Core.List.{IsPrefix}
 use mathlib.Core.Logic.{dite}
 use native.Mathlib.Decide.{ℕ_discrete}
-use Rattle.atomic_table.specs.Seated.{TableId}
-use Rattle.snap_history.specs.History.{Update, IsBeginning, updates_of, last_value, number_after, value_after}
-use Rattle.snap_register.specs.declared.plan.Entry.{Entry}
-use Rattle.snap_register.specs.declared.plan.Plan.{Plan}
-use Rattle.snap_register.specs.declared.plan.SeatView.{SeatView}
-use Rattle.snap_register.specs.declared.view.View.{View}
-use Rattle.snap_register.specs.declared.view.View.TheVariants.{Collected, Borrowed}
-use Rattle.snap_register.specs.History.{entry, only, count, number, start_at, memory, record_words, update_of}
-use Rattle.snap_register.specs.History.{updates, starts}
-use Rattle.snap_register.specs.Rule.{segments, Has, IsLegal, Follows}
 use Rattle.snap_register.specs.Rule as rule
-use Rattle.snap_register.specs.Words.{value_at, size_at, IsBlock, AreBlocks, IsRecord}
-use Rattle.snap_register.specs.Held.{held, view_in, taken, Readable, CanTake, MayTake, IsPinned, IsShown}
-use Rattle.snap_register.specs.Seat.{known, looked, IsBelow, Grows, Looks, HasLooked, HasFoundUpdate, IsValue}
-use Rattle.snap_register.specs.Seat.{IsView, MayPublish}
-use Rattle.snap_register.specs.Seat.{Meets, Shows}
-use Rattle.snap_scan.specs.Sets.{Names}
-use Rattle.snap_register.proofs.Lines.{find, prefix_trans, count_push_same, record_prefix}
-use Rattle.snap_register.proofs.Blocks.{record_of}
-use Rattle.snap_register.proofs.Views.{viewed}
 
 counted : (b : Bool) (x : Entry) (l : List Entry) (n : ℕ) → n ≡ length l
     → (if b then 1 else 0) + n ≡ length (cond b (x ∷ l) l)

@@ -1,18 +1,13 @@
 -- The contents of a published record: its number, its value and its view.
-use Rattle.std.proofs.Common.{◌≡◌, ℕ, zero, suc, ◌+◌, ◌*◌, ◌^◌, ◌<◌, ◌≤◌, List, [], ◌∷◌, length, get_or, ap, subst}
-use Rattle.std.proofs.Common.{◌∙◌, arith}
-use mathlib.Core.List.{IsPrefix}
-use Rattle.snap_register.specs.declared.access.Access.{Access}
-use Rattle.snap_register.specs.declared.plan.Entry.{Entry}
-use Rattle.snap_register.specs.declared.plan.Plan.{Plan}
+use Rattle.std.proofs.Common.{◌≡◌, ℕ, zero, suc, ◌+◌, ◌*◌, ◌^◌, ◌<◌, ◌≤◌, List, [], ◌∷◌, length, get_or, ap, subst, ◌∙◌}
+use Rattle.std.proofs.Common.{arith}
 use Rattle.snap_register.specs.History.{entry, only, number, count, record_words, start_at, memory}
 use Rattle.snap_register.specs.Rule.{segments, buffers, width, Follows, IsLegal}
 use Rattle.snap_register.specs.Words.{value_at, size_at, behind, IsWhole, IsBlock, AreBlocks}
-use Rattle.snap_register.specs.Held.{held, Readable}
-use Rattle.snap_register.specs.Setup.{IsSized, HasStart}
-use Rattle.snap_register.specs.Steps.{view_of}
-use Rattle.snap_register.proofs.Blocks.{behind_small, size_small}
-use Rattle.snap_register.proofs.Lines.{find, prefix_trans}
+use Rattle.snap_register.specs.{declared.access.Access.Access, declared.plan.Entry.Entry, declared.plan.Plan.Plan}
+use Rattle.snap_register.specs.{Held.held, Held.Readable, Setup.IsSized, Setup.HasStart, Steps.view_of}
+use Rattle.snap_register.proofs.{Blocks.behind_small, Blocks.size_small, Lines.find, Lines.prefix_trans}
+use mathlib.Core.List.{IsPrefix}
 
 -- the record of an update: its own block, and the view that it carries
 pub record Viewed (p : Plan) (h : List Entry) (j r : ℕ) : Type 0 where

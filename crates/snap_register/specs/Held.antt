@@ -1,14 +1,11 @@
 -- The records in the buffers that a seat pins.
 use Rattle.std.specs.Prelude.{◌≡◌, ◌≢◌, ℕ, ◌+◌, ◌<◌, ◌≤◌, ◌++◌, List, [], ◌∷◌, slice_index, length}
-use mathlib.Core.List.{IsPrefix}
-use Rattle.snap_register.specs.declared.plan.Entry.{Entry}
-use Rattle.snap_register.specs.declared.plan.Plan.{Plan}
-use Rattle.snap_register.specs.declared.plan.SeatView.{SeatView}
-use Rattle.snap_register.specs.declared.view.View.{View}
-use Rattle.snap_register.specs.declared.view.View.TheVariants.{Collected, Borrowed}
 use Rattle.snap_register.specs.History.{entry, sight, only, start_at, record_words, memory, number, count}
 use Rattle.snap_register.specs.Words.{block_at, size_at, value_at, behind, IsBlock}
 use Rattle.snap_register.specs.Rule.{segments, width, IsBelow}
+use Rattle.snap_register.specs.declared.plan.{Entry.Entry, Plan.Plan, SeatView.SeatView}
+use Rattle.snap_register.specs.declared.view.View.{View, TheVariants.Collected, TheVariants.Borrowed}
+use mathlib.Core.List.{IsPrefix}
 
 -- the words of the record that the seat pins on register j
 abbrev pub held : SeatView → ℕ → List ℕ

@@ -1,11 +1,8 @@
 -- A history of updates, and each segment's line in it.
 use Rattle.std.specs.Prelude.{ℕ, ◌+◌, ◌==◌, cond, List, [], ◌∷◌, length, map, slice_index_or}
-use Rattle.snap_history.specs.History as history
-use Rattle.snap_register.specs.declared.plan.Entry.{Entry}
-use Rattle.snap_register.specs.declared.plan.Sight.{Sight}
-use Rattle.snap_register.specs.declared.plan.Start.{Start}
-use Rattle.snap_register.specs.declared.plan.Plan.{Plan}
+use Rattle.snap_register.specs.declared.plan.{Entry.Entry, Sight.Sight, Start.Start, Plan.Plan}
 use Rattle.snap_register.specs.Words.{value_at}
+use Rattle.snap_history.specs.History as history
 
 abbrev pub entry : ℕ → List ℕ → Entry
 entry i ws = record { segment = i; words = ws }

@@ -1,13 +1,8 @@
 -- The seats of one opening.
 use Rattle.std.specs.Prelude.{◌≡◌, ℕ, ◌+◌, List, [], length, slice_get, Some}
 use Rattle.snap_history.specs.Limits.{IsNumber}
-use Rattle.snap_register.specs.declared.words.TheConstants.{BLOCK_WORDS}
-use Rattle.snap_register.specs.declared.plan.Opening.{Opening}
-use Rattle.snap_register.specs.declared.plan.Plan.{Plan}
-use Rattle.snap_register.specs.History.{starts}
-use Rattle.snap_register.specs.Words.{IsBlock}
-use Rattle.snap_register.specs.Rule.{segments}
-use Rattle.snap_register.specs.Seat.{Known}
+use Rattle.snap_register.specs.{declared.words.TheConstants.BLOCK_WORDS, declared.plan.Opening.Opening}
+use Rattle.snap_register.specs.{declared.plan.Plan.Plan, History.starts, Words.IsBlock, Rule.segments, Seat.Known}
 use Rattle.snap_register.specs.Registers.{RegistersId}
 
 -- a seat that has seen nothing yet and has all its looks, and writes the segments from `low` on and

@@ -1,7 +1,6 @@
 -- The identity of registers, and their state between two steps.
 use Rattle.std.specs.Prelude.{[]}
-use Rattle.atomic_table.specs.Seated.{TableId}
-use Rattle.atomic_table.specs.Table.{State, Me}
+use Rattle.atomic_table.specs.{Seated.TableId, Table.State, Table.Me}
 use Rattle.snap_register.specs.declared.plan.SeatView.{SeatView}
 
 -- the registers of one opening

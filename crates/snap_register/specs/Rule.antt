@@ -1,20 +1,16 @@
 -- The rule of the registers' words, and the result of each step. Word i is the current word of
 -- register i: its buffer's index times 2^56, plus the pins on it. After these words come the
 -- given-back counts, then the buffers.
-use Rattle.std.specs.Prelude.{◌≡◌, ℕ, ◌+◌, ◌-◌, ◌*◌, ◌/◌, ◌^◌, ◌<◌, ◌≤◌, ◌==◌, ltb, cond, List, [], ◌∷◌, ◌++◌}
-use Rattle.std.specs.Prelude.{length, slice_index}
-use Rattle.std.specs.Prelude.{slice_set, take, true, false}
+use Rattle.std.specs.Prelude.{◌≡◌, ℕ, ◌+◌, ◌-◌, ◌*◌, ◌/◌, ◌^◌, ◌<◌, ◌≤◌, ◌==◌, ltb, cond, List, [], ◌∷◌, ◌++◌, length}
+use Rattle.std.specs.Prelude.{slice_index, slice_set, take, true, false}
+use Rattle.atomic_table.specs.Table.{State, Me, Step}
+use Rattle.snap_history.specs.Limits.{IsNumber}
+use Rattle.snap_register.specs.History.{entry, sight, only, count, number, record_words, memory}
+use Rattle.snap_register.specs.Words.{value_at, IsRecord}
+use Rattle.snap_register.specs.declared.plan.{Entry.Entry, Plan.Plan, Pool.Pool, SeatView.SeatView}
 use mathlib.Core.Option.{some}
 use mathlib.Core.List.{IsPrefix}
 use lib.ListN.{get_elem?}
-use Rattle.atomic_table.specs.Table.{State, Me, Step}
-use Rattle.snap_history.specs.Limits.{IsNumber}
-use Rattle.snap_register.specs.declared.plan.Entry.{Entry}
-use Rattle.snap_register.specs.declared.plan.Plan.{Plan}
-use Rattle.snap_register.specs.declared.plan.Pool.{Pool}
-use Rattle.snap_register.specs.declared.plan.SeatView.{SeatView}
-use Rattle.snap_register.specs.History.{entry, sight, only, count, number, record_words, memory}
-use Rattle.snap_register.specs.Words.{value_at, IsRecord}
 
 abbrev pub segments : Plan → ℕ
 segments p = length p.start

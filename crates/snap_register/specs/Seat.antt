@@ -1,17 +1,13 @@
 -- The model of a seat, for its callers.
-use Rattle.std.specs.Prelude.{◌≡◌, ◌≢◌, ℕ, ◌+◌, ◌<◌, ◌≤◌, ◌==◌, Option, Some, None, cond, List, [], ◌∷◌, ◌++◌}
-use Rattle.std.specs.Prelude.{length, map, slice_index}
-use Rattle.std.specs.Prelude.{slice_get}
-use Rattle.snap_register.specs.Registers.{RegistersId}
+use Rattle.std.specs.Prelude.{◌≡◌, ◌≢◌, ℕ, ◌+◌, ◌<◌, ◌≤◌, ◌==◌, Option, Some, None, cond, List, [], ◌∷◌, ◌++◌, length}
+use Rattle.std.specs.Prelude.{map, slice_index, slice_get}
+use Rattle.snap_register.specs.declared.view.View.TheVariants.{Collected, Borrowed}
+use Rattle.snap_register.specs.History.{starts, updates, start_at}
+use Rattle.snap_register.specs.{Registers.RegistersId, declared.plan.Plan.Plan, declared.plan.SeatView.SeatView}
+use Rattle.snap_register.specs.{declared.view.View.View, Rule.segments}
 use Rattle.snap_history.specs.History.{Update, IsBeginning, number_after, value_after, updates_of}
 use Rattle.snap_history.specs.Limits.{IsNumber}
 use Rattle.snap_scan.specs.Sets.{Names}
-use Rattle.snap_register.specs.declared.plan.Plan.{Plan}
-use Rattle.snap_register.specs.declared.plan.SeatView.{SeatView}
-use Rattle.snap_register.specs.declared.view.View.{View}
-use Rattle.snap_register.specs.declared.view.View.TheVariants.{Collected, Borrowed}
-use Rattle.snap_register.specs.History.{starts, updates, start_at}
-use Rattle.snap_register.specs.Rule.{segments}
 
 -- the table and its plan; the updates that the seat has seen; the segments that it writes, from
 -- `low` on and below `high`; which buffers and records its last looks found; how many looks it has

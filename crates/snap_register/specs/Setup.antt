@@ -3,21 +3,14 @@ use Rattle.std.specs.Prelude.{◌≡◌, ℕ, ◌+◌, ◌*◌, ◌^◌, ◌<◌
 use Rattle.std.specs.Prelude.{false}
 use Rattle.std.specs.List.{flat_map}
 use Rattle.snap_history.specs.Limits.{IsNumber}
-use Rattle.snap_history.specs.declared.limits.TheConstants.{MAX_COUNT}
-use Rattle.snap_register.specs.declared.words.TheConstants.{BLOCK_WORDS}
-use Rattle.snap_history.specs.declared.limits.TheConstants.{MAX_SCANNERS}
-use Rattle.snap_register.specs.declared.setup.Setup.{Setup}
-use Rattle.snap_register.specs.declared.plan.Opening.{Opening}
-use Rattle.snap_register.specs.declared.plan.Plan.{Plan}
-use Rattle.snap_register.specs.declared.plan.Start.{Start}
-use Rattle.snap_register.specs.declared.plan.Pool.{Pool}
-use Rattle.snap_register.specs.declared.plan.SeatView.{SeatView}
-use Rattle.snap_register.specs.declared.tables.Sizes.{Sizes}
-use Rattle.atomic_table.specs.Table.{Me}
+use Rattle.snap_history.specs.declared.limits.TheConstants.{MAX_COUNT, MAX_SCANNERS}
 use Rattle.snap_register.specs.History.{start_at, count, number}
 use Rattle.snap_register.specs.Words.{value_at, IsBlock}
-use Rattle.snap_register.specs.Held.{Readable}
 use Rattle.snap_register.specs.Rule.{segments, seats, buffers, width, size, IsWriter}
+use Rattle.snap_register.specs.{declared.words.TheConstants.BLOCK_WORDS, declared.plan.SeatView.SeatView, Held.Readable}
+use Rattle.snap_register.specs.{declared.setup.Setup.Setup, declared.plan.Opening.Opening, declared.tables.Sizes.Sizes}
+use Rattle.snap_register.specs.{declared.plan.Plan.Plan, declared.plan.Start.Start, declared.plan.Pool.Pool}
+use Rattle.atomic_table.specs.Table.{Me}
 
 abbrev pub start_of : Opening → Start
 start_of x = record { number = x.number; words = x.words.items }

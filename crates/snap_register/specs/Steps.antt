@@ -1,14 +1,9 @@
 -- What a seat with its table knows, and what each call changes.
 use Rattle.std.specs.Prelude.{◌≡◌, ℕ, ◌-◌, ◌<◌, ◌≤◌, List, [], length, slice_index}
-use Rattle.atomic_table.specs.Table.{Me}
-use Rattle.atomic_table.specs.declared.shared.Seat.{Seat}
-use Rattle.snap_register.specs.declared.access.Access.{Access}
-use Rattle.snap_register.specs.declared.plan.Pool.{Pool}
-use Rattle.snap_register.specs.declared.plan.SeatView.{SeatView}
-use Rattle.snap_register.specs.Held.{held}
+use Rattle.atomic_table.specs.{Table.Me, declared.shared.Seat.Seat}
 use Rattle.snap_register.specs.Rule.{segments, buffers, width, cell, IsWriter, Learns}
-use Rattle.snap_register.specs.Setup.{IsSeated}
-use Rattle.snap_register.specs.Seat.{Known, known}
+use Rattle.snap_register.specs.{declared.access.Access.Access, declared.plan.Pool.Pool, declared.plan.SeatView.SeatView}
+use Rattle.snap_register.specs.{Held.held, Setup.IsSeated, Seat.Known, Seat.known}
 
 -- what the seat knows
 abbrev pub view_at : Seat (Unit {0}) SeatView → SeatView

@@ -2,8 +2,7 @@
 -- with the lowest first.
 use Rattle.std.specs.Prelude.{◌≡◌, ℕ, zero, suc, ◌+◌, ◌/◌, ◌<◌, ◌≤◌, ◌++◌, List, [], ◌∷◌, length, slice_index, take}
 use Rattle.std.specs.Int.{w64, to_le_bytes}
-use Rattle.snap_history.specs.declared.limits.TheConstants.{MAX_VALUE_LEN}
-use Rattle.snap_history.specs.History.{Start}
+use Rattle.snap_history.specs.{declared.limits.TheConstants.MAX_VALUE_LEN, History.Start}
 
 -- how many words n bytes take
 abbrev pub words_for : ℕ → ℕ

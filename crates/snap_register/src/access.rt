@@ -36,8 +36,7 @@ pub(crate) struct Access {
 }
 
 impl Access {
-    ghost use Rattle.snap_register.specs.Seat.{HasLooked};
-    ghost use Rattle.snap_register.specs.Steps.{view_of, known_of};
+    ghost use Rattle.snap_register.specs.{Seat.HasLooked, Steps.view_of, Steps.known_of};
 
     /// How many segments there are.
     pub(crate) fn count_segments(&self) -> usize

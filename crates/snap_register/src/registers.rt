@@ -2,12 +2,10 @@
 ghost use Rattle.std.specs.Prelude.{◌≡◌, ℕ, ◌^◌, ◌<◌, ◌≤◌, length, map, slice_get, Some, IfOk};
 ghost use Rattle.atomic_table.specs.Seated.{TableId};
 ghost use Rattle.snap_history.specs.Limits.{IsNumber, IsShort};
-ghost use Rattle.snap_history.specs.declared.limits.TheConstants.{MAX_COUNT};
-ghost use Rattle.snap_register.specs.declared.words.TheConstants.{BLOCK_WORDS};
-ghost use Rattle.snap_history.specs.declared.limits.TheConstants.{MAX_SCANNERS};
-ghost use Rattle.snap_register.specs.declared.plan.Plan.{Plan};
+ghost use Rattle.snap_history.specs.declared.limits.TheConstants.{MAX_COUNT, MAX_SCANNERS};
 ghost use Rattle.snap_register.specs.Words.{value_at, IsBlock};
 ghost use Rattle.snap_register.specs.Parts.{IsOpening, AreWriters, AreReaders};
+ghost use Rattle.snap_register.specs.declared.{words.TheConstants.BLOCK_WORDS, plan.Plan.Plan};
 
 use crate::plan::Opening;
 use crate::tables::{Parts, open};

@@ -1,16 +1,13 @@
 //! The two kinds of seat, and their common trait.
-ghost use Rattle.std.specs.Prelude.{◌≡◌, ℕ, ◌+◌, ◌*◌, ◌^◌, ◌<◌, ◌≤◌, ◌++◌, ◌∷◌, length, take, []};
-ghost use Rattle.std.specs.Prelude.{IsTrue, IfOk, ◌↔◌, slice_get};
+ghost use Rattle.std.specs.Prelude.{◌≡◌, ℕ, ◌+◌, ◌*◌, ◌^◌, ◌<◌, ◌≤◌, ◌++◌, ◌∷◌, length, take, [], IsTrue, IfOk, ◌↔◌};
+ghost use Rattle.std.specs.Prelude.{slice_get};
 ghost use Rattle.snap_history.specs.Limits.{IsNumber, IsShort};
-ghost use Rattle.snap_scan.specs.Sets.{Names};
 ghost use Rattle.snap_history.specs.declared.limits.TheConstants.{MAX_COUNT, MAX_VALUE_LEN};
-ghost use Rattle.snap_register.specs.History.{start_at};
-ghost use Rattle.snap_register.specs.Rule.{segments};
-ghost use Rattle.snap_register.specs.Setup.{IsPool, first_pool};
-ghost use Rattle.snap_register.specs.Seat.{Known, own_of, number_in, IsBelow};
-ghost use Rattle.snap_register.specs.Seat.{AreTogether, Grows, Meets, Looks, HasLooked};
-ghost use Rattle.snap_register.specs.Seat.{HasFoundUpdate, IsValue, IsView, MayPublish, Shows};
+ghost use Rattle.snap_scan.specs.Sets.{Names};
+ghost use Rattle.snap_register.specs.Seat.{Known, own_of, number_in, IsBelow, AreTogether, Grows, Meets, Looks};
+ghost use Rattle.snap_register.specs.Seat.{HasLooked, HasFoundUpdate, IsValue, IsView, MayPublish, Shows};
 ghost use Rattle.snap_register.specs.Steps.{view_of, known_of, pool_of, Owns};
+ghost use Rattle.snap_register.specs.{History.start_at, Rule.segments, Setup.IsPool, Setup.first_pool};
 
 use crate::access::Access;
 use crate::plan::MAX_BUFFERS;
@@ -95,8 +92,7 @@ pub struct ReadSeat {
 
 impl Model for ReadSeat {
     ghost use Rattle.std.specs.Prelude.{◌≡◌, []};
-    ghost use Rattle.snap_register.specs.Seat.{Known};
-    ghost use Rattle.snap_register.specs.Steps.{view_of, known_of};
+    ghost use Rattle.snap_register.specs.{Seat.Known, Steps.view_of, Steps.known_of};
 
     ghost Value = { Known };
 
@@ -172,9 +168,7 @@ pub struct WriteSeat {
 }
 
 impl Model for WriteSeat {
-    ghost use Rattle.snap_register.specs.Setup.{IsPool};
-    ghost use Rattle.snap_register.specs.Seat.{Known};
-    ghost use Rattle.snap_register.specs.Steps.{known_of};
+    ghost use Rattle.snap_register.specs.{Setup.IsPool, Seat.Known, Steps.known_of};
 
     ghost Value = { Known };
 

@@ -1,9 +1,7 @@
 //! Memory for the numbers and values of all segments, allocated once and filled again and again.
-ghost use Rattle.std.specs.Prelude.{◌≡◌, ◌≢◌, ℕ, ◌<◌, List, [], length, slice_get, Some};
-ghost use Rattle.std.specs.Prelude.{IfOk, replicate};
+ghost use Rattle.std.specs.Prelude.{◌≡◌, ◌≢◌, ℕ, ◌<◌, List, [], length, slice_get, Some, IfOk, replicate};
 ghost use Rattle.snap_history.specs.Limits.{IsShort};
-ghost use Rattle.snap_register.specs.Rule.{segments};
-ghost use Rattle.snap_register.specs.Seat.{looked, IsValue};
+ghost use Rattle.snap_register.specs.{Rule.segments, Seat.looked, Seat.IsValue};
 
 use crate::seats::Looker;
 use snap_history::MAX_VALUE_LEN;

@@ -1,24 +1,13 @@
 //! Makes a table and its seats.
-ghost use Rattle.std.specs.Prelude.{◌≡◌, ℕ, ◌+◌, ◌*◌, ◌^◌, ◌<◌, ◌≤◌, ◌++◌, [], length, map};
-ghost use Rattle.std.specs.Prelude.{replicate, IfOk, OnOk, slice_index, false};
-ghost use Rattle.std.specs.List.{flat_map};
-ghost use Rattle.std.specs.Arc.{arc_value};
+ghost use Rattle.std.specs.Prelude.{◌≡◌, ℕ, ◌+◌, ◌*◌, ◌^◌, ◌<◌, ◌≤◌, ◌++◌, [], length, map, replicate, IfOk, OnOk};
+ghost use Rattle.std.specs.Prelude.{slice_index, false};
+ghost use Rattle.std.specs.{List.flat_map, Arc.arc_value};
 ghost use Rattle.atomic_table.specs.Seated.{TableId};
-ghost use Rattle.snap_history.specs.declared.limits.TheConstants.{MAX_COUNT};
-ghost use Rattle.snap_history.specs.declared.limits.TheConstants.{MAX_SCANNERS};
-ghost use Rattle.snap_register.specs.History.{start_at};
+ghost use Rattle.snap_history.specs.declared.limits.TheConstants.{MAX_COUNT, MAX_SCANNERS};
 ghost use Rattle.snap_register.specs.Rule.{segments, seats, size};
-ghost use Rattle.snap_register.specs.Parts.{AreWriters, AreReaders};
-ghost use Rattle.snap_register.specs.Setup.{
-  plan_with,
-  plan_of,
-  first_view,
-  unused,
-  opening_words,
-  IsReady,
-};
-ghost use Rattle.snap_register.specs.Setup.{IsFirst, IsFresh, HasSizes};
-ghost use Rattle.snap_register.specs.Steps.{view_at};
+ghost use Rattle.snap_register.specs.Setup.{plan_with, plan_of, first_view, unused, opening_words, IsReady, IsFirst};
+ghost use Rattle.snap_register.specs.Setup.{IsFresh, HasSizes};
+ghost use Rattle.snap_register.specs.{History.start_at, Parts.AreWriters, Parts.AreReaders, Steps.view_at};
 
 use crate::access::Access;
 use crate::plan::Opening;

@@ -1,31 +1,24 @@
 -- Files on one of which a command worked keep one memory.
 use Rattle.std.proofs.Common.{◌≡◌, ◌≢◌, ◌⊎◌, ⊎_elim, ℕ, zero, suc, ◌+◌, ◌<◌, ◌≤◌, ◌==◌, inl, inr, Bool, true, false}
-use Rattle.std.proofs.Common.{List, [], ◌∷◌, ◌++◌, length, map, None, Some, slice_get, slice_set, refl, ap, sym}
-use Rattle.std.proofs.Common.{subst, ◌∙◌, arith, append-nil}
-use Rattle.std.specs.Prelude.{if◌then◌else◌}
-use mathlib.Core.Logic.{dite}
-use native.Mathlib.Decide.{ℕ_discrete}
-use Rattle.std.proofs.lemmas.Bool.Decides.{nat_tests}
-use Rattle.std.proofs.lemmas.List.{length-set, length-map}
-use Rattle.std.proofs.lemmas.Option.{same_Some, slice_get_within}
+use Rattle.std.proofs.Common.{List, [], ◌∷◌, ◌++◌, length, map, None, Some, slice_get, slice_set, refl, ap, sym, subst}
+use Rattle.std.proofs.Common.{◌∙◌, arith, append-nil}
+use Rattle.std.{specs.Prelude.if◌then◌else◌, proofs.lemmas.Bool.Decides.nat_tests, proofs.lemmas.List.length-set}
+use Rattle.std.{proofs.lemmas.List.length-map, proofs.lemmas.Option.same_Some, proofs.lemmas.Option.slice_get_within}
 use Rattle.snap_disk.specs.Device.{MayLeave}
-use Rattle.snap_segment.specs.Layout.{Holds, IsFileOf}
-use Rattle.snap_segment.specs.States.{IsEither}
+use Rattle.snap_segment.specs.{Layout.Holds, Layout.IsFileOf, States.IsEither}
 use Rattle.snap_slot.proofs.Readings.{holds_same}
 use Rattle.snap_history.specs.History.{Update, Start, updates_of, last_value, number_after, value_after}
-use Rattle.snap_history.specs.Pairs.{Pairs}
-use Rattle.snap_history.proofs.Lists.{get-set_same, get-set_other}
 use Rattle.snap_history.proofs.Moments.{updates-append, last-append, last_none, number-push, number-push_other}
 use Rattle.snap_history.proofs.Moments.{value-push, value-push_other}
-use Rattle.snap_history.proofs.Pairs.{element, partner}
+use Rattle.snap_history.specs.Pairs.{Pairs}
+use Rattle.snap_history.proofs.{Lists.get-set_same, Lists.get-set_other, Pairs.element, Pairs.partner}
 use Rattle.snap_register.specs.Registers.{no_registers}
-use Rattle.snap_writer.specs.Life.{Place, in_store}
-use Rattle.snap_writer.proofs.Shown.{number_kept, value_kept}
+use Rattle.snap_writer.{specs.Life.Place, specs.Life.in_store, proofs.Shown.number_kept, proofs.Shown.value_kept}
 use Rattle.snap_restart.specs.LifeCrash.{Begun, IsRecovered, KeepMemory}
-use Rattle.snap_restart.proofs.Merge.{Found, merge}
-use Rattle.snap_restart.proofs.LifeStarts.{kept_now}
 use Rattle.snap_restart.specs.Restarts.{Works, Held, update, without, from_there, IsJoined}
-use Rattle.snap_restart.proofs.Removals.{get_map}
+use Rattle.snap_restart.proofs.{Merge.Found, Merge.merge, LifeStarts.kept_now, Removals.get_map}
+use mathlib.Core.Logic.{dite}
+use native.Mathlib.Decide.{ℕ_discrete}
 use Rattle.snap_disk.specs.declared.disk.Disk as Disk
 
 -- ---- updates of one segment

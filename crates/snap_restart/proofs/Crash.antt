@@ -1,30 +1,21 @@
 -- A crash at any moment from an opening on, and at any cut once all writers and scanners are back.
 use Rattle.std.proofs.Common.{◌≡◌, ℕ, zero, suc, inl, List, [], ◌∷◌, ◌++◌, length, map, Some, slice_get, refl, sym}
 use Rattle.std.proofs.Common.{subst, ◌∙◌, arith}
-use Rattle.std.proofs.lemmas.List.{length-map}
-use Rattle.std.proofs.lemmas.Option.{slice_get_within, same_Some}
+use Rattle.std.proofs.lemmas.{List.length-map, Option.slice_get_within, Option.same_Some}
 use Rattle.snap_disk.specs.declared.refusal.Refusal.{Refusal}
-use Rattle.snap_slot.proofs.Readings.{holds_same}
-use Rattle.snap_slot.proofs.Rest.{at_rest_leaves}
+use Rattle.snap_slot.proofs.{Readings.holds_same, Rest.at_rest_leaves}
 use Rattle.snap_segment.specs.Segment.{SegmentState}
 use Rattle.snap_history.specs.History.{Update, Start, number_after, value_after}
-use Rattle.snap_history.specs.Pairs.{Pairs}
-use Rattle.snap_history.proofs.Beginnings.{beginning-trans}
 use Rattle.snap_history.proofs.Pairs.{element, partner, Pairs-map}
-use Rattle.snap_register.specs.declared.plan.Plan.{Plan}
-use Rattle.snap_register.specs.History.{starts, updates}
-use Rattle.snap_register.specs.Seat.{Known}
+use Rattle.snap_history.{specs.Pairs.Pairs, proofs.Beginnings.beginning-trans}
+use Rattle.snap_register.specs.{declared.plan.Plan.Plan, History.starts, History.updates, Seat.Known}
 use Rattle.snap_writer.specs.Writer.{WriterState, number_of, value_of, IsPaired}
 use Rattle.snap_writer.specs.Life.{IsWriterOf}
-use Rattle.snap_restart.specs.LifeCrash.{Begun, IsRecovered}
-use Rattle.snap_restart.proofs.LifeStarts.{StartsAfter, recovered_on}
-use Rattle.snap_restart.proofs.Placed.{same_file}
-use Rattle.snap_restart.proofs.Lives.{life_fits}
-use Rattle.snap_restart.proofs.LifeCrash.{cut_recovers, moment_recovers}
-use Rattle.snap_restart.specs.Closed.{AreBack, IsHistory}
 use Rattle.snap_restart.specs.Opened.{IsBack, IsOpened, IsStopped, AreFresh}
 use Rattle.snap_restart.specs.Crash.{AnyMoment, AllHonest, AreOpened, StayKept, AnyCut}
-use Rattle.snap_restart.proofs.Removals.{get_map}
+use Rattle.snap_restart.specs.{LifeCrash.Begun, LifeCrash.IsRecovered, Closed.AreBack, Closed.IsHistory}
+use Rattle.snap_restart.proofs.{LifeStarts.StartsAfter, LifeStarts.recovered_on, Placed.same_file, Lives.life_fits}
+use Rattle.snap_restart.proofs.{LifeCrash.cut_recovers, LifeCrash.moment_recovers, Removals.get_map}
 use Rattle.snap_disk.specs.declared.disk.Disk as Disk
 
 pub unmap : {A B : Type 0} (f : A → B) (xs : List A) (i : ℕ) (y : B)

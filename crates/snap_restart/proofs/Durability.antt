@@ -1,10 +1,8 @@
 -- Values that the writers of an opening have stored stay.
 use Rattle.std.proofs.Common.{List, length}
-use Rattle.snap_writer.specs.Writer.{WriterState}
-use Rattle.snap_writer.proofs.Crashes.{OnlyNow}
+use Rattle.snap_writer.{specs.Writer.WriterState, proofs.Crashes.OnlyNow}
 use Rattle.snap_restart.proofs.LifeDurability.{lived_is, stays}
-use Rattle.snap_restart.specs.Crash.{AreOpened}
-use Rattle.snap_restart.specs.Durability.{AllStays}
+use Rattle.snap_restart.specs.{Crash.AreOpened, Durability.AllStays}
 use Rattle.snap_disk.specs.declared.disk.Disk as Disk
 
 pub stay_stored : {D : Type 0} (disk : Disk.Ghosts D) → OnlyNow disk → (devices : List D)

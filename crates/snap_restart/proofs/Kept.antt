@@ -1,15 +1,13 @@
 -- Writers and scanners that did something can still be closed.
 use Rattle.std.proofs.Common.{◌≡◌, ℕ, ◌+◌, ◌<◌, ◌≤◌, List, length, slice_get, slice_set, Some, sym, subst, ◌∙◌}
-use mathlib.Core.Logic.{dite}
-use native.Mathlib.Decide.{ℕ_discrete}
-use Rattle.std.proofs.lemmas.List.{length-set}
-use Rattle.std.proofs.lemmas.Option.{slice_get_within, same_Some}
+use Rattle.std.proofs.lemmas.{List.length-set, Option.slice_get_within, Option.same_Some}
 use Rattle.snap_history.proofs.Lists.{get-set_same, get-set_other}
 use Rattle.snap_history.specs.declared.limits.TheConstants.{MAX_COUNT}
 use Rattle.snap_register.specs.Seat.{Known}
-use Rattle.snap_writer.specs.Writer.{WriterState}
-use Rattle.snap_writer.specs.Update.{IsSameSeat}
+use Rattle.snap_writer.specs.{Writer.WriterState, Update.IsSameSeat}
 use Rattle.snap_restart.specs.Closed.{AreBack, IsSeatAt}
+use mathlib.Core.Logic.{dite}
+use native.Mathlib.Decide.{ℕ_discrete}
 
 -- after an update by one writer
 pub back_updated : {D : Type 0} (ws : List (WriterState D)) (rs : List Known) (i : ℕ)

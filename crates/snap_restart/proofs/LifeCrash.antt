@@ -1,30 +1,23 @@
 -- A crash of all devices: at a consistent cut, and at a moment of the registers.
-use Rattle.std.proofs.Common.{◌≡◌, ◌⊎◌, ⊎_elim, ℕ, zero, suc, ◌+◌, ◌<◌, ◌≤◌, inl, inr, List, [], ◌∷◌, length, map}
-use Rattle.std.proofs.Common.{Some, slice_get, refl, ap, sym, subst, ◌∙◌, arith}
-use Rattle.std.proofs.lemmas.List.{length-append, length-map}
-use Rattle.std.proofs.lemmas.Option.{same_Some, slice_get_within}
-use mathlib.Core.Option.{some}
-use lib.ListN.{get_elem?}
-use Rattle.snap_register.specs.Registers.{Moment}
+use Rattle.std.proofs.Common.{◌≡◌, ◌⊎◌, ⊎_elim, ℕ, zero, suc, ◌+◌, ◌<◌, ◌≤◌, inl, inr, List, [], ◌∷◌, length, map, Some}
+use Rattle.std.proofs.Common.{slice_get, refl, ap, sym, subst, ◌∙◌, arith}
+use Rattle.std.proofs.lemmas.{List.length-append, List.length-map, Option.same_Some, Option.slice_get_within}
+use Rattle.snap_register.specs.History.{starts, updates, only}
+use Rattle.snap_register.proofs.Updates.{updates_count, beginning_is}
+use Rattle.snap_register.specs.{Registers.Moment, declared.plan.Plan.Plan, declared.plan.SeatView.SeatView, Rule.Kept}
 use Rattle.snap_slot.specs.Layout.{IsFileOf}
 use Rattle.snap_history.specs.History.{Update, IsBeginning, updates_of, number_after, value_after}
-use Rattle.snap_history.specs.Pairs.{Pairs}
 use Rattle.snap_history.proofs.Beginnings.{beginning-self, beginning-trans, number-beginning}
-use Rattle.snap_history.proofs.Pairs.{element}
+use Rattle.snap_history.{specs.Pairs.Pairs, proofs.Pairs.element}
 use Rattle.snap_memory.proofs.ScanAnswer.{same_value}
-use Rattle.snap_register.specs.declared.plan.Plan.{Plan}
-use Rattle.snap_register.specs.declared.plan.SeatView.{SeatView}
-use Rattle.snap_register.specs.History.{starts, updates, only}
-use Rattle.snap_register.specs.Rule.{Kept}
-use Rattle.snap_register.proofs.Updates.{updates_count, beginning_is}
 use Rattle.snap_writer.specs.Writer.{number_of, value_of}
 use Rattle.snap_writer.specs.Life.{Place, HasBegun, seen_at, CrashLeaves, IsPlaceOf}
 use Rattle.snap_restart.specs.LifeCrash.{all_seen, Begun, IsRecovered}
 use Rattle.snap_restart.specs.LifeLaws.{CutLaw, ConsistentLaw, IsSeatOf, IsSeenIn}
-use Rattle.snap_restart.proofs.LifeOrder.{longest, has_early}
-use Rattle.snap_restart.proofs.Merge.{Found, merge}
-use Rattle.snap_restart.proofs.Placed.{crash_leaves}
+use Rattle.snap_restart.proofs.{LifeOrder.longest, LifeOrder.has_early, Merge.Found, Merge.merge, Placed.crash_leaves}
 use Rattle.snap_restart.proofs.Lives.{life_fits}
+use mathlib.Core.Option.{some}
+use lib.ListN.{get_elem?}
 use Rattle.snap_disk.specs.declared.disk.Disk as Disk
 
 -- ---- the histories that seats have seen

@@ -1,19 +1,14 @@
 -- Values that a writer has stored stay, throughout its life.
-use Rattle.std.proofs.Common.{◌≡◌, ⊎_elim, ℕ, suc, ◌+◌, ◌≤◌, inl, inr, List, [], ◌∷◌, Some, slice_get, refl, ap}
-use Rattle.std.proofs.Common.{sym, subst, ◌∙◌, arith}
-use Rattle.snap_disk.specs.Device.{MayLeave}
-use Rattle.snap_disk.specs.Time.{LeavesOnly}
-use Rattle.snap_disk.specs.Laws.{started, then}
-use Rattle.snap_slot.specs.Layout.{IsFileOf}
-use Rattle.snap_slot.specs.States.{IsEither}
+use Rattle.std.proofs.Common.{◌≡◌, ⊎_elim, ℕ, suc, ◌+◌, ◌≤◌, inl, inr, List, [], ◌∷◌, Some, slice_get, refl, ap, sym}
+use Rattle.std.proofs.Common.{subst, ◌∙◌, arith}
+use Rattle.snap_disk.specs.{Device.MayLeave, Time.LeavesOnly, Laws.started, Laws.then}
+use Rattle.snap_slot.specs.{Layout.IsFileOf, States.IsEither}
 use Rattle.snap_segment.specs.Segment.{SegmentState}
 use Rattle.snap_register.specs.declared.plan.Plan.{Plan}
-use Rattle.snap_writer.specs.Writer.{WriterState}
 use Rattle.snap_writer.specs.Life.{Stores, Does, Lived, IsWriterOf}
-use Rattle.snap_writer.proofs.Crashes.{OnlyNow}
+use Rattle.snap_writer.{specs.Writer.WriterState, proofs.Crashes.OnlyNow}
 use Rattle.snap_restart.specs.LifeDurability.{Gave, Keeps, Stays}
-use Rattle.snap_restart.proofs.Placed.{same_file}
-use Rattle.snap_restart.proofs.Lives.{does_is}
+use Rattle.snap_restart.proofs.{Placed.same_file, Lives.does_is}
 use Rattle.snap_disk.specs.declared.disk.Disk as Disk
 
 -- the writer of a segment stays its writer throughout its life

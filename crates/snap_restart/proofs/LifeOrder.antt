@@ -1,13 +1,10 @@
 -- Of two beginnings of one history the shorter is a beginning of the longer.
 use Rattle.std.proofs.Common.{◌≡◌, ℕ, zero, suc, ◌<◌, ◌≤◌, inl, inr, List, [], ◌∷◌, ◌++◌, length, take, drop, Some}
 use Rattle.std.proofs.Common.{slice_get, refl, ap, sym, subst, ◌∙◌, arith}
-use Rattle.std.proofs.lemmas.Bool.{cases_lt}
-use Rattle.std.proofs.lemmas.List.{take-append-drop}
-use Rattle.std.proofs.lemmas.Option.{same_Some}
+use Rattle.std.proofs.lemmas.{Bool.cases_lt, List.take-append-drop, Option.same_Some}
 use Rattle.snap_history.specs.History.{Update, Start, IsBeginning, number_after}
 use Rattle.snap_history.proofs.Beginnings.{beginning-self, beginning-trans, take-beginning, number-beginning}
-use Rattle.snap_memory.proofs.Collects.{beginning-take}
-use Rattle.snap_memory.proofs.ScanAnswer.{same_value}
+use Rattle.snap_memory.proofs.{Collects.beginning-take, ScanAnswer.same_value}
 use Rattle.snap_restart.specs.LifeCrash.{Has}
 
 pub shorter : (a b h : List Update) → IsBeginning a h → IsBeginning b h → length a ≤ length b

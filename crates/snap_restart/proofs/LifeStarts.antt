@@ -1,13 +1,11 @@
 -- One history across a crash and the start after it.
-use Rattle.std.specs.Prelude.{option_map}
 use Rattle.std.proofs.Common.{◌≡◌, ℕ, ◌<◌, List, ◌++◌, map, refl, ap, sym, subst, ◌∙◌, arith, append_assoc}
-use Rattle.std.proofs.lemmas.List.{length-map}
 use Rattle.std.proofs.lemmas.Option.{same_Some, slice_get_within, slice_get-map}
+use Rattle.std.{specs.Prelude.option_map, proofs.lemmas.List.length-map}
 use Rattle.snap_disk.specs.Device.{MayLeave}
 use Rattle.snap_slot.specs.Layout.{IsFileOf}
 use Rattle.snap_history.specs.History.{Update, Start, last_value, number_after, value_after}
-use Rattle.snap_history.specs.Pairs.{Pairs}
-use Rattle.snap_history.proofs.Moments.{updates-append, last-append}
+use Rattle.snap_history.{specs.Pairs.Pairs, proofs.Moments.updates-append, proofs.Moments.last-append}
 use Rattle.snap_restart.specs.LifeCrash.{IsRecovered, KeepMemory}
 use Rattle.snap_disk.specs.declared.disk.Disk as Disk
 

@@ -1,22 +1,20 @@
 -- The knowledge of a scanner that has met all writers twice, and the contents of their devices then.
 use Rattle.std.proofs.Common.{◌≡◌, ℕ, ◌+◌, ◌<◌, ◌≤◌, List, length, slice_get, slice_set, Some, refl, ap, sym, subst}
 use Rattle.std.proofs.Common.{◌∙◌, arith}
-use mathlib.Core.Logic.{dite}
-use native.Mathlib.Decide.{ℕ_discrete}
 use Rattle.std.proofs.lemmas.Option.{slice_get_within}
 use Rattle.snap_segment.specs.Segment.{SegmentState, IsKept}
 use Rattle.snap_history.specs.History.{Update, IsBeginning, updates_of}
-use Rattle.snap_history.specs.Pairs.{Pairs}
 use Rattle.snap_history.proofs.Beginnings.{beginning-self, beginning-trans, number-beginning}
-use Rattle.snap_history.proofs.Pairs.{partner, element}
+use Rattle.snap_history.{specs.Pairs.Pairs, proofs.Pairs.partner, proofs.Pairs.element}
 use Rattle.snap_register.specs.History.{starts}
 use Rattle.snap_register.specs.Seat.{Known, Grows, AreTogether, number_in, value_in}
-use Rattle.snap_memory.proofs.Collects.{grows_self, grows_more}
-use Rattle.snap_memory.proofs.ScanAnswer.{same_value}
+use Rattle.snap_memory.proofs.{Collects.grows_self, Collects.grows_more, ScanAnswer.same_value}
 use Rattle.snap_writer.specs.Writer.{WriterState, number_of, value_of}
 use Rattle.snap_writer.proofs.Shown.{number_grown, value_grown}
 use Rattle.snap_restart.specs.Closed.{AreBack, IsHistory, HoldsAfter, HasMet, IsTold, Rests}
 use Rattle.snap_restart.proofs.Pairs.{pairs_self, pairs_moved}
+use mathlib.Core.Logic.{dite}
+use native.Mathlib.Decide.{ℕ_discrete}
 use Rattle.snap_disk.specs.declared.disk.Disk as Disk
 
 -- a property of all items before place k, and of the item there

@@ -1,14 +1,13 @@
 -- The begun updates that reached the devices, appended to the history, segment by segment.
-use Rattle.std.proofs.Common.{◌≡◌, ◌≢◌, ◌⊎◌, ⊎_elim, ℕ, zero, suc, ◌+◌, ◌<◌, ◌≤◌, List, [], ◌∷◌, ◌++◌, Some}
-use Rattle.std.proofs.Common.{slice_get, refl, ap, sym, subst, ◌∙◌, arith, below_more}
-use mathlib.Core.Logic.{dite}
-use native.Mathlib.Decide.{ℕ_discrete}
-use Rattle.std.proofs.lemmas.Bool.Decides.{nat_tests}
-use Rattle.std.proofs.lemmas.List.{append_assoc}
+use Rattle.std.proofs.Common.{◌≡◌, ◌≢◌, ◌⊎◌, ⊎_elim, ℕ, zero, suc, ◌+◌, ◌<◌, ◌≤◌, List, [], ◌∷◌, ◌++◌, Some, slice_get}
+use Rattle.std.proofs.Common.{refl, ap, sym, subst, ◌∙◌, arith, below_more}
+use Rattle.std.proofs.lemmas.{Bool.Decides.nat_tests, List.append_assoc}
 use Rattle.snap_history.specs.History.{Update, Start, updates_of, number_after, value_after}
 use Rattle.snap_history.proofs.Lists.{get-push}
 use Rattle.snap_history.proofs.Moments.{updates-append, number-push, number-push_other, value-push, value-push_other}
 use Rattle.snap_writer.proofs.Shown.{number_kept, value_kept}
+use mathlib.Core.Logic.{dite}
+use native.Mathlib.Decide.{ℕ_discrete}
 
 abbrev pub update : ℕ → List ℕ → Update
 update i v = record { segment = i; value = v }

@@ -1,20 +1,16 @@
 -- New registers' seats match the segments that the registers were opened with.
-use Rattle.std.proofs.Common.{◌≡◌, ℕ, ◌+◌, ◌<◌, ◌≤◌, List, [], ◌∷◌, length, map, slice_get, Some, refl, ap, sym}
-use Rattle.std.proofs.Common.{◌∙◌, arith}
+use Rattle.std.proofs.Common.{◌≡◌, ℕ, ◌+◌, ◌<◌, ◌≤◌, List, [], ◌∷◌, length, map, slice_get, Some, refl, ap, sym, ◌∙◌}
+use Rattle.std.proofs.Common.{arith}
 use Rattle.std.proofs.lemmas.List.{length-map}
-use Rattle.snap_register.specs.Registers.{RegistersId}
-use Rattle.snap_history.specs.declared.limits.TheConstants.{MAX_COUNT}
-use Rattle.snap_segment.specs.Segment.{SegmentState}
-use Rattle.snap_history.specs.History.{number_after, value_after}
-use Rattle.snap_history.specs.Pairs.{Pairs}
-use Rattle.snap_register.specs.declared.plan.Plan.{Plan}
-use Rattle.snap_register.specs.History.{starts}
 use Rattle.snap_register.specs.Seat.{Known, own_of, number_in, value_in}
 use Rattle.snap_register.specs.Parts.{IsNewSeat, IsOpening, AreWriters, AreReaders}
+use Rattle.snap_register.specs.{Registers.RegistersId, declared.plan.Plan.Plan, History.starts}
+use Rattle.snap_history.specs.History.{number_after, value_after}
+use Rattle.snap_history.specs.{declared.limits.TheConstants.MAX_COUNT, Pairs.Pairs}
+use Rattle.snap_segment.specs.Segment.{SegmentState}
 use Rattle.snap_writer.specs.Writer.{WriterState, IsPaired}
-use Rattle.snap_restart.specs.declared.store.TheConstants.{LOOKS}
 use Rattle.snap_restart.specs.Opened.{all_looks, AreFresh, Starts, contents}
-use Rattle.snap_restart.specs.Closed.{IsSeatAt, AreBack}
+use Rattle.snap_restart.specs.{declared.store.TheConstants.LOOKS, Closed.IsSeatAt, Closed.AreBack}
 use Rattle.snap_restart.proofs.Removals.{get_map}
 
 pub map_both : {A B C : Type 0} (f : B → C) (g : A → B) (xs : List A)

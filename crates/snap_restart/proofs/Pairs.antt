@@ -1,10 +1,8 @@
 -- Two lists of equal length with a fact at each place: one list twice, composed, mapped or spliced.
 use Rattle.std.proofs.Common.{◌≡◌, ℕ, zero, suc, ◌<◌, List, [], ◌∷◌, ◌++◌, length, map, slice_get, slice_set, Some}
 use Rattle.std.proofs.Common.{refl, ap, sym, subst, ◌∙◌, arith}
-use Rattle.std.proofs.lemmas.List.{length-map}
-use Rattle.std.proofs.lemmas.Option.{slice_get_within, same_Some}
-use Rattle.snap_history.proofs.Pairs.{partner, Pairs-right}
-use Rattle.snap_history.specs.Pairs.{Pairs}
+use Rattle.std.proofs.lemmas.{List.length-map, Option.slice_get_within, Option.same_Some}
+use Rattle.snap_history.{proofs.Pairs.partner, proofs.Pairs.Pairs-right, specs.Pairs.Pairs}
 use Rattle.snap_restart.proofs.Removals.{get_map}
 
 pub pairs_self : {A : Type 0} (R : ℕ → A → A → Type 0) → ((i : ℕ) (a : A) → R i a a) → (xs : List A)

@@ -1,15 +1,10 @@
 -- The devices after an opening that was refused.
 use Rattle.std.proofs.Common.{◌≡◌, ℕ, ◌<◌, List, ◌∷◌, ◌++◌, length, map, take, drop, refl, ap, sym, subst, ◌∙◌, arith}
 use Rattle.std.proofs.lemmas.List.{length-take-le, take-append-drop}
-use Rattle.snap_disk.specs.declared.refusal.Refusal.{Refusal}
-use Rattle.snap_disk.specs.declared.refusal.Refusal.TheVariants.{NoMemory}
-use Rattle.snap_disk.specs.Device.{MayLeave}
-use Rattle.snap_disk.specs.Time.{LeavesOnly}
-use Rattle.snap_disk.specs.Laws.{started}
+use Rattle.snap_disk.specs.{declared.refusal.Refusal.Refusal, declared.refusal.Refusal.TheVariants.NoMemory}
+use Rattle.snap_disk.specs.{Device.MayLeave, Time.LeavesOnly, Laws.started}
 use Rattle.snap_slot.specs.Findings.{IsNoOpening}
-use Rattle.snap_segment.specs.Segment.{SegmentState}
-use Rattle.snap_segment.specs.Open.{CountsFailed}
-use Rattle.snap_segment.specs.Refusals.{IsOpenRefusal}
+use Rattle.snap_segment.specs.{Segment.SegmentState, Open.CountsFailed, Refusals.IsOpenRefusal}
 use Rattle.snap_history.specs.Pairs.{Pairs}
 use Rattle.snap_writer.proofs.Crashes.{CountsNow, OnlyNow}
 use Rattle.snap_restart.proofs.Pairs.{pairs_self, Pairs-mapped, Pairs-spliced}

@@ -1,15 +1,12 @@
 -- The lines of a report, one after another.
-use Rattle.std.proofs.Common.{◌≡◌, ℕ, ◌+◌, List, [], ◌∷◌, ◌++◌, length, ◌≤◌, take, slice_get, Some, ap, sym, ◌∙◌}
-use Rattle.std.proofs.Common.{arith, append-nil, append_assoc}
-use Rattle.std.proofs.lemmas.List.{length-take-le, take_all}
+use Rattle.std.proofs.Common.{◌≡◌, ℕ, ◌+◌, List, [], ◌∷◌, ◌++◌, length, ◌≤◌, take, slice_get, Some, ap, sym, ◌∙◌, arith}
+use Rattle.std.proofs.Common.{append-nil, append_assoc}
+use Rattle.std.proofs.lemmas.{List.length-take-le, List.take_all, Option.slice_get_within}
+use Rattle.std.specs.{Prelude.codes, Fmt.decimal}
 use Rattle.snap_register.proofs.Pairs.{take_next}
-use Rattle.std.proofs.lemmas.Option.{slice_get_within}
-use Rattle.snap_restart.specs.declared.report.Recovered.{Recovered}
-use Rattle.std.specs.Prelude.{codes}
-use Rattle.std.specs.Fmt.{decimal}
-use Rattle.snap_restart.specs.declared.report.Report.{Report}
-use Rattle.snap_slot.specs.Text.{line}
 use Rattle.snap_restart.specs.Report.{recovered_text, lines_text, report_text}
+use Rattle.snap_restart.specs.declared.report.{Recovered.Recovered, Report.Report}
+use Rattle.snap_slot.specs.Text.{line}
 
 lines_push : (i j : ℕ) (xs : List Recovered) (x : Recovered) → j ≡ i + length xs
     → lines_text i (xs ++ x ∷ []) ≡ lines_text i xs ++ line (recovered_text j x)

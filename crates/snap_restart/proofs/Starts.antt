@@ -1,7 +1,6 @@
 -- Files keep one memory over any number of crashes and starts.
 use Rattle.std.proofs.Common.{◌≡◌, ℕ, List, [], ◌∷◌, ◌++◌, length, map, refl, sym, subst, ◌∙◌, arith, append-nil}
-use Rattle.std.proofs.lemmas.List.{length-map}
-use Rattle.std.proofs.lemmas.Option.{slice_get_within}
+use Rattle.std.proofs.lemmas.{List.length-map, Option.slice_get_within}
 use Rattle.snap_segment.specs.Layout.{IsFileOf}
 use Rattle.snap_history.specs.History.{Update, Start, number_after}
 use Rattle.snap_history.proofs.Pairs.{element, partner}

@@ -1,13 +1,11 @@
 -- All writers and scanners of one opening, what they have seen, and what their devices hold after
 -- they are closed.
 use Rattle.std.specs.Prelude.{◌≡◌, ℕ, ◌+◌, ◌<◌, ◌≤◌, List, length, slice_get, Some}
-use Rattle.snap_register.specs.Registers.{RegistersId}
-use Rattle.snap_history.specs.declared.limits.TheConstants.{MAX_COUNT}
-use Rattle.snap_segment.specs.Segment.{IsKept}
-use Rattle.snap_history.specs.History.{Update, IsBeginning, updates_of}
-use Rattle.snap_register.specs.declared.plan.Plan.{Plan}
-use Rattle.snap_register.specs.Rule.{segments}
 use Rattle.snap_register.specs.Seat.{Known, Grows, number_in, value_in}
+use Rattle.snap_register.specs.{Registers.RegistersId, declared.plan.Plan.Plan, Rule.segments}
+use Rattle.snap_history.specs.declared.limits.TheConstants.{MAX_COUNT}
+use Rattle.snap_history.specs.History.{Update, IsBeginning, updates_of}
+use Rattle.snap_segment.specs.Segment.{IsKept}
 use Rattle.snap_writer.specs.Writer.{WriterState, number_of, value_of}
 use Rattle.snap_disk.specs.declared.disk.Disk as Disk
 

@@ -1,19 +1,15 @@
 -- How an earlier crash is recovered, by the writers and scanners of an opening once all are back in their store.
 use Rattle.std.specs.Prelude.{◌≡◌, ℕ, ◌<◌, ◌≤◌, List, ◌++◌, length, map, Some, slice_get}
-use mathlib.Core.Option.{some}
-use lib.ListN.{get_elem?}
-use Rattle.snap_register.specs.Registers.{Moment}
+use Rattle.snap_register.specs.{Registers.Moment, declared.plan.Plan.Plan, declared.plan.SeatView.SeatView}
+use Rattle.snap_register.specs.{History.starts, History.updates, Rule.segments, Rule.Kept, Seat.Known}
 use Rattle.snap_history.specs.History.{Update, Start, IsBeginning, updates_of, number_after, value_after}
 use Rattle.snap_history.specs.Pairs.{Pairs}
-use Rattle.snap_register.specs.declared.plan.Plan.{Plan}
-use Rattle.snap_register.specs.declared.plan.SeatView.{SeatView}
-use Rattle.snap_register.specs.History.{starts, updates}
-use Rattle.snap_register.specs.Rule.{segments, Kept}
-use Rattle.snap_register.specs.Seat.{Known}
 use Rattle.snap_writer.specs.Writer.{WriterState}
 use Rattle.snap_writer.specs.Life.{Place, Lived, IsIn, CrashLeaves, IsWriterOf}
 use Rattle.snap_restart.specs.LifeCrash.{IsConsistent, Begun, IsRecovered, KeepMemory, Recovers}
 use Rattle.snap_restart.specs.LifeLaws.{IsSeatOf}
+use mathlib.Core.Option.{some}
+use lib.ListN.{get_elem?}
 use Rattle.snap_disk.specs.declared.disk.Disk as Disk
 
 module _ {D : Type 0} (disk : Disk.Ghosts D) where

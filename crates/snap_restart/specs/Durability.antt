@@ -1,7 +1,6 @@
 -- Values that the writers of an opening have stored stay.
 use Rattle.std.specs.Prelude.{◌≡◌, ℕ, List, length, Some, slice_get}
-use Rattle.snap_writer.specs.Writer.{WriterState}
-use Rattle.snap_writer.specs.Life.{Lived}
+use Rattle.snap_writer.specs.{Writer.WriterState, Life.Lived}
 use Rattle.snap_restart.specs.LifeDurability.{Stays}
 use Rattle.snap_disk.specs.declared.disk.Disk as Disk
 

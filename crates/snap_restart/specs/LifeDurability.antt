@@ -1,11 +1,9 @@
 -- A crash leaves what one writer has stored, over its whole life and not only during a call.
 use Rattle.std.specs.Prelude.{◌≡◌, ◌⊎◌, ℕ, ◌+◌, ◌≤◌, List, ◌∷◌, Some, slice_get}
-use Rattle.snap_disk.specs.Device.{MayLeave}
-use Rattle.snap_disk.specs.Time.{LeavesOnly}
+use Rattle.snap_disk.specs.{Device.MayLeave, Time.LeavesOnly}
 use Rattle.snap_slot.specs.Layout.{IsFileOf}
 use Rattle.snap_register.specs.declared.plan.Plan.{Plan}
-use Rattle.snap_writer.specs.Writer.{WriterState}
-use Rattle.snap_writer.specs.Life.{Lived, IsWriterOf}
+use Rattle.snap_writer.specs.{Writer.WriterState, Life.Lived, Life.IsWriterOf}
 use Rattle.snap_disk.specs.declared.disk.Disk as Disk
 
 -- the writer has stored number k with value v, or its store of them has failed

@@ -1,20 +1,16 @@
 -- Laws of a crash of all devices, for any type D of device. `Disk.Ghosts D` has the ghost items of
 -- the trait `Disk` for it.
 use Rattle.std.specs.Prelude.{◌≡◌, ℕ, ◌<◌, List, length, Some, slice_get}
-use mathlib.Core.Option.{some}
-use lib.ListN.{get_elem?}
-use Rattle.snap_register.specs.Registers.{Moment}
-use Rattle.snap_history.specs.History.{Update, IsBeginning}
-use Rattle.snap_history.specs.Pairs.{Pairs}
-use Rattle.snap_register.specs.declared.plan.Plan.{Plan}
-use Rattle.snap_register.specs.declared.plan.SeatView.{SeatView}
-use Rattle.snap_register.specs.History.{starts, updates}
 use Rattle.snap_register.specs.Rule.{segments, IsWriter, Kept}
-use Rattle.snap_register.specs.Seat.{Known, IsMemory}
+use Rattle.snap_register.specs.{Registers.Moment, declared.plan.Plan.Plan, declared.plan.SeatView.SeatView}
+use Rattle.snap_register.specs.{History.starts, History.updates, Seat.Known, Seat.IsMemory}
+use Rattle.snap_history.specs.{History.Update, History.IsBeginning, Pairs.Pairs}
 use Rattle.snap_memory.specs.Scans.{IsSnapshot}
 use Rattle.snap_writer.specs.Writer.{WriterState}
 use Rattle.snap_writer.specs.Life.{Place, seen_at, Lived, IsIn, CrashLeaves, IsWriterOf, IsPlaceOf}
 use Rattle.snap_restart.specs.LifeCrash.{IsConsistent, Begun, IsRecovered, Recovers}
+use mathlib.Core.Option.{some}
+use lib.ListN.{get_elem?}
 use Rattle.snap_disk.specs.declared.disk.Disk as Disk
 
 module _ {D : Type 0} (disk : Disk.Ghosts D) where

@@ -1,16 +1,10 @@
 -- Devices before and after an opening of all files, for any type D of device. `Disk.Ghosts D` has
 -- the ghost items of the trait `Disk` for it.
 use Rattle.std.specs.Prelude.{◌≡◌, ◌≢◌, ℕ, ◌+◌, ◌^◌, ◌<◌, ◌≤◌, List, [], length, None, Some, slice_get}
-use Rattle.snap_disk.specs.declared.refusal.Refusal.{Refusal}
-use Rattle.snap_disk.specs.declared.refusal.Refusal.TheVariants.{NoMemory}
-use Rattle.snap_disk.specs.Device.{MayLeave}
-use Rattle.snap_disk.specs.Time.{LeavesOnly}
-use Rattle.snap_segment.specs.Layout.{Head, Holds}
-use Rattle.snap_segment.specs.States.{IsAtRest}
-use Rattle.snap_segment.specs.Findings.{IsNoOpening}
-use Rattle.snap_segment.specs.Segment.{SegmentState}
-use Rattle.snap_segment.specs.Open.{CountsFailed}
-use Rattle.snap_segment.specs.Refusals.{IsOpenRefusal}
+use Rattle.snap_disk.specs.{declared.refusal.Refusal.Refusal, declared.refusal.Refusal.TheVariants.NoMemory}
+use Rattle.snap_disk.specs.{Device.MayLeave, Time.LeavesOnly}
+use Rattle.snap_segment.specs.{Layout.Head, Layout.Holds, States.IsAtRest, Findings.IsNoOpening, Segment.SegmentState}
+use Rattle.snap_segment.specs.{Open.CountsFailed, Refusals.IsOpenRefusal}
 use Rattle.snap_history.specs.Pairs.{Pairs}
 use Rattle.snap_register.specs.Seat.{Known, own_of, number_in, value_in}
 use Rattle.snap_writer.specs.Writer.{WriterState}

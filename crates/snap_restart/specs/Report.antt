@@ -2,8 +2,7 @@
 use Rattle.std.specs.Prelude.{ℕ, ◌+◌, Bool, true, false, List, [], ◌∷◌, ◌++◌, length, codes}
 use Rattle.std.specs.Fmt.{decimal}
 use Rattle.snap_segment.specs.Text.{line}
-use Rattle.snap_restart.specs.declared.report.Recovered.{Recovered}
-use Rattle.snap_restart.specs.declared.report.Report.{Report}
+use Rattle.snap_restart.specs.declared.report.{Recovered.Recovered, Report.Report}
 
 abbrev pub spare_text : Bool → List ℕ
 spare_text true = codes "open"

@@ -1,19 +1,14 @@
 -- Any number of crashes and starts, one after another, and commands on the files between them.
-use Rattle.std.specs.Prelude.{◌≡◌, ◌≢◌, ℕ, ◌+◌, ◌<◌, ◌≤◌, ◌==◌, if◌then◌else◌, List, [], ◌∷◌, ◌++◌, length, map}
-use Rattle.std.specs.Prelude.{Some, slice_get}
-use Rattle.snap_register.specs.Registers.{Moment}
+use Rattle.std.specs.Prelude.{◌≡◌, ◌≢◌, ℕ, ◌+◌, ◌<◌, ◌≤◌, ◌==◌, if◌then◌else◌, List, [], ◌∷◌, ◌++◌, length, map, Some}
+use Rattle.std.specs.Prelude.{slice_get}
+use Rattle.snap_register.specs.{Registers.Moment, History.starts, History.updates, Rule.Kept}
 use Rattle.snap_disk.specs.Device.{MayLeave}
-use Rattle.snap_segment.specs.Layout.{Holds, IsFileOf}
-use Rattle.snap_segment.specs.States.{IsEither}
+use Rattle.snap_segment.specs.{Layout.Holds, Layout.IsFileOf, States.IsEither}
 use Rattle.snap_history.specs.History.{Update, Start, updates_of}
 use Rattle.snap_history.specs.Pairs.{Pairs}
-use Rattle.snap_register.specs.History.{starts, updates}
-use Rattle.snap_register.specs.Rule.{Kept}
-use Rattle.snap_writer.specs.Writer.{WriterState}
-use Rattle.snap_writer.specs.Life.{Place, CrashLeaves}
-use Rattle.snap_restart.specs.LifeCrash.{Begun, KeepMemory}
-use Rattle.snap_restart.specs.LifeLaws.{IsSeatOf}
+use Rattle.snap_writer.specs.{Writer.WriterState, Life.Place, Life.CrashLeaves}
 use Rattle.snap_restart.specs.Crash.{IsLifeFrom, AllHonest, GoesOn, AreOpened, StayKept}
+use Rattle.snap_restart.specs.{LifeCrash.Begun, LifeCrash.KeepMemory, LifeLaws.IsSeatOf}
 use Rattle.snap_disk.specs.declared.disk.Disk as Disk
 
 module _ {D : Type 0} (disk : Disk.Ghosts D) where

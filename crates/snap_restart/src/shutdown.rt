@@ -3,22 +3,8 @@
 //! What they have seen is one history, proved by meetings: a scanner meets each writer, then each
 //! once more. After the first round it has seen all that any of them had seen. The second round
 //! shows that it had seen no update that its writer hadn't shown.
-ghost use Rattle.std.specs.Prelude.{
-  ◌≡◌,
-  ℕ,
-  ◌++◌,
-  ◌<◌,
-  ◌≤◌,
-  List,
-  [],
-  length,
-  map,
-  slice_get,
-  Some,
-  vec_capacity,
-};
-ghost use Rattle.snap_history.specs.History.{Update, IsBeginning};
-ghost use Rattle.snap_history.specs.Pairs.{Pairs};
+ghost use Rattle.std.specs.Prelude.{◌≡◌, ℕ, ◌++◌, ◌<◌, ◌≤◌, List, [], length, map, slice_get, Some, vec_capacity};
+ghost use Rattle.snap_history.specs.{History.Update, History.IsBeginning, Pairs.Pairs};
 ghost use Rattle.snap_register.specs.Seat.{AreTogether, Grows};
 ghost use Rattle.snap_restart.specs.Closed.{AreBack, IsHistory, IsTold, HasMet, Rests};
 

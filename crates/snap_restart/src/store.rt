@@ -1,35 +1,13 @@
 //! A [`Store`]: the writers and scanners of files that were opened together.
-ghost use Rattle.std.specs.Prelude.{
-  ◌≡◌,
-  ℕ,
-  ◌+◌,
-  ◌-◌,
-  ◌^◌,
-  ◌<◌,
-  ◌≤◌,
-  List,
-  [],
-  length,
-  map,
-  slice_get,
-  Some,
-  All,
-  IfOk,
-  IfErr,
-  vec_capacity,
-};
-ghost use Rattle.snap_register.specs.Registers.{RegistersId};
-ghost use Rattle.snap_history.specs.declared.limits.TheConstants.{MAX_COUNT};
-ghost use Rattle.snap_history.specs.Limits.{IsNumber, IsShort};
-ghost use Rattle.snap_history.specs.declared.limits.TheConstants.{MAX_SCANNERS};
-ghost use Rattle.snap_history.specs.History.{Update};
-ghost use Rattle.snap_history.specs.Pairs.{Pairs};
-ghost use Rattle.snap_register.specs.declared.plan.Plan.{Plan};
+ghost use Rattle.std.specs.Prelude.{◌≡◌, ℕ, ◌+◌, ◌-◌, ◌^◌, ◌<◌, ◌≤◌, List, [], length, map, slice_get, Some, All, IfOk};
+ghost use Rattle.std.specs.Prelude.{IfErr, vec_capacity};
 ghost use Rattle.snap_register.specs.Parts.{IsOpening, AreWriters, AreReaders};
+ghost use Rattle.snap_register.specs.{Registers.RegistersId, declared.plan.Plan.Plan};
+ghost use Rattle.snap_history.specs.{declared.limits.TheConstants.MAX_COUNT, declared.limits.TheConstants.MAX_SCANNERS};
+ghost use Rattle.snap_history.specs.{Limits.IsNumber, Limits.IsShort, History.Update, Pairs.Pairs};
 ghost use Rattle.snap_writer.specs.Writer.{IsPaired};
 ghost use Rattle.snap_restart.specs.Closed.{AreBack, IsHistory, HoldsAfter};
-ghost use Rattle.snap_restart.specs.Opened.{IsOpened, IsStopped, AreFresh, Starts};
-ghost use Rattle.snap_restart.specs.Opened.{recovered, contents};
+ghost use Rattle.snap_restart.specs.Opened.{IsOpened, IsStopped, AreFresh, Starts, recovered, contents};
 ghost use Rattle.snap_restart.specs.Crash.{AreOpened, StayKept, AnyCut};
 ghost use Rattle.snap_restart.specs.Durability.{AllStays};
 

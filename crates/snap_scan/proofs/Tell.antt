@@ -3,9 +3,8 @@ use Rattle.std.proofs.Common.{◌≡◌, ◌≢◌, ℕ, ◌+◌, ◌*◌, ◌<�
 use Rattle.std.proofs.Common.{slice_index, ap, sym, ◌∙◌, arith}
 use Rattle.std.proofs.lemmas.List.{length_push, get_or_push, get_or_append_left}
 use Rattle.std.proofs.lemmas.Bool.{cases_lt}
-use Rattle.snap_scan.specs.Looks.{IsNoFall}
 use Rattle.snap_scan.specs.Stands.{IsUndecided, IsRising, AllLow, Same, IsChanged}
-use Rattle.snap_scan.proofs.Places.{same_segment}
+use Rattle.snap_scan.{specs.Looks.IsNoFall, proofs.Places.same_segment}
 
 module _ (n : ℕ) (L : List ℕ) (m j k : ℕ) (within : j < n) (place : length L ≡ m * n + j) where
   now : (i : ℕ) → i ≡ length L → slice_index (L ++ k ∷ []) i ≡ k

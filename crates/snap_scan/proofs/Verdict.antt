@@ -1,19 +1,14 @@
 -- What a list of numbers decides, and that its decisions exclude each other.
-use Rattle.std.proofs.Common.{◌≡◌, ℕ, zero, suc, ◌+◌, ◌-◌, ◌*◌, ◌<◌, ◌≤◌, inl, inr, List, length, take, Some}
-use Rattle.std.proofs.Common.{slice_get, slice_index, refl, ap, sym}
-use Rattle.std.proofs.Common.{◌∙◌, subst, arith}
-use Rattle.std.proofs.Math.Nat.{mul-le-mul_left}
-use Rattle.std.proofs.lemmas.List.{length-take-le, get_or-take}
+use Rattle.std.proofs.Common.{◌≡◌, ℕ, zero, suc, ◌+◌, ◌-◌, ◌*◌, ◌<◌, ◌≤◌, inl, inr, List, length, take, Some, slice_get}
+use Rattle.std.proofs.Common.{slice_index, refl, ap, sym, ◌∙◌, subst, arith}
+use Rattle.std.proofs.{Math.Nat.mul-le-mul_left, lemmas.List.length-take-le, lemmas.List.get_or-take}
 use Rattle.snap_scan.specs.Looks.{most_looks, IsTurn, IsClean, IsBorrow, IsDecided}
 use Rattle.snap_scan.specs.Sets.{named, size, IsAt}
-use Rattle.snap_scan.specs.Course.{Course, IsNext}
 use Rattle.snap_scan.specs.Stands.{next_at, StandsFor, Says, IsLooking, IsUndecided, IsRising, IsFirst, AllLow, Same}
-use Rattle.snap_scan.specs.declared.machine.Machine.{Machine}
-use Rattle.snap_scan.specs.declared.next.Next.{Next}
 use Rattle.snap_scan.specs.declared.next.Next.TheVariants.{Look, Clean, Borrow}
-use Rattle.snap_scan.proofs.Places.{same_segment}
-use Rattle.snap_scan.proofs.Sets.{at_some, at_is}
 use Rattle.snap_scan.proofs.Sums.{sum_below, sum_cap, same_or_more}
+use Rattle.snap_scan.specs.{Course.Course, Course.IsNext, declared.machine.Machine.Machine, declared.next.Next.Next}
+use Rattle.snap_scan.proofs.{Places.same_segment, Sets.at_some, Sets.at_is}
 
 -- the last two collects of a clean list are equal
 pub Same-from_clean : (n : ℕ) (L : List ℕ) (clean : IsClean n L) → Same n L clean.rounds.0 n

@@ -1,9 +1,8 @@
 -- What callers see of a scan, and how its next step follows.
 use Rattle.std.specs.Prelude.{◌≡◌, ℕ, ◌<◌, ◌↔◌, List, length, take}
 use Rattle.snap_scan.specs.Looks.{most_looks, IsTurn, IsClean, IsBorrow, IsDecided}
-use Rattle.snap_scan.specs.Sets.{size, IsAt}
-use Rattle.snap_scan.specs.declared.next.Next.{Next}
 use Rattle.snap_scan.specs.declared.next.Next.TheVariants.{Look, Clean, Borrow}
+use Rattle.snap_scan.specs.{Sets.size, Sets.IsAt, declared.next.Next.Next}
 
 -- the set of segments, the list of all numbers found, in order, and the next step
 pub record Course : Type 0 where

@@ -1,7 +1,6 @@
 -- Sets of segments, as numbers: bit i is set if the set names segment i.
-use Rattle.std.proofs.Common.{zero, suc}
 use Rattle.std.specs.Prelude.{◌≡◌, ℕ, ◌==◌, List, [], ◌∷◌, ◌++◌, length, cond, slice_get, Some}
-use Rattle.std.specs.Int.{bit_at}
+use Rattle.std.{proofs.Common.zero, proofs.Common.suc, specs.Int.bit_at}
 
 -- the set names segment i
 abbrev pub Names : ℕ → ℕ → Type 0

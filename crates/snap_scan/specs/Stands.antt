@@ -2,13 +2,10 @@
 -- numbers.
 use Rattle.std.specs.Prelude.{◌≡◌, ℕ, ◌+◌, ◌*◌, ◌<◌, ◌≤◌, List, length, slice_index, take, Bool, true, false}
 use Rattle.snap_scan.specs.Looks.{IsClean, IsBorrow, IsNoFall}
-use Rattle.snap_scan.specs.declared.limits.TheConstants.{MAX_SEGMENTS}
 use Rattle.snap_scan.specs.Sets.{named, size}
-use Rattle.snap_scan.specs.declared.machine.Machine.{Machine}
-use Rattle.snap_scan.specs.declared.segments.Segments.{Segments}
-use Rattle.snap_scan.specs.declared.set.SegmentSet.{SegmentSet}
-use Rattle.snap_scan.specs.declared.next.Next.{Next}
 use Rattle.snap_scan.specs.declared.next.Next.TheVariants.{Look, Clean, Borrow}
+use Rattle.snap_scan.specs.declared.{limits.TheConstants.MAX_SEGMENTS, machine.Machine.Machine}
+use Rattle.snap_scan.specs.declared.{segments.Segments.Segments, set.SegmentSet.SegmentSet, next.Next.Next}
 
 -- each of the first k looks found a number less than 2 above that of its segment's first look
 abbrev pub AllLow : ℕ → List ℕ → ℕ → Type 0

@@ -1,8 +1,6 @@
 //! One scan, from its start to its answer.
 ghost use Rattle.std.specs.Prelude.{◌≡◌, ℕ, ◌-◌, ◌^◌, ◌<◌, ◌≤◌, [], ◌∷◌, ◌++◌, length};
-ghost use Rattle.snap_scan.specs.Looks.{IsNoFall};
-ghost use Rattle.snap_scan.specs.Sets.{size, IsAt};
-ghost use Rattle.snap_scan.specs.Course.{IsNext};
+ghost use Rattle.snap_scan.specs.{Looks.IsNoFall, Sets.size, Sets.IsAt, Course.IsNext};
 
 use crate::limits::MAX_SEGMENTS;
 use crate::machine::Machine;

@@ -1,12 +1,10 @@
 -- The words of a crash's line, as they are read.
-use Rattle.std.proofs.Common.{◌≡◌, ℕ, ◌≤◌, Option, Some, None, List, [], ◌∷◌, ◌++◌, length, Bor}
-use Rattle.std.proofs.Common.{refl, sym, ap, ◌∙◌, append_assoc, append-nil, arith}
-use Rattle.std.specs.Prelude.{◌==◌, MatchOption}
-use Rattle.std.specs.List.{AllZip}
+use Rattle.std.proofs.Common.{◌≡◌, ℕ, ◌≤◌, Option, Some, None, List, [], ◌∷◌, ◌++◌, length, Bor, refl, sym, ap, ◌∙◌}
+use Rattle.std.proofs.Common.{append_assoc, append-nil, arith}
+use Rattle.std.specs.{Prelude.◌==◌, Prelude.MatchOption, List.AllZip}
 use Rattle.std.proofs.lemmas.List.Splits.{length-slice_split}
 use Rattle.snap_disk.specs.declared.fill.Fill.{Fill}
-use Rattle.snap_script.specs.Words.{words_of, IsFill}
-use Rattle.snap_script.proofs.Zip.{AllZip-push}
+use Rattle.snap_script.{specs.Words.words_of, specs.Words.IsFill, proofs.Zip.AllZip-push}
 
 -- the words of what is left of a line
 abbrev pub words_after : Option (Bor (List ℕ)) → List (List ℕ)

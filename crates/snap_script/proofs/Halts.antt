@@ -1,13 +1,11 @@
 -- The bytes that were taken, with the next one, and how a script ends at it.
-use Rattle.std.proofs.Common.{◌≡◌, ◌≢◌, ℕ, ◌<◌, ◌≤◌, inl, Option, List, [], ◌∷◌, ◌++◌}
-use Rattle.std.proofs.Common.{length, refl, sym, ap, ◌∙◌, append_assoc, append-nil, length-append, arith}
+use Rattle.std.proofs.Common.{◌≡◌, ◌≢◌, ℕ, ◌<◌, ◌≤◌, inl, Option, List, [], ◌∷◌, ◌++◌, length, refl, sym, ap, ◌∙◌}
+use Rattle.std.proofs.Common.{append_assoc, append-nil, length-append, arith}
 use Rattle.std.proofs.lemmas.List.Elements.{All-push}
-use Rattle.snap_script.proofs.Steps.{prints}
-use Rattle.snap_script.specs.LineBuffer.{HasDone, HasTaken}
 use Rattle.snap_script.specs.Script.{ended, Ends, IsAt}
-use Rattle.snap_script.specs.declared.line_buffer.LineBuffer.{LineBuffer}
-use Rattle.snap_script.specs.declared.run.ScriptEnd.TheVariants.{TooLong, NoMemory}
-use Rattle.snap_script.specs.declared.run.TheConstants.{MAX_LINE}
+use Rattle.snap_script.{proofs.Steps.prints, specs.LineBuffer.HasDone, specs.declared.run.ScriptEnd.TheVariants.TooLong}
+use Rattle.snap_script.{specs.LineBuffer.HasTaken, specs.declared.line_buffer.LineBuffer.LineBuffer}
+use Rattle.snap_script.{specs.declared.run.ScriptEnd.TheVariants.NoMemory, specs.declared.run.TheConstants.MAX_LINE}
 
 ended-push : (lines : List (List ℕ)) (line : List ℕ) → ended (lines ++ line ∷ []) ≡ ended lines ++ (line ++ 10 ∷ [])
 ended-push [] line = refl

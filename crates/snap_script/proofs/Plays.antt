@@ -1,17 +1,12 @@
 -- One line more.
-use Rattle.std.proofs.Common.{◌≡◌, ℕ, Some, List, [], ◌∷◌, ◌++◌, refl, sym, ap, ◌∙◌, append_assoc}
-use Rattle.std.proofs.Common.{append-nil}
-use Rattle.snap_script.proofs.Zip.{AllZip-push}
-use Rattle.snap_script.specs.Line.{IsWorldLine, IsEventLine}
-use Rattle.snap_script.specs.Interpreter.{Played}
+use Rattle.std.proofs.Common.{◌≡◌, ℕ, Some, List, [], ◌∷◌, ◌++◌, refl, sym, ap, ◌∙◌, append_assoc, append-nil}
 use Rattle.snap_script.specs.Text.{world_text, line_text, reply_text, replies_text}
-use Rattle.snap_world.proofs.Runs.{Run-append}
+use Rattle.snap_script.proofs.Zip.{AllZip-push}
+use Rattle.snap_script.specs.{Line.IsWorldLine, Line.IsEventLine, Interpreter.Played}
 use Rattle.snap_world.specs.Start.{start_state, start_world_phases, AreFormatted}
-use Rattle.snap_world.specs.Surface.{StandsFor, IsRun, configuration, segments_of, phases_of}
-use Rattle.snap_world.specs.Surface.{devices_of}
-use Rattle.snap_world.specs.declared.event.Event.{Event}
-use Rattle.snap_world.specs.declared.event.Reply.{Reply}
-use Rattle.snap_world.specs.declared.world.World.{World}
+use Rattle.snap_world.specs.Surface.{StandsFor, IsRun, configuration, segments_of, phases_of, devices_of}
+use Rattle.snap_world.proofs.Runs.{Run-append}
+use Rattle.snap_world.specs.declared.{event.Event.Event, event.Reply.Reply, world.World.World}
 
 replies_text-push : (replies : List Reply) (reply : Reply)
     → replies_text (replies ++ reply ∷ []) ≡ replies_text replies ++ line_text (reply_text reply)

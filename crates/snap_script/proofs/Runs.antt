@@ -1,15 +1,11 @@
 -- A script from its first read to its end.
 use Rattle.std.proofs.Common.{◌≡◌, ℕ, inr, Option, List, [], ◌++◌, refl, append-nil, arith}
-use Rattle.std.specs.Io.KnownBytes.{Consumes, Keeps}
 use Rattle.std.proofs.KnownBytes.{Appends-nil, Consumes-kept, Consumes-nil, Consumes-trans}
-use Rattle.std.specs.declared.io.Error.{Error}
-use Rattle.snap_script.proofs.Halts.{at_line}
-use Rattle.snap_script.proofs.Steps.{prints}
-use Rattle.snap_script.specs.LineBuffer.{HasTaken}
-use Rattle.snap_script.specs.Script.{Ends, Runs}
-use Rattle.snap_script.specs.declared.line_buffer.LineBuffer.{LineBuffer}
-use Rattle.snap_script.specs.declared.run.ScriptEnd.{ScriptEnd}
-use Rattle.snap_script.specs.declared.run.ScriptEnd.TheVariants.{NoMemory, ReadFailed}
+use Rattle.std.specs.{Io.KnownBytes.Consumes, Io.KnownBytes.Keeps, declared.io.Error.Error}
+use Rattle.snap_script.proofs.{Halts.at_line, Steps.prints}
+use Rattle.snap_script.specs.{LineBuffer.HasTaken, Script.Ends, Script.Runs, declared.line_buffer.LineBuffer.LineBuffer}
+use Rattle.snap_script.specs.{declared.run.ScriptEnd.ScriptEnd, declared.run.ScriptEnd.TheVariants.NoMemory}
+use Rattle.snap_script.specs.declared.run.ScriptEnd.TheVariants.{ReadFailed}
 
 -- no memory at first
 pub runs_none : (read old : Option (List ℕ)) → Runs read read old old NoMemory

@@ -1,15 +1,11 @@
 -- A script, line by line.
-use Rattle.std.proofs.Common.{◌≡◌, ◌≢◌, ℕ, ◌+◌, ◌<◌, Option, Some, None, List, [], ◌∷◌, ◌++◌, length}
-use Rattle.std.proofs.Common.{take, refl, ap, arith}
-use Rattle.std.specs.Io.KnownBytes.{Appends}
+use Rattle.std.proofs.Common.{◌≡◌, ◌≢◌, ℕ, ◌+◌, ◌<◌, Option, Some, None, List, [], ◌∷◌, ◌++◌, length, take, refl, ap}
+use Rattle.std.proofs.Common.{arith}
 use Rattle.std.proofs.KnownBytes.{Appends-nil, Appends-trans}
-use Rattle.std.proofs.Math.Seq.{take-append-add}
-use Rattle.std.proofs.lemmas.List.Elements.{All-push}
-use Rattle.snap_script.specs.Interpreter.{HaltsAt, Played}
-use Rattle.snap_script.specs.LineBuffer.{HasDone}
+use Rattle.std.{specs.Io.KnownBytes.Appends, proofs.Math.Seq.take-append-add, proofs.lemmas.List.Elements.All-push}
 use Rattle.snap_script.specs.Script.{full_lines, IsLine, IsUnreadable, MayPrint, Prints, PrintsPart}
-use Rattle.snap_script.specs.declared.fault.LineFault.{LineFault}
-use Rattle.snap_script.specs.declared.interpreter.InterpreterFault.TheVariants.{Fault}
+use Rattle.snap_script.specs.{Interpreter.HaltsAt, declared.interpreter.InterpreterFault.TheVariants.Fault}
+use Rattle.snap_script.specs.{Interpreter.Played, LineBuffer.HasDone, declared.fault.LineFault.LineFault}
 use Rattle.snap_world.specs.declared.world.World.{World}
 
 -- nothing was done

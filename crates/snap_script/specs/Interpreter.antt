@@ -1,13 +1,10 @@
 -- The lines that an interpreter has done.
 use Rattle.std.specs.Prelude.{◌≡◌, ℕ, List, [], ◌∷◌, Option, Some, None, ⊤}
 use Rattle.snap_script.specs.Line.{IsWorldLine, IsEventLine}
-use Rattle.snap_script.specs.Script.{Plays}
-use Rattle.snap_script.specs.declared.interpreter.InterpreterFault.{InterpreterFault}
 use Rattle.snap_script.specs.declared.interpreter.InterpreterFault.TheVariants.{Fault, NoMemory}
-use Rattle.snap_world.specs.Machine.{State}
+use Rattle.snap_script.specs.{Script.Plays, declared.interpreter.InterpreterFault.InterpreterFault}
 use Rattle.snap_world.specs.Surface.{StandsFor, configuration, segments_of}
-use Rattle.snap_world.specs.declared.event.Event.{Event}
-use Rattle.snap_world.specs.declared.world.World.{World}
+use Rattle.snap_world.specs.{Machine.State, declared.event.Event.Event, declared.world.World.World}
 
 -- the lines, none of them empty, were done, this text was made of them, and this is the world now
 abbrev pub Played : List (List ℕ) → List ℕ → Option World → Type 0

@@ -1,18 +1,14 @@
 -- The lines of a script: the first, and those of events.
 use Rattle.std.specs.Prelude.{◌≡◌, ℕ, ◌≤◌, List, [], ◌∷◌, length, codes, ⊤}
-use Rattle.std.specs.List.{AllZip}
-use Rattle.std.specs.declared.vec.Vec.{Vec}
-use Rattle.std.specs.declared.alloc.Global.{Global}
+use Rattle.std.specs.{List.AllZip, declared.vec.Vec.Vec, declared.alloc.Global.Global}
 use Rattle.snap_disk.specs.declared.fill.Fill.{Fill}
 use Rattle.snap_history.specs.declared.limits.TheConstants.{MAX_COUNT}
 use Rattle.snap_stream.specs.Hex.{IsHex}
 use Rattle.snap_script.specs.Words.{words_of, IsNumber, IsFill, IsMask}
 use Rattle.snap_script.specs.declared.verb.Verb.{Verb}
+use Rattle.snap_world.specs.{set.SegmentSet.SegmentSet, declared.event.Actor.Actor, declared.event.Event.Event}
 use Rattle.snap_script.specs.declared.verb.Verb.TheVariants as verb
-use Rattle.snap_world.specs.set.SegmentSet.{SegmentSet}
-use Rattle.snap_world.specs.declared.event.Actor.{Actor}
 use Rattle.snap_world.specs.declared.event.Actor.TheVariants as actor
-use Rattle.snap_world.specs.declared.event.Event.{Event}
 use Rattle.snap_world.specs.declared.event.Event.TheVariants as event
 
 -- `world N S`, both from 1 to 16

@@ -1,10 +1,9 @@
 -- The lines that were done, and the bytes of the next one.
 use Rattle.std.specs.Prelude.{◌≡◌, ℕ, List, ◌++◌, Option, All}
 use Rattle.std.specs.Io.KnownBytes.{Appends}
-use Rattle.snap_script.specs.Interpreter.{Played}
 use Rattle.snap_script.specs.Script.{ended, full_lines, EndPrints, EndsAt, IsEnded, IsLine}
-use Rattle.snap_script.specs.declared.line_buffer.LineBuffer.{LineBuffer}
-use Rattle.snap_script.specs.declared.run.ScriptEnd.{ScriptEnd}
+use Rattle.snap_script.specs.Interpreter.{Played}
+use Rattle.snap_script.specs.declared.{line_buffer.LineBuffer.LineBuffer, run.ScriptEnd.ScriptEnd}
 use Rattle.snap_world.specs.declared.world.World.{World}
 
 -- these lines were done, and their text was written

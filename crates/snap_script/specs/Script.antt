@@ -3,18 +3,15 @@ use Rattle.std.specs.Prelude.{◌≡◌, ◌≢◌, ◌<◌, ◌≤◌, ◌⊎�
 use Rattle.std.specs.List.{AllZip}
 use Rattle.std.specs.Io.KnownBytes.{Appends, Consumes, IsAtEnd}
 use Rattle.snap_order.specs.declared.status.Status.{Status}
-use Rattle.snap_order.specs.declared.status.Status.TheVariants as status
 use Rattle.snap_script.specs.Line.{IsWorldLine, IsEventLine}
 use Rattle.snap_script.specs.Text.{world_text, line_text, replies_text}
-use Rattle.snap_script.specs.declared.run.ScriptEnd.{ScriptEnd}
-use Rattle.snap_script.specs.declared.run.ScriptEnd.TheVariants.{Done, BadLine, TooLong, NoMemory}
-use Rattle.snap_script.specs.declared.run.ScriptEnd.TheVariants.{ReadFailed, WriteFailed}
-use Rattle.snap_script.specs.declared.run.TheConstants.{MAX_LINE}
+use Rattle.snap_script.specs.declared.run.ScriptEnd.TheVariants.{Done, BadLine, TooLong, NoMemory, ReadFailed}
+use Rattle.snap_script.specs.declared.run.ScriptEnd.TheVariants.{WriteFailed}
+use Rattle.snap_script.specs.declared.run.{ScriptEnd.ScriptEnd, TheConstants.MAX_LINE}
 use Rattle.snap_disk.specs.Device.{Device}
-use Rattle.snap_world.specs.Runs.{Configuration, Run}
 use Rattle.snap_world.specs.Start.{start_state, start_world_phases, AreFormatted}
-use Rattle.snap_world.specs.declared.event.Event.{Event}
-use Rattle.snap_world.specs.declared.event.Reply.{Reply}
+use Rattle.snap_world.specs.{Runs.Configuration, Runs.Run, declared.event.Event.Event, declared.event.Reply.Reply}
+use Rattle.snap_order.specs.declared.status.Status.TheVariants as status
 
 -- empty lines are skipped
 abbrev pub full_lines : List (List ℕ) → List (List ℕ)

@@ -2,14 +2,11 @@
 use Rattle.std.specs.Prelude.{ℕ, List, [], ◌∷◌, ◌++◌, flat_map, codes}
 use Rattle.std.specs.Fmt.{decimal}
 use Rattle.snap_stream.specs.Hex.{hex_text}
-use Rattle.snap_world.specs.declared.event.PartEntry.{PartEntry}
-use Rattle.snap_world.specs.declared.event.Kind.{Kind}
 use Rattle.snap_world.specs.declared.event.Kind.TheVariants.{Write, Sync, Read}
-use Rattle.snap_world.specs.persist.Write.TheVariants as write
-use Rattle.snap_world.specs.declared.event.Reply.{Reply}
 use Rattle.snap_world.specs.declared.event.Reply.TheVariants.{Begun, Number, Called, DeviceFailed, Shown, Stored}
-use Rattle.snap_world.specs.declared.event.Reply.TheVariants.{ScanBegun, Memory}
-use Rattle.snap_world.specs.declared.event.Reply.TheVariants.{Part, Crashed, Restarting, NotNow}
+use Rattle.snap_world.specs.declared.event.Reply.TheVariants.{ScanBegun, Memory, Part, Crashed, Restarting, NotNow}
+use Rattle.snap_world.specs.declared.event.{PartEntry.PartEntry, Kind.Kind, Reply.Reply}
+use Rattle.snap_world.specs.persist.Write.TheVariants as write
 
 -- the name of a device call
 abbrev pub kind_text : Kind → List ℕ

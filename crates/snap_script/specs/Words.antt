@@ -1,7 +1,6 @@
 -- The words of a line, and the value of a word.
 use Rattle.std.specs.Prelude.{◌≡◌, ℕ, ◌+◌, ◌*◌, ◌≤◌, ◌==◌, List, [], ◌∷◌, length, codes, Option, Some, None, Ok}
-use Rattle.std.specs.List.{slice_split}
-use Rattle.std.specs.Str.Parse.{IsNumeral, digits_value}
+use Rattle.std.specs.{List.slice_split, Str.Parse.IsNumeral, Str.Parse.digits_value}
 use Rattle.hex.specs.Hex.{decode_of}
 use Rattle.snap_stream.specs.Hex.{IsHex}
 use Rattle.snap_disk.specs.declared.fill.Fill.{Fill}

@@ -1,11 +1,10 @@
 -- All bytes of a new file.
-use Rattle.std.proofs.Common.{◌≡◌, inl, inr, ℕ, List, [], ◌∷◌, ◌++◌, length, take, drop, slice_index, length-drop}
-use Rattle.std.proofs.Common.{sym, ◌∙◌, ap, arith}
+use Rattle.std.proofs.Common.{◌≡◌, inl, inr, ℕ, List, [], ◌∷◌, ◌++◌, length, take, drop, slice_index, length-drop, sym}
+use Rattle.std.proofs.Common.{◌∙◌, ap, arith}
 use Rattle.std.proofs.lemmas.List.{take-append-drop, take_all}
 use Rattle.snap_disk.specs.Device.{Device, part, IsWritten}
 use Rattle.snap_disk.specs.Laws.{part_kept, index-part, part-cons}
-use Rattle.snap_slot.specs.Layout.{header_front, slots_of}
-use Rattle.snap_slot.specs.States.{IsPrepared}
+use Rattle.snap_slot.specs.{Layout.header_front, Layout.slots_of, States.IsPrepared}
 use Rattle.snap_segment.specs.Creation.{new_file}
 
 -- a file is the bytes before its header's gate, that gate, and the bytes after it

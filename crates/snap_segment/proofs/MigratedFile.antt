@@ -1,10 +1,7 @@
 -- A migration finds the value that the old file holds.
 use Rattle.std.proofs.Common.{◌≡◌, ℕ, List, ◌∙◌}
-use Rattle.snap_slot.specs.Findings.{value_in}
-use Rattle.snap_slot.specs.Old.{old_slot_of}
-use Rattle.snap_slot.specs.OldFound.{IsOldFound}
-use Rattle.snap_slot.specs.declared.old_recovery.OldFound.{OldFound}
-use Rattle.snap_slot.proofs.OldSame.{old_holds_same}
+use Rattle.snap_slot.{specs.Findings.value_in, specs.Old.old_slot_of, specs.OldFound.IsOldFound}
+use Rattle.snap_slot.{specs.declared.old_recovery.OldFound.OldFound, proofs.OldSame.old_holds_same}
 use Rattle.snap_segment.specs.Migration.{OfHeld}
 
 pub of_held : {i n : ℕ} {b file value : List ℕ} {found : OldFound} (P : ℕ → List ℕ → Type 0)

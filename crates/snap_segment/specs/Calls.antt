@@ -1,10 +1,8 @@
 -- What every run of calls does to its device.
 use Rattle.std.specs.Prelude.{◌≡◌, ℕ, List, length, Result}
-use Rattle.snap_disk.specs.Device.{CountsCalls, MayLeave}
-use Rattle.snap_disk.specs.Time.{LeavesOnly}
-use Rattle.snap_disk.specs.declared.disk.Disk as Disk
-use Rattle.snap_disk.specs.declared.refusal.Refusal.{Refusal}
+use Rattle.snap_disk.specs.{Device.CountsCalls, Device.MayLeave, Time.LeavesOnly, declared.refusal.Refusal.Refusal}
 use Rattle.snap_segment.specs.Segment.{CountsRefusal}
+use Rattle.snap_disk.specs.declared.disk.Disk as Disk
 
 -- For any device: its failure count grows by one exactly at `DeviceFailed`. Ok takes `made` calls,
 -- a refusal at most that many. The length stays, and a device that is honest now was honest before.

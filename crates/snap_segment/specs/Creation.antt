@@ -1,11 +1,10 @@
 -- The file that formatting and migration make.
 use Rattle.std.specs.Prelude.{◌≡◌, ◌⊎◌, ℕ, ◌+◌, List, [], ◌∷◌, ◌++◌, Result, IsErrOf, OnOk}
 use Rattle.snap_disk.specs.Device.{Device, IsSynced, MayLeave}
-use Rattle.snap_disk.specs.declared.disk.Disk as Disk
-use Rattle.snap_disk.specs.declared.refusal.Refusal.{Refusal}
-use Rattle.snap_disk.specs.declared.refusal.Refusal.TheVariants.{AlreadyFormatted}
+use Rattle.snap_disk.specs.declared.refusal.Refusal.{Refusal, TheVariants.AlreadyFormatted}
 use Rattle.snap_slot.specs.Layout.{header_front, slots_of, IsFormatted, IsUnformatted, IsFileOf}
 use Rattle.snap_slot.specs.declared.layout.TheConstants.{OPEN_GATE}
+use Rattle.snap_disk.specs.declared.disk.Disk as Disk
 
 -- all bytes of the new file of segment i of n with number k and value v: its header with an open
 -- gate, the slot of k, and zeros in the other two

@@ -2,10 +2,8 @@
 use Rattle.std.specs.Prelude.{◌≡◌, ℕ, List, Result, Ok, Err}
 use Rattle.snap_disk.specs.declared.refusal.Refusal.{Refusal}
 use Rattle.snap_slot.specs.Old.{OldHolds}
-use Rattle.snap_segment.specs.declared.migration.Which.{Which}
 use Rattle.snap_segment.specs.declared.migration.Which.TheVariants.{Old, New}
-use Rattle.snap_segment.specs.Open.{CountsFailed}
-use Rattle.snap_segment.specs.Refusals.{IsMakeRefusal}
+use Rattle.snap_segment.specs.{declared.migration.Which.Which, Open.CountsFailed, Refusals.IsMakeRefusal}
 
 -- only the failure count of the device that failed grows, by one; the counts are of the old file
 -- before and after, then of the new file before and after

@@ -2,12 +2,10 @@
 ghost use Rattle.std.specs.Prelude.{◌≡◌, ◌≢◌, ◌-◌, ◌^◌, ◌<◌, ◌≤◌, [], false, length, OnOk, IfErr, IsErrOf, ◌↔◌};
 ghost use Rattle.snap_disk.specs.Device.{Device};
 ghost use Rattle.snap_history.specs.declared.limits.TheConstants.{MAX_COUNT};
-ghost use Rattle.snap_slot.specs.declared.layout.TheConstants.{FILE_LEN};
 ghost use Rattle.snap_slot.specs.Layout.{fresh_file, IsFormatted};
-ghost use Rattle.snap_slot.specs.States.{IsAtRest};
-ghost use Rattle.snap_segment.specs.Refusals.{IsFormatRefusal};
+ghost use Rattle.snap_slot.specs.{declared.layout.TheConstants.FILE_LEN, States.IsAtRest};
 ghost use Rattle.snap_segment.specs.Calls.{Counts, Leaves, LeavesAsBefore};
-ghost use Rattle.snap_segment.specs.Creation.{IsFresh, TellsGate};
+ghost use Rattle.snap_segment.specs.{Refusals.IsFormatRefusal, Creation.IsFresh, Creation.TellsGate};
 
 use crate::creation::create;
 use snap_disk::{Disk, Refusal};

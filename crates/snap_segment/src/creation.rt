@@ -1,12 +1,10 @@
 //! Makes the file of a segment that holds a given number and value, for formatting and migration.
-ghost use Rattle.std.specs.Prelude.{◌≡◌, ◌≢◌, ◌-◌, ◌^◌, ◌<◌, ◌≤◌, false, length, OnOk, IfOk, IfErr, IsErrOf};
-ghost use Rattle.std.specs.Prelude.{IsTrue, ◌↔◌};
-ghost use Rattle.snap_slot.specs.declared.layout.TheConstants.{FILE_LEN};
+ghost use Rattle.std.specs.Prelude.{◌≡◌, ◌≢◌, ◌-◌, ◌^◌, ◌<◌, ◌≤◌, false, length, OnOk, IfOk, IfErr, IsErrOf, IsTrue};
+ghost use Rattle.std.specs.Prelude.{◌↔◌};
+ghost use Rattle.snap_slot.specs.{declared.layout.TheConstants.FILE_LEN, Layout.IsUnformatted, Layout.IsFormatted};
+ghost use Rattle.snap_slot.specs.{States.IsAtRest, States.IsPrepared};
 ghost use Rattle.snap_disk.specs.Device.{Device, IsSettled, IsSynced, CountsFailure, CountsCalls};
-ghost use Rattle.snap_history.specs.declared.limits.TheConstants.{MAX_COUNT};
-ghost use Rattle.snap_history.specs.Limits.{IsNumber, IsShort};
-ghost use Rattle.snap_slot.specs.Layout.{IsUnformatted, IsFormatted};
-ghost use Rattle.snap_slot.specs.States.{IsAtRest, IsPrepared};
+ghost use Rattle.snap_history.specs.{declared.limits.TheConstants.MAX_COUNT, Limits.IsNumber, Limits.IsShort};
 ghost use Rattle.snap_segment.specs.Refusals.{IsFormatRefusal};
 ghost use Rattle.snap_segment.specs.Calls.{Counts, Leaves, LeavesAsBefore};
 ghost use Rattle.snap_segment.specs.Creation.{IsMadeOrLeft, TellsGate, new_file};

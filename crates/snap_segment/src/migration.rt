@@ -1,19 +1,15 @@
 //! Converts a segment's file from the old format.
-ghost use Rattle.std.specs.Prelude.{◌≡◌, ◌≢◌, ◌+◌, ◌-◌, ◌^◌, ◌<◌, ◌≤◌, ◌↔◌, ℕ, List, false, length, OnOk, IfOk};
-ghost use Rattle.std.specs.Prelude.{IfErr, IsErrOf};
-ghost use Rattle.snap_slot.specs.declared.layout.TheConstants.{FILE_LEN};
+ghost use Rattle.std.specs.Prelude.{◌≡◌, ◌≢◌, ◌+◌, ◌-◌, ◌^◌, ◌<◌, ◌≤◌, ◌↔◌, ℕ, List, false, length, OnOk, IfOk, IfErr};
+ghost use Rattle.std.specs.Prelude.{IsErrOf};
+ghost use Rattle.snap_slot.specs.{declared.layout.TheConstants.FILE_LEN, Layout.IsUnformatted, Layout.IsFormatted};
+ghost use Rattle.snap_slot.specs.{States.IsAtRest, declared.old_layout.TheConstants.OLD_FILE_LEN, Old.OldHead};
+ghost use Rattle.snap_slot.specs.{Old.OldHolds, OldFound.IsOldFound, OldFound.IsNoOldOpening};
 ghost use Rattle.snap_disk.specs.Device.{Device, IsSynced, MayLeave, CountsCalls};
 ghost use Rattle.snap_disk.specs.Time.{LeavesOnly};
 ghost use Rattle.snap_history.specs.declared.limits.TheConstants.{MAX_COUNT};
-ghost use Rattle.snap_slot.specs.Layout.{IsUnformatted, IsFormatted};
-ghost use Rattle.snap_slot.specs.States.{IsAtRest};
-ghost use Rattle.snap_slot.specs.declared.old_layout.TheConstants.{OLD_FILE_LEN};
-ghost use Rattle.snap_slot.specs.Old.{OldHead, OldHolds};
-ghost use Rattle.snap_slot.specs.OldFound.{IsOldFound, IsNoOldOpening};
-ghost use Rattle.snap_segment.specs.Refusals.{IsMigrationRefusal};
-ghost use Rattle.snap_segment.specs.Calls.{Counts, LeavesAsBefore};
-ghost use Rattle.snap_segment.specs.Creation.{IsMadeOrLeft, new_file};
 ghost use Rattle.snap_segment.specs.Migration.{CountsFault, IsRead, OfHeld};
+ghost use Rattle.snap_segment.specs.{Refusals.IsMigrationRefusal, Calls.Counts, Calls.LeavesAsBefore};
+ghost use Rattle.snap_segment.specs.{Creation.IsMadeOrLeft, Creation.new_file};
 
 use crate::contents::read_all;
 use crate::creation::create;

@@ -1,14 +1,12 @@
 -- How a server's result follows from its opening.
 use Rattle.std.proofs.Common.{◌≡◌, ℕ, List, map, length, Option, Err, refl, sym, ◌∙◌}
 use Rattle.std.proofs.lemmas.Simd.{map-map}
-use Rattle.snap_disk.specs.declared.disk.Disk as Disk
 use Rattle.snap_history.specs.Pairs.{Pairs}
 use Rattle.snap_writer.specs.Writer.{WriterState}
-use Rattle.snap_restart.specs.Opened.{IsOpened, recovered}
-use Rattle.snap_restart.specs.Crash.{AreOpened}
-use Rattle.snap_restart.specs.declared.report.Report.{Report}
+use Rattle.snap_restart.specs.{Opened.IsOpened, Opened.recovered, Crash.AreOpened, declared.report.Report.Report}
 use Rattle.snap_serve.specs.declared.fault.HostFault.TheVariants.{Refused}
 use Rattle.snap_serve.specs.Serve.{End, EndsHost, EndsServing, IsReportOf, Site}
+use Rattle.snap_disk.specs.declared.disk.Disk as Disk
 
 pub ends_opened : {D L : Type 0} (disk : Disk.Ghosts D) (devices : List D) (site : Site L)
     (connections : Option ℕ) (r : Report) (o n : Option (List ℕ)) (end : End)

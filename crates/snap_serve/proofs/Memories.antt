@@ -3,21 +3,14 @@ use Rattle.std.proofs.Common.{◌≡◌, ℕ, ◌<◌, List, [], ◌∷◌, leng
 use Rattle.std.proofs.Common.{refl, arith}
 use Rattle.std.specs.Option.{option_map}
 use Rattle.std.proofs.lemmas.Option.{slice_get-get_or, slice_get-map, slice_get_within}
-use Rattle.snap_disk.specs.declared.disk.Disk as Disk
-use Rattle.snap_history.specs.History.{number_after, value_after}
-use Rattle.snap_history.specs.Pairs.{Pairs}
+use Rattle.snap_history.specs.{History.number_after, History.value_after, Pairs.Pairs}
 use Rattle.snap_memory.specs.Registers.{RegistersId}
-use Rattle.snap_register.specs.declared.plan.Plan.{Plan}
-use Rattle.snap_register.specs.Rule.{segments}
-use Rattle.snap_register.specs.History.{starts}
-use Rattle.snap_register.specs.Seat.{Known, own_of}
+use Rattle.snap_register.specs.{declared.plan.Plan.Plan, Rule.segments, History.starts, Seat.Known, Seat.own_of}
 use Rattle.snap_writer.specs.Writer.{WriterState}
-use Rattle.snap_restart.specs.Closed.{AreBack, IsSeatAt}
-use Rattle.snap_restart.specs.Crash.{AreOpened}
-use Rattle.snap_restart.specs.Opened.{IsOpened}
-use Rattle.snap_service.specs.Asked.{AreAsOpened}
-use Rattle.snap_service.specs.Memory.{AreWriters, number_of}
+use Rattle.snap_restart.specs.{Closed.AreBack, Closed.IsSeatAt, Crash.AreOpened, Opened.IsOpened}
+use Rattle.snap_service.specs.{Asked.AreAsOpened, Memory.AreWriters, Memory.number_of}
 use Rattle.snap_serve.specs.Scanners.{AreScanners, MayServe, MayServeOpened, table_of, plan_of}
+use Rattle.snap_disk.specs.declared.disk.Disk as Disk
 
 firsts : (table : RegistersId) (plan : Plan) (rs : List Known) → 0 < length rs
     → ((k : ℕ) (b : Known) → slice_get rs k ≡ Some b → IsSeatAt table plan 0 0 b)

@@ -1,21 +1,16 @@
 -- The text that a server has printed, step by step.
 use Rattle.std.proofs.Common.{◌≡◌, ℕ, List, Option, Some, Ok, Err, inl, inr, ap}
-use Rattle.std.specs.Io.KnownBytes.{Appends}
-use Rattle.std.proofs.KnownBytes.{Appends-trans, Appends-kept}
-use Rattle.snap_stream.specs.Streams.{AppendsBeginning}
-use Rattle.snap_stream.proofs.Lines.{beginning_behind}
-use Rattle.snap_restart.specs.Report.{report_text}
-use Rattle.snap_restart.specs.declared.report.Report.{Report}
-use Rattle.snap_server.specs.Announced.{Announced}
-use Rattle.snap_server.specs.declared.endpoint.Endpoint.{Endpoint}
-use Rattle.snap_server.specs.declared.fault.RunFault.{RunFault}
-use Rattle.snap_server.specs.declared.fault.RunFault.TheVariants as run
-use Rattle.snap_server.specs.declared.fault.ServerFault.{ServerFault}
-use Rattle.snap_server.specs.declared.fault.ServerFault.TheVariants as faults
+use Rattle.std.{specs.Io.KnownBytes.Appends, proofs.KnownBytes.Appends-trans, proofs.KnownBytes.Appends-kept}
+use Rattle.snap_stream.{specs.Streams.AppendsBeginning, proofs.Lines.beginning_behind}
+use Rattle.snap_restart.specs.{Report.report_text, declared.report.Report.Report}
+use Rattle.snap_server.specs.{Announced.Announced, declared.endpoint.Endpoint.Endpoint}
+use Rattle.snap_server.specs.{declared.fault.RunFault.RunFault, declared.fault.ServerFault.ServerFault}
 use Rattle.snap_serve.specs.declared.fault.HostFault.{HostFault}
 use Rattle.snap_serve.specs.declared.fault.HostFault.TheVariants.{Address, NoMemory, Output}
 use Rattle.snap_serve.specs.Serve.{EndsServing, HasFailed, IsFaulted, IsNamed, ListenFails, PrintFails, Site}
 use Rattle.snap_serve.specs.Serve.{failure_of, listening_text, opening_text, served_line}
+use Rattle.snap_server.specs.declared.fault.RunFault.TheVariants as run
+use Rattle.snap_server.specs.declared.fault.ServerFault.TheVariants as faults
 
 -- the report and the addresses were printed
 pub record IsListening {L : Type 0} (site : Site L) (l : L) (r : Report) (o n : Option (List ℕ))

@@ -1,12 +1,10 @@
 -- The scanners of one memory.
 use Rattle.std.specs.Prelude.{◌≡◌, ◌+◌, ◌≤◌, ℕ, List, [], ◌∷◌, slice_get, Option, Some, None}
-use Rattle.snap_memory.specs.Registers.{RegistersId, no_registers}
-use Rattle.snap_memory.specs.plan.Plan.{Plan}
-use Rattle.snap_memory.specs.Seat.{Known}
-use Rattle.snap_disk.specs.declared.disk.Disk as Disk
+use Rattle.snap_memory.specs.{Registers.RegistersId, Registers.no_registers, plan.Plan.Plan, Seat.Known}
 use Rattle.snap_restart.specs.Crash.{AreOpened}
 use Rattle.snap_service.specs.Memory.{IsOf, no_plan, number_of}
 use Rattle.snap_writer.specs.Writer.{WriterState}
+use Rattle.snap_disk.specs.declared.disk.Disk as Disk
 
 -- these are scanners of these registers
 abbrev pub AreScanners : RegistersId → Plan → List Known → Type 0

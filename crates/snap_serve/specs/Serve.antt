@@ -1,41 +1,29 @@
 -- How a server ends, and what it has printed by then.
-use Rattle.std.specs.Prelude.{◌≡◌, ◌≢◌, ◌⊎◌, ℕ, Bool, true, List, ◌++◌, flat_map, length, map, slice_get, Option}
-use Rattle.std.specs.Prelude.{Some, None, Result, Ok, Err}
-use Rattle.std.specs.Prelude.{codes}
-use Rattle.std.specs.Fmt.{decimal}
-use Rattle.std.specs.Io.KnownBytes.{Appends, Keeps}
-use Rattle.snap_disk.specs.declared.disk.Disk as Disk
+use Rattle.std.specs.Prelude.{◌≡◌, ◌≢◌, ◌⊎◌, ℕ, Bool, true, List, ◌++◌, flat_map, length, map, slice_get, Option, Some}
+use Rattle.std.specs.Prelude.{None, Result, Ok, Err, codes}
+use Rattle.std.specs.{Fmt.decimal, Io.KnownBytes.Appends, Io.KnownBytes.Keeps}
 use Rattle.snap_disk.specs.declared.refusal.Refusal.{Refusal}
-use Rattle.snap_disk.specs.declared.refusal.Refusal.TheVariants as refusal
-use Rattle.snap_restart.specs.Pairs.{Pairs}
-use Rattle.snap_writer.specs.Segment.{SegmentState}
-use Rattle.snap_writer.specs.Writer.{WriterState}
-use Rattle.snap_stream.specs.Streams.{AppendsBeginning, Complains, NamesFile, SaysLines, refused_line}
-use Rattle.snap_order.specs.declared.order.ServeOptions.{ServeOptions}
-use Rattle.snap_order.specs.declared.status.Exit.{Exit}
-use Rattle.snap_order.specs.declared.status.Status.{Status}
-use Rattle.snap_order.specs.declared.status.Status.TheVariants as status
 use Rattle.snap_restart.specs.Opened.{IsOpened, IsStopped, recovered}
 use Rattle.snap_restart.specs.Crash.{AreOpened, StayKept}
-use Rattle.snap_restart.specs.Report.{report_text}
-use Rattle.snap_restart.specs.declared.report.Report.{Report}
-use Rattle.snap_server.specs.Deals.{GivesSoMany}
-use Rattle.snap_server.specs.Endpoints.{endpoint_text}
-use Rattle.snap_server.specs.declared.endpoint.Endpoint.{Endpoint}
-use Rattle.snap_server.specs.declared.listen.Accepted.{Accepted}
+use Rattle.snap_restart.specs.{Pairs.Pairs, Report.report_text, declared.report.Report.Report}
+use Rattle.snap_writer.specs.{Segment.SegmentState, Writer.WriterState}
+use Rattle.snap_stream.specs.Streams.{AppendsBeginning, Complains, NamesFile, SaysLines, refused_line}
+use Rattle.snap_order.specs.declared.{order.ServeOptions.ServeOptions, status.Exit.Exit, status.Status.Status}
+use Rattle.snap_server.specs.{Deals.GivesSoMany, Endpoints.endpoint_text, declared.endpoint.Endpoint.Endpoint}
+use Rattle.snap_server.specs.{declared.listen.Accepted.Accepted, declared.listen.AcceptFault.AcceptFault}
+use Rattle.snap_server.specs.{declared.fault.RunFault.RunFault, declared.fault.ServerFault.ServerFault}
+use Rattle.snap_server.specs.declared.unix.BindFault.{BindFault}
+use Rattle.snap_serve.specs.declared.fault.HostFault.TheVariants.{Refused, NoMemory, Address, Output, Server}
+use Rattle.snap_serve.specs.declared.{bind.ListenFault.ListenFault, fault.HostFault.HostFault}
+use Rattle.snap_disk.specs.declared.disk.Disk as Disk
+use Rattle.snap_disk.specs.declared.refusal.Refusal.TheVariants as refusal
+use Rattle.snap_order.specs.declared.status.Status.TheVariants as status
 use Rattle.snap_server.specs.declared.listen.Listen as Listen
 use Rattle.snap_server.specs.declared.listen.LocalAddress as LocalAddress
-use Rattle.snap_server.specs.declared.listen.AcceptFault.{AcceptFault}
-use Rattle.snap_server.specs.declared.fault.RunFault.{RunFault}
 use Rattle.snap_server.specs.declared.fault.RunFault.TheVariants as run
-use Rattle.snap_server.specs.declared.fault.ServerFault.{ServerFault}
 use Rattle.snap_server.specs.declared.fault.ServerFault.TheVariants as faults
-use Rattle.snap_server.specs.declared.unix.BindFault.{BindFault}
 use Rattle.snap_server.specs.declared.unix.BindFault.TheVariants as fault_of_bind
 use Rattle.snap_serve.specs.declared.bind.Bind as Bind
-use Rattle.snap_serve.specs.declared.bind.ListenFault.{ListenFault}
-use Rattle.snap_serve.specs.declared.fault.HostFault.{HostFault}
-use Rattle.snap_serve.specs.declared.fault.HostFault.TheVariants.{Refused, NoMemory, Address, Output, Server}
 
 -- it ends with the number of connections that were accepted, or early
 abbrev pub End : Type 0

@@ -2,8 +2,7 @@
 ghost use Rattle.std.specs.Prelude.{◌≡◌, ◌-◌, ◌≤◌, Some, IfOk, IfErr, length};
 ghost use Rattle.std.specs.Thread.{IsSync, IsSend};
 ghost use Rattle.snap_session.specs.Asked.{AllAsked};
-ghost use Rattle.snap_server.specs.Announced.{Announced};
-ghost use Rattle.snap_server.specs.Deals.{GivesSoMany};
+ghost use Rattle.snap_server.specs.{Announced.Announced, Deals.GivesSoMany};
 
 use crate::observer::Observer;
 use snap_desk::{Desk, ReadOnlyService};

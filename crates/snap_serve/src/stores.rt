@@ -1,15 +1,13 @@
 //! The storer threads, and the workers' desks.
 ghost use Rattle.std.specs.Prelude.{◌≡◌, ◌+◌, ◌≤◌, ◌∷◌, ◌++◌, [], length, Some, IfOk, IfErr, OnOk};
-ghost use Rattle.snap_memory.specs.Rule.{segments};
-ghost use Rattle.snap_memory.specs.Seat.{own_of};
+ghost use Rattle.snap_memory.specs.{Rule.segments, Seat.own_of};
 ghost use Rattle.snap_service.specs.Asked.{AreAsOpened, IsAsOpened};
 ghost use Rattle.snap_service.specs.Memory.{AreWriters, IsOf, number_of};
 ghost use Rattle.snap_session.specs.Asked.{AllAsked};
 ghost use Rattle.snap_restart.specs.Closed.{AreBack};
 ghost use Rattle.snap_serve.specs.Handles.{AreHandles};
 ghost use Rattle.snap_serve.specs.Scanners.{AreScanners, HasFigures, MayServe};
-ghost use Rattle.snap_server.specs.Announced.{Announced};
-ghost use Rattle.snap_server.specs.Deals.{GivesSoMany};
+ghost use Rattle.snap_server.specs.{Announced.Announced, Deals.GivesSoMany};
 
 use crate::counted::CountedListener;
 use crate::observer::Observer;

@@ -1,10 +1,8 @@
 -- The calls of a listener, one after another.
-use Rattle.std.proofs.Common.{◌≡◌, ◌⊎◌, ℕ, zero, suc, nat_lt, if◌then◌else◌, Bool, true, false, List, [], ◌∷◌}
-use Rattle.std.proofs.Common.{length, slice_get, ◌+◌, Some, Result, Ok, Err}
-use Rattle.std.proofs.Common.{IfOk, arith, inl, inr, refl, sym, subst}
-use Rattle.snap_server.specs.declared.listen.Accepted.{Accepted}
-use Rattle.snap_server.specs.declared.listen.AcceptFault.{AcceptFault}
+use Rattle.std.proofs.Common.{◌≡◌, ◌⊎◌, ℕ, zero, suc, nat_lt, if◌then◌else◌, Bool, true, false, List, [], ◌∷◌, length}
+use Rattle.std.proofs.Common.{slice_get, ◌+◌, Some, Result, Ok, Err, IfOk, arith, inl, inr, refl, sym, subst}
 use Rattle.snap_server.specs.Deals.{AsksInVain, CallsInVain, Deals, Gives, GivesSoMany, turn_after, turn_of}
+use Rattle.snap_server.specs.declared.listen.{Accepted.Accepted, AcceptFault.AcceptFault}
 
 either : (b : Bool) (n : ℕ) → (if b then n else n) ≡ n
 either true n = refl

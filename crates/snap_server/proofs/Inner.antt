@@ -1,10 +1,7 @@
 -- A worker's connections are sessions on the service inside its own.
 use Rattle.std.proofs.Common.{None}
-use Rattle.snap_frame.specs.declared.request.Request.{Request}
-use Rattle.snap_frame.specs.declared.reply.Reply.{Reply}
-use Rattle.snap_session.specs.Talk.{start}
-use Rattle.snap_session.specs.Wrapped.{AnswersAs}
-use Rattle.snap_session.proofs.Wrapped.{moves_as, shared}
+use Rattle.snap_frame.specs.declared.{request.Request.Request, reply.Reply.Reply}
+use Rattle.snap_session.{specs.Talk.start, specs.Wrapped.AnswersAs, proofs.Wrapped.moves_as, proofs.Wrapped.shared}
 use Rattle.snap_server.specs.SharedService.{InnerLaw}
 
 pub inner : {S T : Type 0} (outer : S → Request → Reply → S → Type 0)

@@ -1,10 +1,8 @@
 -- A list that a loop makes, item by item, from an iterator's items.
-use Rattle.std.proofs.Common.{◌≡◌, ℕ, zero, suc, ◌+◌, List, [], ◌∷◌, ◌++◌, length, length-append, map, Bool, true}
-use Rattle.std.proofs.Common.{sym, ap, ◌∙◌}
-use Rattle.std.proofs.Common.{append_assoc, append-nil, arith}
-use Rattle.std.specs.List.{range_with_len}
-use Rattle.std.specs.Bool.{if◌then◌else◌}
+use Rattle.std.proofs.Common.{◌≡◌, ℕ, zero, suc, ◌+◌, List, [], ◌∷◌, ◌++◌, length, length-append, map, Bool, true, sym}
+use Rattle.std.proofs.Common.{ap, ◌∙◌, append_assoc, append-nil, arith}
 use Rattle.std.proofs.lemmas.List.{map_push, length-map}
+use Rattle.std.specs.{List.range_with_len, Bool.if◌then◌else◌}
 
 -- one more item is made
 pub made_more : {X Y : Type 0} (f : X → Y) (made new : List X) (x : X) (left rest all : List Y)

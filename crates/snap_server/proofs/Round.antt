@@ -1,26 +1,21 @@
 -- A round polls each connection of the list once.
-use Rattle.std.proofs.Common.{◌≡◌, ◌≢◌, ◌⊎◌, ℕ, ◌+◌, ◌<◌, List, [], ◌∷◌, ◌++◌, length, take, drop, get_or}
-use Rattle.std.proofs.Common.{length-take, append-nil}
-use Rattle.std.proofs.Common.{append_assoc, Option, Some, None, IsSome, inl, inr, refl, sym, ◌∙◌, ap, subst, arith}
-use Rattle.std.proofs.Common.{Contains}
-use mathlib.Core.Logic.{∥∥₁_elim}
-use mathlib.Core.HLevel.{⊥_prop}
+use Rattle.std.proofs.Common.{◌≡◌, ◌≢◌, ◌⊎◌, ℕ, ◌+◌, ◌<◌, List, [], ◌∷◌, ◌++◌, length, take, drop, get_or, length-take}
+use Rattle.std.proofs.Common.{append-nil, append_assoc, Option, Some, None, IsSome, inl, inr, refl, sym, ◌∙◌, ap, subst}
+use Rattle.std.proofs.Common.{arith, Contains}
 use Rattle.std.proofs.lemmas.Bool.{cases_eq}
 use Rattle.std.proofs.lemmas.List.{get_or-take, get_or_default, drop_more, take_more, take_all}
 use Rattle.std.proofs.lemmas.List.Elements.{Contains-append_left, Contains-push, Contains-push_cases}
 use Rattle.slab.specs.Slab.{Slab, get}
 use Rattle.slab.proofs.SlabLemmas.{Contains-cons, Contains-cons_cases}
-use Rattle.snap_frame.specs.declared.request.Request.{Request}
-use Rattle.snap_frame.specs.declared.reply.Reply.{Reply}
-use Rattle.snap_session.specs.Talk.{Moves}
-use Rattle.snap_session.proofs.Runs.{moves_joins}
-use Rattle.snap_server.specs.declared.connection.Connection.{Connection}
-use Rattle.snap_server.specs.declared.connection.ConnectionState.{ConnectionState}
+use Rattle.snap_frame.specs.declared.{request.Request.Request, reply.Reply.Reply}
+use Rattle.snap_session.{specs.Talk.Moves, proofs.Runs.moves_joins}
 use Rattle.snap_server.specs.declared.connection.ConnectionState.TheVariants.{Idle, Listed, Over}
 use Rattle.snap_server.specs.TurnList.{Lists, KeepsOthers, again_behind}
-use Rattle.snap_server.specs.Scene.{scene}
 use Rattle.snap_server.specs.Turns.{HadRounds, HadTurn, HadItsTurn}
-use Rattle.snap_server.proofs.Step.{same_value}
+use Rattle.snap_server.{specs.declared.connection.Connection.Connection, specs.Scene.scene}
+use Rattle.snap_server.{specs.declared.connection.ConnectionState.ConnectionState, proofs.Step.same_value}
+use mathlib.Core.Logic.{∥∥₁_elim}
+use mathlib.Core.HLevel.{⊥_prop}
 
 -- a key is on a list or not
 contains_or : (keys : List ℕ) (key : ℕ) → Contains keys key ⊎ (Contains keys key → ⊥)

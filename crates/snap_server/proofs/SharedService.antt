@@ -1,24 +1,18 @@
 -- Sessions that share a service.
 use Rattle.std.proofs.Common.{◌≡◌, ◌↔◌, ◌≤◌, ◌⊎◌, ℕ, [], ◌++◌, Some, None, refl, sym, ◌∙◌, ap, subst, inl, inr, arith}
-use mathlib.Core.Logic.{∥∥₁_map}
-use Rattle.std.specs.VecDeque.{deque_capacity}
-use Rattle.std.proofs.lemmas.Bool.{cases_eq}
+use Rattle.std.{specs.VecDeque.deque_capacity, proofs.lemmas.Bool.cases_eq}
 use Rattle.slab.specs.Slab.{Slab, get, slab_len, Updates}
-use Rattle.snap_frame.specs.declared.request.Request.{Request}
-use Rattle.snap_frame.specs.declared.reply.Reply.{Reply}
+use Rattle.snap_frame.specs.declared.{request.Request.Request, reply.Reply.Reply}
 use Rattle.snap_session.specs.Talk.{Talk, Moves, start}
 use Rattle.snap_session.specs.declared.service.Service.{Ghosts}
-use Rattle.snap_session.proofs.Runs.{moves_joins, run_then}
-use Rattle.snap_session.proofs.Continuation.{by_run}
-use Rattle.snap_session.proofs.TurnRuns.{begins}
-use Rattle.snap_session.proofs.SharedService.{has_turn, shares}
-use Rattle.snap_server.specs.declared.connection.Connection.{Connection}
-use Rattle.snap_server.specs.declared.connection.ConnectionState.TheVariants.{Listed}
-use Rattle.snap_server.specs.declared.sessions.Sessions.{Sessions}
+use Rattle.snap_session.proofs.{Runs.moves_joins, Runs.run_then, Continuation.by_run, TurnRuns.begins}
+use Rattle.snap_session.proofs.{SharedService.has_turn, SharedService.shares}
 use Rattle.snap_server.specs.SharedService.{IsSession, IsTurn, AreSessions}
-use Rattle.snap_server.specs.TurnList.{Lists}
 use Rattle.snap_server.proofs.Step.{IsStep, same_value, none_there}
+use Rattle.snap_server.specs.{declared.connection.Connection.Connection, declared.sessions.Sessions.Sessions}
+use Rattle.snap_server.specs.{declared.connection.ConnectionState.TheVariants.Listed, TurnList.Lists}
 use Rattle.snap_server.proofs.TurnList.{lists_step}
+use mathlib.Core.Logic.{∥∥₁_map}
 
 module _ {S : Type 0} (gives : S → Request → Reply → S → Type 0) where
   -- a poll of a session changes the service by answered requests

@@ -1,14 +1,12 @@
 -- How a step of one connection changes the table.
-use Rattle.std.proofs.Common.{◌≡◌, ◌↔◌, ◌<◌, ℕ, length, get_or, cond, None, Some, is_some, IsSome, sym, ◌∙◌, ap}
-use Rattle.std.proofs.Common.{subst, arith}
-use Rattle.std.proofs.lemmas.List.{get_or_past}
-use Rattle.std.proofs.lemmas.List.Sums.{sum_by-set}
+use Rattle.std.proofs.Common.{◌≡◌, ◌↔◌, ◌<◌, ℕ, length, get_or, cond, None, Some, is_some, IsSome, sym, ◌∙◌, ap, subst}
+use Rattle.std.proofs.Common.{arith}
+use Rattle.std.proofs.lemmas.List.{get_or_past, Sums.sum_by-set}
 use Rattle.slab.specs.Slab.{Slab, get, slab_len, with_value}
 use Rattle.slab.proofs.SlabLemmas.{Updates-with_value}
-use Rattle.snap_server.specs.declared.connection.Connection.{Connection}
-use Rattle.snap_server.specs.declared.connection.ConnectionState.{ConnectionState}
 use Rattle.snap_server.specs.declared.connection.ConnectionState.TheVariants.{Idle, Listed, Over}
 use Rattle.snap_server.specs.TurnList.{enlisted, KeepsOthers}
+use Rattle.snap_server.specs.declared.connection.{Connection.Connection, ConnectionState.ConnectionState}
 
 -- a connection that is idle or closed isn't on the list
 pub not_both : (s : ConnectionState) → s ≡ Idle → s ≡ Listed → ⊥

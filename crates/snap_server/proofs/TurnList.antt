@@ -1,23 +1,17 @@
 -- The list of the connections to poll.
 use Rattle.std.proofs.Common.{◌≡◌, ◌≢◌, ◌↔◌, ◌⊎◌, ℕ, suc, ◌+◌, ◌<◌, ◌≤◌, List, [], ◌∷◌, ◌++◌, length, length-append}
-use Rattle.std.proofs.Common.{get_or, set}
-use Rattle.std.proofs.Common.{Option, Some, None, is_some, IsSome, cond, count_by, refl, sym, ◌∙◌, ap, subst, inl}
-use Rattle.std.proofs.Common.{inr, arith, AllPairs}
-use Rattle.std.proofs.Common.{Contains}
-use mathlib.Core.Logic.{∥∥₁_elim}
-use Rattle.std.specs.Coded.{le_prop}
-use Rattle.std.proofs.lemmas.Bool.{cases_eq}
-use Rattle.std.proofs.lemmas.List.{get_or-set_other, get_or_past}
-use Rattle.std.proofs.lemmas.List.Sums.{sum_by-set}
+use Rattle.std.proofs.Common.{get_or, set, Option, Some, None, is_some, IsSome, cond, count_by, refl, sym, ◌∙◌, ap}
+use Rattle.std.proofs.Common.{subst, inl, inr, arith, AllPairs, Contains}
 use Rattle.std.proofs.lemmas.List.Elements.{Contains-get_or, Contains-append_left, Contains-push, Contains-push_cases}
-use Rattle.std.proofs.lemmas.List.Quantifiers.{all_pairs_push}
+use Rattle.std.{specs.Coded.le_prop, proofs.lemmas.List.get_or-set_other, proofs.lemmas.List.Quantifiers.all_pairs_push}
+use Rattle.std.{proofs.lemmas.Bool.cases_eq, proofs.lemmas.List.get_or_past, proofs.lemmas.List.Sums.sum_by-set}
 use Rattle.slab.specs.Slab.{Slab, get, slab_len, Updates}
 use Rattle.slab.proofs.SlabLemmas.{Contains-cons, Contains-cons_cases}
-use Rattle.snap_server.specs.declared.connection.Connection.{Connection}
-use Rattle.snap_server.specs.declared.connection.ConnectionState.{ConnectionState}
 use Rattle.snap_server.specs.declared.connection.ConnectionState.TheVariants.{Idle, Listed, Over}
 use Rattle.snap_server.specs.TurnList.{IsListed, Lists, enlisted, listed_behind, KeepsOthers}
 use Rattle.snap_server.proofs.Step.{IsStep, same_value, none_there, not_both}
+use Rattle.snap_server.specs.declared.connection.{Connection.Connection, ConnectionState.ConnectionState}
+use mathlib.Core.Logic.{∥∥₁_elim}
 
 abbrev Apart : ℕ → ℕ → Type 0
 Apart a b = a ≢ b

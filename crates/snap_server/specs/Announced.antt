@@ -1,7 +1,6 @@
 -- Whether a server was announced, by its result.
 use Rattle.std.specs.Prelude.{◌≡◌, ◌&&◌, ℕ, Bool, true, false, if◌then◌else◌, Result, Ok, Err}
-use Rattle.snap_server.specs.declared.fault.RunFault.{RunFault}
-use Rattle.snap_server.specs.declared.fault.RunFault.TheVariants.{Server, Announcement}
+use Rattle.snap_server.specs.declared.fault.RunFault.{RunFault, TheVariants.Server, TheVariants.Announcement}
 use Rattle.snap_server.specs.declared.fault.ServerFault.TheVariants as faults
 
 -- A server that has served was announced before, once. A server that got no thread, no event queue or no memory wasn't.

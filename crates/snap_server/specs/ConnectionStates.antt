@@ -1,12 +1,9 @@
 -- The state of a connection after a poll, and how it may be closed.
 use Rattle.std.specs.Prelude.{◌≡◌, ◌⊎◌, [], None}
-use Rattle.snap_session.specs.Talk.{Talk}
-use Rattle.snap_session.specs.Turns.{StandsAt, EndsAt}
 use Rattle.snap_session.specs.declared.turns.Polled.TheVariants.{NeedsInput, NeedsRoom, NeedsOutcome}
-use Rattle.snap_server.specs.declared.connection.Connection.{Connection}
-use Rattle.snap_server.specs.declared.connection.Closed.{Closed}
-use Rattle.snap_server.specs.declared.connection.CloseReason.{CloseReason}
+use Rattle.snap_session.specs.{Talk.Talk, Turns.StandsAt, Turns.EndsAt}
 use Rattle.snap_server.specs.declared.connection.CloseReason.TheVariants.{Session, Lost, Silent, Stopped}
+use Rattle.snap_server.specs.declared.connection.{Connection.Connection, Closed.Closed, CloseReason.CloseReason}
 use Rattle.snap_server.specs.declared.connection.ConnectionState.TheVariants.{Over}
 
 -- nothing can be done before an event of the socket, or before the outcome arrives

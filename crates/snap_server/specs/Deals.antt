@@ -1,8 +1,7 @@
 -- The connections that a listener accepts, and the senders to which they are delivered.
 use Rattle.std.specs.Prelude.{◌≡◌, ℕ, zero, suc, ◌+◌, nat_lt, if◌then◌else◌, List, [], ◌∷◌, length, slice_get, Some}
 use Rattle.std.specs.Prelude.{Result, Ok, Err}
-use Rattle.snap_server.specs.declared.listen.Accepted.{Accepted}
-use Rattle.snap_server.specs.declared.listen.AcceptFault.{AcceptFault}
+use Rattle.snap_server.specs.declared.listen.{Accepted.Accepted, AcceptFault.AcceptFault}
 
 -- the index of the next worker among `many`: after the last comes the first
 abbrev pub turn_of : ℕ → ℕ → ℕ

@@ -1,8 +1,7 @@
 -- Sessions that share a service.
 use Rattle.std.specs.Prelude.{◌≡◌, ℕ, Some, None}
 use Rattle.slab.specs.Slab.{Slab, get}
-use Rattle.snap_frame.specs.declared.request.Request.{Request}
-use Rattle.snap_frame.specs.declared.reply.Reply.{Reply}
+use Rattle.snap_frame.specs.declared.{request.Request.Request, reply.Reply.Reply}
 use Rattle.snap_session.specs.Talk.{Talk, Stays, Moves, start}
 use Rattle.snap_session.specs.Turns.{Turns}
 use Rattle.snap_server.specs.declared.connection.Connection.{Connection}

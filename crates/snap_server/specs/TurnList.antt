@@ -2,9 +2,8 @@
 use Rattle.std.specs.Prelude.{◌≡◌, ◌≢◌, ◌↔◌, ◌++◌, ℕ, List, [], ◌∷◌, Some}
 use Rattle.std.specs.List.{AllPairs, Contains}
 use Rattle.slab.specs.Slab.{Slab, get}
-use Rattle.snap_server.specs.declared.connection.Connection.{Connection}
-use Rattle.snap_server.specs.declared.connection.ConnectionState.{ConnectionState}
 use Rattle.snap_server.specs.declared.connection.ConnectionState.TheVariants.{Idle, Listed, Over}
+use Rattle.snap_server.specs.declared.connection.{Connection.Connection, ConnectionState.ConnectionState}
 
 -- the connection of this key is marked as listed
 abbrev pub IsListed : Slab Connection → ℕ → Type 0

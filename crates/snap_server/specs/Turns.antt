@@ -1,15 +1,12 @@
 -- The rounds of one poll of a connection.
 use Rattle.std.specs.Prelude.{◌≡◌, ℕ, Some}
 use Rattle.slab.specs.Slab.{Slab, get}
-use Rattle.snap_frame.specs.declared.request.Request.{Request}
-use Rattle.snap_frame.specs.declared.reply.Reply.{Reply}
+use Rattle.snap_frame.specs.declared.{request.Request.Request, reply.Reply.Reply}
 use Rattle.snap_session.specs.Talk.{Moves}
 use Rattle.snap_session.specs.Turns.{Scene, FewRounds, WholeRounds, most_rounds}
-use Rattle.snap_server.specs.declared.connection.Connection.{Connection}
-use Rattle.snap_server.specs.declared.connection.ConnectionState.{ConnectionState}
 use Rattle.snap_server.specs.declared.connection.ConnectionState.TheVariants.{Idle, Listed, Over}
-use Rattle.snap_server.specs.TurnList.{KeepsOthers}
-use Rattle.snap_server.specs.Scene.{scene}
+use Rattle.snap_server.specs.declared.connection.Connection.{Connection}
+use Rattle.snap_server.specs.{declared.connection.ConnectionState.ConnectionState, TurnList.KeepsOthers, Scene.scene}
 
 -- The rounds of one poll, with reads of at most `most` bytes, by the connection's state after it. If it is listed
 -- again, the poll took all rounds that it may take. Otherwise it would block before the last of them, or is closed.

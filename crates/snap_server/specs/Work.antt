@@ -1,10 +1,8 @@
 -- How a worker ends.
 use Rattle.std.specs.Prelude.{◌≡◌, false}
 use Rattle.slab.specs.Slab.{slab_len}
-use Rattle.snap_frame.specs.declared.request.Request.{Request}
-use Rattle.snap_frame.specs.declared.reply.Reply.{Reply}
-use Rattle.snap_session.specs.Talk.{Moves}
-use Rattle.snap_session.specs.declared.service.Service.{Ghosts}
+use Rattle.snap_frame.specs.declared.{request.Request.Request, reply.Reply.Reply}
+use Rattle.snap_session.specs.{Talk.Moves, declared.service.Service.Ghosts}
 use Rattle.snap_server.specs.declared.worker.Worker.{Worker}
 
 -- The worker took connections until no more would arrive. None of them is left, and its service has changed by answered

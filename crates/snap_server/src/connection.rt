@@ -1,10 +1,8 @@
 //! One connection of a worker: its socket, its session and its state.
 ghost use Rattle.std.specs.Prelude.{◌≡◌, ◌↔◌, ◌≤◌, None, OnSome, IfSome, IsSome, length, true, false};
-ghost use Rattle.snap_session.specs.Asked.{AllAsked};
 ghost use Rattle.snap_session.specs.Talk.{HoldsFrameAnd, start, most_owed};
-ghost use Rattle.snap_session.specs.Turns.{StandsAt, TakesRounds};
-ghost use Rattle.snap_server.specs.Scene.{scene};
-ghost use Rattle.snap_server.specs.declared.connection.TheConstants.{PIECE};
+ghost use Rattle.snap_session.specs.{Asked.AllAsked, Turns.StandsAt, Turns.TakesRounds};
+ghost use Rattle.snap_server.specs.{Scene.scene, declared.connection.TheConstants.PIECE};
 
 use crate::endpoint::Peer;
 use crate::idle_timeout::{IdleCheck, IdleTimeout};
@@ -67,9 +65,7 @@ pub struct Connection {
 }
 
 impl Connection {
-    ghost use Rattle.snap_server.specs.SharedService.{IsTurn};
-    ghost use Rattle.snap_server.specs.TurnList.{enlisted};
-    ghost use Rattle.snap_server.specs.ConnectionStates.{MayEnd};
+    ghost use Rattle.snap_server.specs.{SharedService.IsTurn, TurnList.enlisted, ConnectionStates.MayEnd};
 
     /// A new connection, from which nothing was read yet.
     pub fn new(alloc: Global, arrival: Accepted) -> Connection

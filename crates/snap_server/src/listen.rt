@@ -1,8 +1,7 @@
 //! Listeners, and the connections that they accept.
 ghost use Rattle.std.specs.Prelude.{◌≡◌, ℕ, IfErr, List, Result};
 ghost use Rattle.snap_server.specs.declared.endpoint.Endpoint.{Endpoint};
-ghost use Rattle.snap_server.specs.declared.listen.Accepted.{Accepted};
-ghost use Rattle.snap_server.specs.declared.listen.AcceptFault.{AcceptFault};
+ghost use Rattle.snap_server.specs.declared.listen.{Accepted.Accepted, AcceptFault.AcceptFault};
 
 use crate::endpoint::{Endpoint, Peer};
 use crate::stream::Stream;

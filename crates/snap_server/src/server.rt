@@ -1,7 +1,6 @@
 //! The threads of a server.
 ghost use Rattle.std.specs.Prelude.{◌≡◌, ◌⊎◌, [], All, IfOk, IfErr, OnOk, Some, map, true, vec_len};
-ghost use Rattle.std.specs.List.{range_with_len};
-ghost use Rattle.std.specs.Thread.{IsSync, IsSend};
+ghost use Rattle.std.specs.{List.range_with_len, Thread.IsSync, Thread.IsSend};
 ghost use Rattle.snap_session.specs.Asked.{AllAsked};
 ghost use Rattle.snap_server.specs.Announced.{Announced, end_of, was_announced};
 ghost use Rattle.snap_server.specs.Deals.{Deals, GivesSoMany};

@@ -1,17 +1,14 @@
 //! The connections of a worker, whose sessions share its service.
 ghost use Rattle.std.specs.Prelude.{◌≡◌, ◌≢◌, ◌⊎◌, ◌↔◌, ◌≤◌, ◌+◌, ◌++◌, ℕ, length, IfSome, IfNone, IsSome, OnSome};
 ghost use Rattle.std.specs.Prelude.{Some, None, true, false, option_to_list, []};
-ghost use Rattle.std.specs.VecDeque.{deque_len, deque_capacity};
-ghost use Rattle.std.specs.List.{Contains};
+ghost use Rattle.std.specs.{VecDeque.deque_len, VecDeque.deque_capacity, List.Contains};
 ghost use Rattle.slab.specs.Slab.{get, slab_len, SameValues};
 ghost use Rattle.snap_session.specs.Asked.{AllAsked};
 ghost use Rattle.snap_session.specs.Talk.{Talk, Moves, start};
 ghost use Rattle.snap_server.specs.SharedService.{AreSessions, IsTurn};
 ghost use Rattle.snap_server.specs.TurnList.{Lists, enlisted, listed_behind, again_behind, KeepsOthers};
-ghost use Rattle.snap_server.specs.Scene.{scene};
 ghost use Rattle.snap_server.specs.ConnectionStates.{Waits, HasEnded};
-ghost use Rattle.snap_server.specs.Turns.{HadRounds};
-ghost use Rattle.snap_server.specs.declared.connection.TheConstants.{PIECE};
+ghost use Rattle.snap_server.specs.{Scene.scene, Turns.HadRounds, declared.connection.TheConstants.PIECE};
 
 use crate::connection::{CloseReason, Closed, Connection, ConnectionState, PIECE};
 use crate::idle_timeout::IdleCheck;

@@ -1,11 +1,9 @@
 //! A worker: one thread that serves many connections.
 ghost use Rattle.std.specs.Prelude.{◌≡◌, ◌⊎◌, ◌++◌, ◌∷◌, ℕ, List, [], Some, OnOk, IfOk, IfErr, true, false};
 ghost use Rattle.slab.specs.Slab.{get, slab_len};
-ghost use Rattle.snap_session.specs.Asked.{AllAsked};
-ghost use Rattle.snap_session.specs.Talk.{Moves};
-ghost use Rattle.snap_server.specs.TurnList.{KeepsOthers};
+ghost use Rattle.snap_session.specs.{Asked.AllAsked, Talk.Moves};
 ghost use Rattle.snap_server.specs.Turns.{HadTurn, HadItsTurn};
-ghost use Rattle.snap_server.specs.declared.connection.TheConstants.{PIECE};
+ghost use Rattle.snap_server.specs.{TurnList.KeepsOthers, declared.connection.TheConstants.PIECE};
 
 use crate::connection::{CloseReason, Closed, Connection, PIECE};
 use crate::connection_limit::ConnectionLimit;

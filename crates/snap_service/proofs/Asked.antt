@@ -1,25 +1,19 @@
 -- An update that was asked for leaves a writer that stores what was asked for.
-use Rattle.std.proofs.Common.{◌≡◌, ◌≢◌, ℕ, ◌+◌, ◌⊎◌, List, [], Result, Ok, Err, OnOk, OnErr, Some, None, inl, inr}
-use Rattle.std.proofs.Common.{ap, sym, subst, ◌∙◌}
+use Rattle.std.proofs.Common.{◌≡◌, ◌≢◌, ℕ, ◌+◌, ◌⊎◌, List, [], Result, Ok, Err, OnOk, OnErr, Some, None, inl, inr, ap}
+use Rattle.std.proofs.Common.{sym, subst, ◌∙◌}
 use Rattle.std.proofs.lemmas.Option.{same_Some}
 use Rattle.snap_disk.specs.declared.refusal.Refusal.{Refusal}
-use Rattle.snap_disk.specs.declared.disk.Disk as Disk
-use Rattle.snap_history.specs.History.{number_after, value_after}
-use Rattle.snap_history.specs.Limits.{IsNumber}
+use Rattle.snap_history.specs.{History.number_after, History.value_after, Limits.IsNumber}
 use Rattle.snap_register.specs.History.{starts}
 use Rattle.snap_segment.specs.Segment.{SegmentState}
-use Rattle.snap_memory.specs.plan.Plan.{Plan}
-use Rattle.snap_memory.specs.Seat.{own_of}
-use Rattle.snap_writer.specs.Writer.{WriterState, number_of}
-use Rattle.snap_writer.specs.Judge.{IsJudged}
+use Rattle.snap_memory.specs.{plan.Plan.Plan, Seat.own_of}
 use Rattle.snap_writer.specs.Update.{Advances, Fails, IsSameSeat}
-use Rattle.snap_writer.specs.Updated.{IsUpdated}
-use Rattle.snap_writer.specs.declared.judgement.Judgement.{Judgement}
-use Rattle.snap_writer.specs.declared.judgement.Judgement.TheVariants.{TooLong, Stored, Conflict, OutOfStep}
-use Rattle.snap_writer.specs.declared.judgement.Judgement.TheVariants.{Exhausted, Fenced, Worn, Go}
-use Rattle.snap_writer.proofs.Judgements.{some_rule}
-use Rattle.snap_service.specs.Updated.{HasMet}
-use Rattle.snap_service.specs.Asked.{IsAsOpened, StoresAsked}
+use Rattle.snap_writer.specs.declared.judgement.Judgement.TheVariants.{TooLong, Stored, Conflict, OutOfStep, Exhausted}
+use Rattle.snap_writer.specs.declared.judgement.Judgement.TheVariants.{Fenced, Worn, Go}
+use Rattle.snap_writer.{specs.Writer.WriterState, specs.Writer.number_of, specs.Judge.IsJudged, specs.Updated.IsUpdated}
+use Rattle.snap_writer.{specs.declared.judgement.Judgement.Judgement, proofs.Judgements.some_rule}
+use Rattle.snap_service.specs.{Updated.HasMet, Asked.IsAsOpened, Asked.StoresAsked}
+use Rattle.snap_disk.specs.declared.disk.Disk as Disk
 
 module _ {D : Type 0} (asked : ℕ → ℕ → List ℕ → Type 0) where
   -- what a writer of this segment with this file stores was asked for

@@ -1,20 +1,15 @@
 -- Lists of entries.
 use Rattle.std.proofs.Common.{◌≡◌, ℕ, zero, suc, ◌+◌, ◌-◌, ◌^◌, ◌<◌, ◌≤◌, All, List, [], ◌∷◌, ◌++◌, length, map}
-use Rattle.std.proofs.Common.{slice_get, get_or}
-use Rattle.std.proofs.Common.{Some, ap, sym, subst, ◌∙◌, arith}
-use Rattle.std.specs.Option.{option_map}
-use Rattle.std.proofs.lemmas.List.{length-map, length_push}
-use Rattle.std.proofs.lemmas.List.Elements.{All-push}
+use Rattle.std.proofs.Common.{slice_get, get_or, Some, ap, sym, subst, ◌∙◌, arith}
 use Rattle.std.proofs.lemmas.Option.{slice_get-get_or, slice_get-map, same_Some}
-use Rattle.snap_history.specs.Limits.{IsNumber, IsShort}
-use Rattle.snap_history.proofs.Beginnings.{number-beginning}
-use Rattle.snap_register.specs.History.{starts}
-use Rattle.snap_register.specs.Rule.{segments}
+use Rattle.std.specs.Option.{option_map}
+use Rattle.std.proofs.lemmas.List.{length-map, length_push, Elements.All-push}
+use Rattle.snap_history.{specs.Limits.IsNumber, specs.Limits.IsShort, proofs.Beginnings.number-beginning}
 use Rattle.snap_register.specs.Seat.{Known, IsBelow, number_in, value_in}
+use Rattle.snap_register.specs.{History.starts, Rule.segments}
 use Rattle.snap_scan.specs.Sets.{Names, named, named_below, size, IsAt}
-use Rattle.snap_scan.specs.Values.{pair_of}
-use Rattle.snap_scan.specs.declared.segment_value.SegmentValue.{SegmentValue}
 use Rattle.snap_scan.proofs.Sets.{few, at_named, at_below, ascends, some_among, with, more}
+use Rattle.snap_scan.specs.{Values.pair_of, declared.segment_value.SegmentValue.SegmentValue}
 use Rattle.snap_memory.specs.Scans.{IsPart}
 use Rattle.snap_frame.specs.declared.named.NamedValue.{NamedValue}
 use Rattle.snap_frame.specs.Messages.{IsValue, IsNamedValue, Ascend, AreEntries}

@@ -4,13 +4,10 @@ use Rattle.snap_disk.specs.declared.refusal.Refusal.{Refusal}
 use Rattle.snap_history.specs.Limits.{IsNumber, IsShort}
 use Rattle.snap_segment.specs.Segment.{SegmentState}
 use Rattle.snap_writer.specs.Writer.{WriterState, number_of, value_of}
-use Rattle.snap_writer.specs.Judge.{IsJudged, IsAnswer}
-use Rattle.snap_writer.specs.Update.{Advances, Fails}
-use Rattle.snap_writer.specs.declared.judgement.Judgement.{Judgement}
-use Rattle.snap_writer.specs.declared.judgement.Judgement.TheVariants.{TooLong, Stored, Conflict, OutOfStep}
-use Rattle.snap_writer.specs.declared.judgement.Judgement.TheVariants.{Exhausted, Fenced, Worn}
-use Rattle.snap_writer.specs.declared.judgement.Judgement.TheVariants.{Go}
-use Rattle.snap_writer.proofs.Judgements.{some_rule}
+use Rattle.snap_writer.specs.declared.judgement.Judgement.TheVariants.{TooLong, Stored, Conflict, OutOfStep, Exhausted}
+use Rattle.snap_writer.specs.declared.judgement.Judgement.TheVariants.{Fenced, Worn, Go}
+use Rattle.snap_writer.{specs.Judge.IsJudged, specs.Judge.IsAnswer, specs.Update.Advances, specs.Update.Fails}
+use Rattle.snap_writer.{specs.declared.judgement.Judgement.Judgement, proofs.Judgements.some_rule}
 use Rattle.snap_service.specs.Settled.{MayRefuse, IsTellable}
 
 module _ {D : Type 0} (old new : WriterState D) (k : ℕ) (v : List ℕ) where

@@ -2,19 +2,13 @@
 use Rattle.std.specs.Prelude.{◌≡◌, ℕ, ◌^◌, ◌<◌, ◌≤◌, ◌⊎◌, List, length, map}
 use Rattle.snap_disk.specs.declared.refusal.Refusal.{Refusal}
 use Rattle.snap_disk.specs.declared.refusal.Refusal.TheVariants.{NoSegment, TooLong, NoMemory, Worn}
-use Rattle.snap_history.specs.declared.limits.TheConstants.{MAX_VALUE_LEN}
-use Rattle.snap_history.specs.Limits.{IsShort}
-use Rattle.snap_memory.specs.Rule.{segments}
-use Rattle.snap_memory.specs.Seat.{Known, Grows}
+use Rattle.snap_history.specs.{declared.limits.TheConstants.MAX_VALUE_LEN, Limits.IsShort}
 use Rattle.snap_memory.specs.Scans.{IsSnapshot, IsPart, TakesLooks, TakesLooksOf, MayRefuse}
-use Rattle.snap_memory.specs.Sets.{named, size}
-use Rattle.snap_memory.specs.Values.{pair_of}
-use Rattle.snap_frame.specs.declared.request.Request.{Request}
-use Rattle.snap_frame.specs.declared.request.Request.TheVariants as request
-use Rattle.snap_frame.specs.declared.reply.Reply.{Reply}
+use Rattle.snap_memory.specs.{Rule.segments, Seat.Known, Seat.Grows, Sets.named, Sets.size, Values.pair_of}
 use Rattle.snap_frame.specs.declared.reply.Reply.TheVariants.{Stored, Snapshot, Status, Part, Refused}
-use Rattle.snap_frame.specs.declared.named.NamedValue.{NamedValue}
+use Rattle.snap_frame.specs.declared.{request.Request.Request, reply.Reply.Reply, named.NamedValue.NamedValue}
 use Rattle.snap_service.specs.Settled.{IsSettledAt}
+use Rattle.snap_frame.specs.declared.request.Request.TheVariants as request
 
 -- the reply to an update of segment i to number k and value v
 pub data AnswersUpdate (a : Known) (i k : ℕ) (v : List ℕ) (reply : Reply) (b : Known) : Type 0 where

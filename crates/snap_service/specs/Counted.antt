@@ -1,9 +1,7 @@
 -- Counters, and how much a request may add to them.
 use Rattle.std.specs.Prelude.{◌≡◌, ℕ, ◌+◌, ◌%◌, ◌^◌, ◌<◌, ◌≤◌, ◌⊎◌, List, length}
-use Rattle.snap_history.specs.declared.limits.TheConstants.{MAX_VALUE_LEN}
-use Rattle.snap_history.specs.Limits.{IsShort}
-use Rattle.snap_memory.specs.Rule.{segments}
-use Rattle.snap_memory.specs.Seat.{Known}
+use Rattle.snap_history.specs.{declared.limits.TheConstants.MAX_VALUE_LEN, Limits.IsShort}
+use Rattle.snap_memory.specs.{Rule.segments, Seat.Known}
 use Rattle.snap_frame.specs.declared.request.Request.{Request}
 use Rattle.snap_frame.specs.declared.request.Request.TheVariants as request
 

@@ -1,9 +1,6 @@
 -- Seats of one memory.
 use Rattle.std.specs.Prelude.{◌≡◌, ◌≢◌, ℕ, List, [], length, slice_get, Some}
-use Rattle.snap_memory.specs.Registers.{RegistersId}
-use Rattle.snap_memory.specs.plan.Plan.{Plan}
-use Rattle.snap_memory.specs.Rule.{segments}
-use Rattle.snap_memory.specs.Seat.{Known, own_of}
+use Rattle.snap_memory.specs.{Registers.RegistersId, plan.Plan.Plan, Rule.segments, Seat.Known, Seat.own_of}
 use Rattle.snap_writer.specs.Writer.{WriterState}
 
 -- the seat belongs to these registers

@@ -1,13 +1,12 @@
 -- The reply to an update, by its segment's number and value.
 use Rattle.std.specs.Prelude.{◌≡◌, ◌≢◌, ℕ, ◌+◌, List, Result, Ok, Err}
 use Rattle.snap_disk.specs.declared.refusal.Refusal.{Refusal}
-use Rattle.snap_disk.specs.declared.refusal.Refusal.TheVariants as refusal
-use Rattle.snap_history.specs.declared.limits.TheConstants.{LAST_NUMBER}
-use Rattle.snap_history.specs.Limits.{IsNumber}
+use Rattle.snap_history.specs.{declared.limits.TheConstants.LAST_NUMBER, Limits.IsNumber}
 use Rattle.snap_memory.specs.Seat.{Known, number_in, value_in}
 use Rattle.snap_frame.specs.declared.reply.Reply.{Reply}
 use Rattle.snap_frame.specs.declared.reply.Reply.TheVariants.{Stored, Snapshot, Status, Part, Refused}
 use Rattle.snap_writer.specs.Writer.{WriterState, number_of, value_of}
+use Rattle.snap_disk.specs.declared.refusal.Refusal.TheVariants as refusal
 
 -- an update to number k and value v may be refused with this reason, if its segment has number c and value u
 abbrev pub MayRefuse : ℕ → List ℕ → ℕ → List ℕ → Refusal → Type 0

@@ -3,8 +3,7 @@ use Rattle.std.specs.Prelude.{◌≡◌, ℕ, List, Result}
 use Rattle.snap_disk.specs.declared.refusal.Refusal.{Refusal}
 use Rattle.snap_memory.specs.Seat.{Known, Meets, own_of}
 use Rattle.snap_writer.specs.Writer.{WriterState, number_of}
-use Rattle.snap_frame.specs.declared.reply.Reply.{Reply}
-use Rattle.snap_frame.specs.Messages.{IsInLimits}
+use Rattle.snap_frame.specs.{declared.reply.Reply.Reply, Messages.IsInLimits}
 use Rattle.snap_service.specs.Settled.{reply_of, IsTellable, IsSettledAt}
 pub use Rattle.snap_writer.specs.Updated.{IsUpdated}
 use Rattle.snap_disk.specs.declared.disk.Disk as Disk

@@ -3,9 +3,7 @@ ghost use Rattle.std.specs.Prelude.{◌≡◌, ◌<◌};
 ghost use Rattle.snap_history.specs.Limits.{IsShort};
 ghost use Rattle.snap_memory.specs.Rule.{segments};
 ghost use Rattle.snap_frame.specs.Messages.{IsInLimits, IsStatus};
-ghost use Rattle.snap_service.specs.Memory.{IsOf};
-ghost use Rattle.snap_service.specs.Answers.{AnswersUpdate};
-ghost use Rattle.snap_service.specs.Counted.{next_count, LooksOnce};
+ghost use Rattle.snap_service.specs.{Memory.IsOf, Answers.AnswersUpdate, Counted.next_count, Counted.LooksOnce};
 
 use crate::locked_writer::{LockToken, LockedWriter};
 use crate::memory::Memory;

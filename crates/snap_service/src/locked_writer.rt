@@ -1,14 +1,12 @@
 //! A writer under its lock, and the token that changing it needs.
 ghost use Rattle.std.specs.Prelude.{◌≡◌, ◌≢◌, ◌+◌, ◌<◌, ◌↔◌, IsTrue, IsSome};
 ghost use Rattle.snap_history.specs.Limits.{IsShort};
-ghost use Rattle.snap_memory.specs.Rule.{segments};
-ghost use Rattle.snap_memory.specs.Seat.{own_of};
+ghost use Rattle.snap_memory.specs.{Rule.segments, Seat.own_of};
 ghost use Rattle.snap_frame.specs.Messages.{IsInLimits, IsStatus};
 ghost use Rattle.snap_writer.specs.Writer.{number_of};
-ghost use Rattle.snap_service.specs.Memory.{IsOf};
 ghost use Rattle.snap_service.specs.Answers.{AnswersUpdate, AnswersScan, AnswersPart};
-ghost use Rattle.snap_service.specs.Updated.{IsUpdatedAndTold};
 ghost use Rattle.snap_service.specs.Counted.{next_count, CountsNothing, LooksOnce};
+ghost use Rattle.snap_service.specs.{Memory.IsOf, Updated.IsUpdatedAndTold};
 
 use crate::memory::Memory;
 use crate::scans::{answer_part, answer_scan};

@@ -3,8 +3,7 @@
 //! A value out of a lock or a message is known by its type alone, so its type says which memory it
 //! belongs to.
 ghost use Rattle.std.specs.Prelude.{ℕ, List};
-ghost use Rattle.snap_memory.specs.Registers.{RegistersId, no_registers};
-ghost use Rattle.snap_memory.specs.plan.Plan.{Plan};
+ghost use Rattle.snap_memory.specs.{Registers.RegistersId, Registers.no_registers, plan.Plan.Plan};
 ghost use Rattle.snap_service.specs.Memory.{no_plan};
 
 use std::marker::Brand;

@@ -3,13 +3,7 @@ ghost use Rattle.std.specs.Prelude.{◌≡◌, ◌<◌};
 ghost use Rattle.snap_frame.specs.Messages.{IsInLimits, IsAskable};
 ghost use Rattle.snap_service.specs.Memory.{IsOf};
 ghost use Rattle.snap_service.specs.Counted.{Counts, CountsNothing, CountsUpdate};
-ghost use Rattle.snap_service.specs.Answers.{
-  Answers,
-  AnswersUpdate,
-  AnswersScan,
-  AnswersPart,
-  AnswersStatus,
-};
+ghost use Rattle.snap_service.specs.Answers.{Answers, AnswersUpdate, AnswersScan, AnswersPart, AnswersStatus};
 
 use crate::locked_writer::LockToken;
 use crate::memory::Memory;
@@ -40,8 +34,7 @@ pub struct Node<'a, R: Wait, M: Memory, D: Disk + Drop> {
 }
 
 impl<'a, R: Wait, M: Memory, D: Disk + Drop> Model for Node<'a, R, M, D> {
-    ghost use Rattle.snap_service.specs.Counted.{NodeState};
-    ghost use Rattle.snap_service.specs.Memory.{IsOf};
+    ghost use Rattle.snap_service.specs.{Counted.NodeState, Memory.IsOf};
 
     ghost Value = { NodeState };
 
@@ -149,8 +142,7 @@ impl<'a, R: Wait, M: Memory, D: Disk + Drop> Node<'a, R, M, D> {
 }
 
 impl<'a, R: Wait, M: Memory, D: Disk + Drop> Service for Node<'a, R, M, D> {
-    ghost use Rattle.snap_service.specs.Answers.{Answers};
-    ghost use Rattle.snap_service.specs.Counted.{Counts};
+    ghost use Rattle.snap_service.specs.{Answers.Answers, Counted.Counts};
 
     type Outcome = ();
 

@@ -1,8 +1,7 @@
 //! Scans as replies.
 ghost use Rattle.std.specs.Prelude.{◌≡◌, ◌<◌, ◌≤◌, length, map, All, IfOk};
 ghost use Rattle.snap_history.specs.Limits.{IsShort};
-ghost use Rattle.snap_memory.specs.Sets.{named, size};
-ghost use Rattle.snap_memory.specs.Values.{pair_of};
+ghost use Rattle.snap_memory.specs.{Sets.named, Sets.size, Values.pair_of};
 ghost use Rattle.snap_frame.specs.Messages.{IsInLimits};
 ghost use Rattle.snap_service.specs.Answers.{AnswersScan, AnswersPart, segment_of, named_pair};
 

@@ -3,10 +3,8 @@ ghost use Rattle.std.specs.Prelude.{◌≡◌};
 ghost use Rattle.snap_history.specs.Limits.{IsNumber, IsShort};
 ghost use Rattle.snap_memory.specs.Seat.{AreTogether, Meets, own_of};
 ghost use Rattle.snap_frame.specs.Messages.{IsInLimits};
-ghost use Rattle.snap_writer.specs.Update.{IsSameSeat};
-ghost use Rattle.snap_writer.specs.Writer.{number_of};
+ghost use Rattle.snap_writer.specs.{Update.IsSameSeat, Writer.number_of, Updated.IsUpdated};
 ghost use Rattle.snap_service.specs.Settled.{IsSettledAt, IsTellable};
-ghost use Rattle.snap_writer.specs.Updated.{IsUpdated};
 ghost use Rattle.snap_service.specs.Updated.{IsUpdatedAndTold, RepliesTold};
 
 use snap_disk::{Disk, Refusal};

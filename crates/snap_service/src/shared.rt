@@ -1,25 +1,10 @@
 //! The writers that all nodes share, each under a lock of its own.
-ghost use Rattle.std.specs.Prelude.{
-  ◌≡◌,
-  ◌+◌,
-  ◌<◌,
-  ◌≤◌,
-  ℕ,
-  [],
-  length,
-  slice_get,
-  Some,
-  vec_capacity,
-  All,
-  IfOk,
-  IfErr,
-};
+ghost use Rattle.std.specs.Prelude.{◌≡◌, ◌+◌, ◌<◌, ◌≤◌, ℕ, [], length, slice_get, Some, vec_capacity, All, IfOk, IfErr};
 ghost use Rattle.snap_history.specs.Limits.{IsShort};
 ghost use Rattle.snap_memory.specs.Rule.{segments};
 ghost use Rattle.snap_frame.specs.Messages.{IsInLimits, IsStatus};
 ghost use Rattle.snap_service.specs.Memory.{IsOf, AreWriters, AreDisplaced};
-ghost use Rattle.snap_service.specs.Answers.{AnswersUpdate};
-ghost use Rattle.snap_service.specs.Counted.{CountsOne};
+ghost use Rattle.snap_service.specs.{Answers.AnswersUpdate, Counted.CountsOne};
 
 use crate::lock::WriterLock;
 use crate::locked_writer::{LockToken, LockedWriter};

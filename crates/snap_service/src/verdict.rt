@@ -3,11 +3,9 @@ ghost use Rattle.std.specs.Prelude.{◌≡◌, ℕ, ◌+◌, ◌<◌, IfSome, If
 ghost use Rattle.snap_disk.specs.declared.refusal.Refusal.{Refusal};
 ghost use Rattle.snap_history.specs.Limits.{IsNumber, IsShort};
 ghost use Rattle.snap_memory.specs.Rule.{segments};
-ghost use Rattle.snap_frame.specs.declared.reply.Reply.{Reply};
-ghost use Rattle.snap_frame.specs.Messages.{IsInLimits};
+ghost use Rattle.snap_frame.specs.{declared.reply.Reply.Reply, Messages.IsInLimits};
 ghost use Rattle.snap_service.specs.Settled.{IsSettled, IsReplyByLook};
-ghost use Rattle.snap_service.specs.Answers.{AnswersUpdate};
-ghost use Rattle.snap_service.specs.Counted.{IsMisplaced};
+ghost use Rattle.snap_service.specs.{Answers.AnswersUpdate, Counted.IsMisplaced};
 
 use snap_disk::Refusal;
 use snap_frame::Reply;

@@ -1,9 +1,7 @@
 -- What was asked for among the bytes behind a frame.
 use Rattle.std.proofs.Common.{◌≡◌, ℕ, List, ◌++◌, Bool, true, false, ap, sym, ◌∙◌, append_assoc}
-use Rattle.snap_frame.specs.Messages.{frame}
-use Rattle.snap_frame.specs.Stream.{HasFrame}
-use Rattle.snap_session.specs.Asked.{AreAsked, AllAsked}
-use Rattle.snap_session.specs.Talk.{Talk, Owes}
+use Rattle.snap_frame.specs.{Messages.frame, Stream.HasFrame}
+use Rattle.snap_session.specs.{Asked.AreAsked, Asked.AllAsked, Talk.Talk, Talk.Owes}
 
 pub asked_behind : (asked : ℕ → ℕ → List ℕ → Type 0) (xs x rest : List ℕ) → HasFrame xs x rest
     → AreAsked asked xs → AreAsked asked rest

@@ -1,11 +1,8 @@
 -- Joining the steps of a session.
-use Rattle.std.proofs.Common.{◌≡◌, ◌+◌, ℕ, List, [], ◌++◌, length, length-append, arith, Option, Some, None, refl}
-use Rattle.std.proofs.Common.{sym, ◌∙◌, ap, subst}
-use Rattle.std.proofs.Common.{append-nil, append_assoc}
-use Rattle.snap_frame.specs.declared.request.Request.{Request}
-use Rattle.snap_frame.specs.declared.reply.Reply.{Reply}
-use Rattle.snap_frame.specs.declared.frame_buffer.Failure.{Failure}
+use Rattle.std.proofs.Common.{◌≡◌, ◌+◌, ℕ, List, [], ◌++◌, length, length-append, arith, Option, Some, None, refl, sym}
+use Rattle.std.proofs.Common.{◌∙◌, ap, subst, append-nil, append_assoc}
 use Rattle.snap_frame.specs.declared.frame_buffer.Failure.TheVariants.{TooLarge, NoMemory}
+use Rattle.snap_frame.specs.declared.{request.Request.Request, reply.Reply.Reply, frame_buffer.Failure.Failure}
 use Rattle.snap_session.specs.Talk.{Talk, Goes, GoesBy, Stays, Moves, Run, Phase, frames, came}
 use Rattle.snap_session.proofs.Runs.{frames-append, Joins, run_on, stays_joins, loosen as loosen_run}
 

@@ -1,12 +1,11 @@
 -- The result of decoding the first frame, and the bytes that it leaves.
 use Rattle.std.proofs.Common.{◌≡◌, ℕ, List, None, Err, Ok, Some, inl, inr, sym, ◌∙◌, ap}
 use Rattle.snap_disk.specs.declared.refusal.Refusal.{Refusal}
-use Rattle.snap_disk.specs.declared.refusal.Refusal.TheVariants as refusals
-use Rattle.snap_frame.specs.declared.frame_buffer.Failure.{Failure}
-use Rattle.snap_frame.specs.declared.frame_buffer.Failure.TheVariants.{NoMemory, TooLarge}
-use Rattle.snap_frame.specs.declared.request.Request.{Request}
 use Rattle.snap_frame.specs.Stream.{Held, IsNextRequest, IsBytes, HasLongLength, Fails, refusal_of}
+use Rattle.snap_frame.specs.declared.frame_buffer.Failure.{Failure, TheVariants.NoMemory, TheVariants.TooLarge}
+use Rattle.snap_frame.specs.declared.request.Request.{Request}
 use Rattle.snap_session.proofs.Held.{bytes_behind}
+use Rattle.snap_disk.specs.declared.refusal.Refusal.TheVariants as refusals
 
 malformed_apart : (f : Failure) → refusals.Malformed ≡ refusal_of f → ⊥
 malformed_apart NoMemory wrong = absurd cc

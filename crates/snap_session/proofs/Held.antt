@@ -1,10 +1,8 @@
 -- How many bytes are held.
-use Rattle.std.proofs.Common.{◌≡◌, ℕ, ◌+◌, ◌<◌, ◌≤◌, List, ◌++◌, length, get_or, Option, Some, None}
-use Rattle.std.proofs.Common.{Bool, true, false, is_some, inl, inr, refl, sym, ◌∙◌, ap, subst, arith, length-append}
+use Rattle.std.proofs.Common.{◌≡◌, ℕ, ◌+◌, ◌<◌, ◌≤◌, List, ◌++◌, length, get_or, Option, Some, None, Bool, true, false}
+use Rattle.std.proofs.Common.{is_some, inl, inr, refl, sym, ◌∙◌, ap, subst, arith, length-append}
 use Rattle.std.proofs.lemmas.List.{get_or-append-add}
-use Rattle.snap_frame.specs.Messages.{frame}
-use Rattle.snap_frame.specs.Stream.{HasFrame, IsBytes}
-use Rattle.snap_frame.specs.declared.frame_buffer.Failure.{Failure}
+use Rattle.snap_frame.specs.{Messages.frame, Stream.HasFrame, Stream.IsBytes, declared.frame_buffer.Failure.Failure}
 use Rattle.snap_frame.specs.declared.frame_buffer.Failure.TheVariants.{NoMemory}
 use Rattle.snap_frame.proofs.Decode.{bytes-append}
 use Rattle.snap_session.specs.Talk.{Talk, HasTaken, longest_frame, HoldsFrameAnd}

@@ -1,12 +1,10 @@
 -- The rounds of a turn.
 use Rattle.std.proofs.Common.{◌≡◌, ℕ, ◌+◌, ◌<◌, ◌≤◌, List, [], length, Option, None, inl, inr, refl, ap, add-one, arith}
 use Rattle.std.specs.Io.KnownBytes.{Consumes}
-use Rattle.snap_frame.specs.declared.request.Request.{Request}
-use Rattle.snap_frame.specs.declared.reply.Reply.{Reply}
+use Rattle.snap_frame.specs.declared.{request.Request.Request, reply.Reply.Reply}
 use Rattle.snap_session.specs.Talk.{Talk, GoesBy, Stays, HasTaken, most_answers}
 use Rattle.snap_session.specs.Turns.{Scene, Sends, Round, WholeRound, WholeRounds, FewRounds, most_rounds}
-use Rattle.snap_session.proofs.Steps.{rests, by_more}
-use Rattle.snap_session.proofs.Known.{consumes_none}
+use Rattle.snap_session.proofs.{Steps.rests, Steps.by_more, Known.consumes_none}
 
 abbrev pub scene : {S : Type 0} → S → Talk → Option (List ℕ) → Option (List ℕ) → Scene S
 scene s t left written = record { service = s; talk = t; left = left; written = written }

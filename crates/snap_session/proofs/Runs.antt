@@ -1,8 +1,6 @@
 -- Runs one after another.
 use Rattle.std.proofs.Common.{◌≡◌, ℕ, List, [], ◌∷◌, ◌++◌, refl, sym, ◌∙◌, ap, append_assoc}
-use Rattle.snap_frame.specs.declared.request.Request.{Request}
-use Rattle.snap_frame.specs.Messages.{frame}
-use Rattle.snap_frame.specs.declared.reply.Reply.{Reply}
+use Rattle.snap_frame.specs.{declared.request.Request.Request, Messages.frame, declared.reply.Reply.Reply}
 use Rattle.snap_session.specs.Talk.{frames, Run, Stays, Moves}
 
 pub frames-append : (xs ys : List (List ℕ)) → frames (xs ++ ys) ≡ frames xs ++ frames ys

@@ -1,12 +1,9 @@
 -- Several sessions on one service.
 use Rattle.std.proofs.Common.{ℕ, List, Option}
-use Rattle.snap_frame.specs.declared.request.Request.{Request}
-use Rattle.snap_frame.specs.declared.reply.Reply.{Reply}
+use Rattle.snap_frame.specs.declared.{request.Request.Request, reply.Reply.Reply}
 use Rattle.snap_session.specs.Talk.{Talk, Goes, Stays, Moves}
 use Rattle.snap_session.specs.Turns.{Turns}
-use Rattle.snap_session.proofs.Runs.{moves_joins}
-use Rattle.snap_session.proofs.Continuation.{loosen}
-use Rattle.snap_session.proofs.TurnRuns.{turns_on, begins}
+use Rattle.snap_session.proofs.{Runs.moves_joins, Continuation.loosen, TurnRuns.turns_on, TurnRuns.begins}
 
 -- another `Goes` between the two states, with equal reads and writes, gives `Turns` too
 by_talk : {S : Type 0} (before between : S → S → Type 0) (gives : S → Request → Reply → S

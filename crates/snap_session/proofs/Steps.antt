@@ -1,17 +1,13 @@
 -- The steps of a session.
-use Rattle.std.proofs.Common.{◌≡◌, ◌≢◌, inl, inr, ℕ, ◌≤◌, List, [], ◌∷◌, ◌++◌, length, Option, Some, None, Bool}
-use Rattle.std.proofs.Common.{true, false, refl, sym}
-use Rattle.std.proofs.Common.{◌∙◌, ap, arith, append-nil, append_assoc, subst, length-append}
+use Rattle.std.proofs.Common.{◌≡◌, ◌≢◌, inl, inr, ℕ, ◌≤◌, List, [], ◌∷◌, ◌++◌, length, Option, Some, None, Bool, true}
+use Rattle.std.proofs.Common.{false, refl, sym, ◌∙◌, ap, arith, append-nil, append_assoc, subst, length-append}
 use Rattle.std.specs.Int.{w32, to_be_bytes}
-use Rattle.snap_frame.specs.declared.request.Request.{Request}
 use Rattle.snap_frame.specs.Messages.{max_payload, frame, payload, says, IsAskable, IsInLimits}
 use Rattle.snap_frame.specs.Stream.{HasFrame, HasLongLength}
-use Rattle.snap_frame.specs.declared.reply.Reply.{Reply}
-use Rattle.snap_frame.specs.declared.frame_buffer.Failure.{Failure}
 use Rattle.snap_frame.specs.declared.frame_buffer.Failure.TheVariants.{TooLarge, NoMemory}
-use Rattle.snap_session.specs.Talk.{refused_too_large, Talk, Goes, GoesBy, Stays, Run, Answer, Phase, HasTaken}
-use Rattle.snap_session.specs.Talk.{Owes, frames, came}
-use Rattle.snap_session.specs.Talk.{asked_bytes}
+use Rattle.snap_frame.specs.declared.{request.Request.Request, reply.Reply.Reply, frame_buffer.Failure.Failure}
+use Rattle.snap_session.specs.Talk.{refused_too_large, Talk, Goes, GoesBy, Stays, Run, Answer, Phase, HasTaken, Owes}
+use Rattle.snap_session.specs.Talk.{frames, came, asked_bytes}
 
 abbrev pub owed_of : Talk → List ℕ
 owed_of t = t.owed

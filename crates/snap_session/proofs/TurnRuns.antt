@@ -1,22 +1,17 @@
 -- Turns one after another.
-use Rattle.std.proofs.Common.{◌≡◌, ℕ, List, [], ◌++◌, Option, None, OnSome, Some, refl, sym, ◌∙◌, ap, subst}
-use Rattle.std.proofs.Common.{append-nil, append_assoc}
-use Rattle.std.proofs.Common.{take, drop, length, length-append, arith, ◌≤◌, ◌∷◌, Bool, true, false, eqb-true}
-use Rattle.std.specs.Bool.{◌==◌}
-use Rattle.std.specs.Io.KnownBytes.{Appends, Consumes}
-use Rattle.std.proofs.KnownBytes.{Appends-trans, Consumes-trans}
-use Rattle.snap_frame.specs.declared.request.Request.{Request}
-use Rattle.snap_frame.specs.declared.reply.Reply.{Reply}
-use Rattle.snap_session.specs.declared.turns.End.{End}
+use Rattle.std.proofs.Common.{◌≡◌, ℕ, List, [], ◌++◌, Option, None, OnSome, Some, refl, sym, ◌∙◌, ap, subst, append-nil}
+use Rattle.std.proofs.Common.{append_assoc, take, drop, length, length-append, arith, ◌≤◌, ◌∷◌, Bool, true, false}
+use Rattle.std.proofs.Common.{eqb-true}
+use Rattle.std.specs.{Bool.◌==◌, Io.KnownBytes.Appends, Io.KnownBytes.Consumes}
+use Rattle.std.proofs.{KnownBytes.Appends-trans, KnownBytes.Consumes-trans, lemmas.List.take-append-drop}
+use Rattle.snap_frame.specs.declared.{request.Request.Request, reply.Reply.Reply}
 use Rattle.snap_session.specs.declared.turns.Sent.TheVariants.{All, Blocked, Failed}
-use Rattle.std.proofs.lemmas.List.{take-append-drop}
 use Rattle.snap_session.specs.Talk.{Talk, Goes, Stays, HasTaken, came, asked_bytes, start, most_owed, HoldsFrameAnd}
 use Rattle.snap_session.specs.Turns.{Turns, Sends, Serves, EndsAt}
-use Rattle.snap_session.proofs.Runs.{Joins, stays_joins}
-use Rattle.snap_session.proofs.Continuation.{goes_on}
 use Rattle.snap_session.proofs.Steps.{rests, takes, sends}
-use Rattle.snap_session.proofs.Held.{holds_sent}
 use Rattle.snap_session.proofs.Known.{appends_none, consumes_none, consumes_more}
+use Rattle.snap_session.specs.declared.turns.End.{End}
+use Rattle.snap_session.proofs.{Runs.Joins, Runs.stays_joins, Continuation.goes_on, Held.holds_sent}
 
 pub turns_on : {S : Type 0} (between : S → S → Type 0) (joins : Joins between) (gives : S → Request
     → Reply → S → Type 0) (s t u : S) (t0 t1 t2 : Talk) (r0 r1 r2 w0 w1 w2 : Option (List ℕ))

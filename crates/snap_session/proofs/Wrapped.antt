@@ -1,10 +1,8 @@
 -- Sessions on a service that wraps another one.
 use Rattle.std.proofs.Common.{ℕ, inl, inr, List, [], ◌∷◌, ◌++◌, Option, refl, ap}
-use Rattle.snap_frame.specs.declared.request.Request.{Request}
-use Rattle.snap_frame.specs.declared.reply.Reply.{Reply}
+use Rattle.snap_frame.specs.declared.{request.Request.Request, reply.Reply.Reply}
 use Rattle.snap_session.specs.Talk.{Talk, Answer, Run, Stays, Moves}
-use Rattle.snap_session.specs.Turns.{Turns}
-use Rattle.snap_session.specs.Wrapped.{AnswersAs, IsSameTalk}
+use Rattle.snap_session.specs.{Turns.Turns, Wrapped.AnswersAs, Wrapped.IsSameTalk}
 
 module _ {S T : Type 0} (outer : S → Request → Reply → S → Type 0)
     (gives : T → Request → Reply → T → Type 0) (inner : S → T) (is_as : AnswersAs inner outer gives) where

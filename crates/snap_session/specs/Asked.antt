@@ -1,8 +1,7 @@
 -- Updates that were asked for: `asked i k v` says that an update of segment i to number k and value v was.
 use Rattle.std.specs.Prelude.{◌≡◌, ℕ, List, ◌++◌}
-use Rattle.snap_frame.specs.Messages.{frame, Asks}
-use Rattle.snap_frame.specs.declared.request.Request.{Request}
 use Rattle.snap_frame.specs.declared.request.Request.TheVariants.{Update, Scan, Status, Part}
+use Rattle.snap_frame.specs.{Messages.frame, Messages.Asks, declared.request.Request.Request}
 
 -- what the request asks to store was asked for; only an update asks for something to be stored
 abbrev pub WasAsked : (asked : ℕ → ℕ → List ℕ → Type 0) → Request → Type 0

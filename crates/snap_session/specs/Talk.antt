@@ -1,14 +1,11 @@
 -- The bytes and the requests of a session.
 use Rattle.std.specs.Prelude.{◌≡◌, ℕ, ◌+◌, ◌≤◌, ◌⊎◌, List, [], ◌∷◌, ◌++◌, length, Option, Some, None, Bool, true, false}
-use Rattle.snap_frame.specs.declared.request.Request.{Request}
 use Rattle.snap_frame.specs.Messages.{max_payload, payload, frame, Asks, Malformed, Says, says}
-use Rattle.snap_frame.specs.Stream.{HasLongLength}
-use Rattle.snap_frame.specs.declared.reply.Reply.{Reply}
-use Rattle.snap_frame.specs.declared.reply.Reply.TheVariants.{Refused}
-use Rattle.snap_frame.specs.declared.frame_buffer.Failure.{Failure}
 use Rattle.snap_frame.specs.declared.frame_buffer.Failure.TheVariants.{TooLarge, NoMemory}
-use Rattle.snap_disk.specs.declared.refusal.Refusal.TheVariants as refusals
+use Rattle.snap_frame.specs.{declared.request.Request.Request, Stream.HasLongLength, declared.reply.Reply.Reply}
+use Rattle.snap_frame.specs.{declared.reply.Reply.TheVariants.Refused, declared.frame_buffer.Failure.Failure}
 use Rattle.snap_session.specs.declared.session.TheConstants.{MAX_OWED}
+use Rattle.snap_disk.specs.declared.refusal.Refusal.TheVariants as refusals
 
 -- a session's state: the request that was handed over, the bytes that arrived after it, the bytes that are owed (the
 -- pending output), and why no more are taken in

@@ -1,15 +1,12 @@
 -- How a session uses its reader and its writer.
 use Rattle.std.specs.Prelude.{◌≡◌, ◌≤◌, ◌<◌, ◌⊎◌, ℕ, zero, suc, List, [], ◌++◌, length, Option, Some, None}
 use Rattle.std.specs.Io.KnownBytes.{Appends, Consumes, IsAtEnd}
-use Rattle.snap_frame.specs.declared.request.Request.{Request}
-use Rattle.snap_frame.specs.Stream.{IsPartial}
-use Rattle.snap_frame.specs.declared.reply.Reply.{Reply}
-use Rattle.snap_session.specs.declared.turns.End.{End}
-use Rattle.snap_session.specs.declared.turns.End.TheVariants as ends
-use Rattle.snap_frame.specs.declared.frame_buffer.Failure.TheVariants as failures
-use Rattle.snap_session.specs.declared.turns.Polled.{Polled}
+use Rattle.snap_frame.specs.{declared.request.Request.Request, Stream.IsPartial, declared.reply.Reply.Reply}
 use Rattle.snap_session.specs.declared.turns.Polled.TheVariants.{Again, NeedsInput, NeedsRoom, NeedsOutcome, Over}
 use Rattle.snap_session.specs.Talk.{Talk, Goes, GoesBy, Stays, HasTaken, start, most_answers}
+use Rattle.snap_session.specs.declared.turns.{End.End, Polled.Polled}
+use Rattle.snap_session.specs.declared.turns.End.TheVariants as ends
+use Rattle.snap_frame.specs.declared.frame_buffer.Failure.TheVariants as failures
 
 -- A session's state before and after some turns: the bytes that were read were taken in, and those that were given out
 -- were written.

@@ -1,9 +1,8 @@
 -- The event that a session needs next.
 use Rattle.std.specs.Prelude.{◌≡◌, ◌<◌, None, [], length}
 use Rattle.snap_frame.specs.Stream.{IsPartial}
-use Rattle.snap_session.specs.declared.session.WaitingFor.{WaitingFor}
 use Rattle.snap_session.specs.declared.session.WaitingFor.TheVariants.{Bytes, Turn, Outcome}
-use Rattle.snap_session.specs.Talk.{Talk, longest_frame}
+use Rattle.snap_session.specs.{declared.session.WaitingFor.WaitingFor, Talk.Talk, Talk.longest_frame}
 
 -- It needs bytes if no whole frame is held: it holds fewer bytes than a frame may have. It needs another call if it is
 -- over or bytes are owed. It needs an outcome only if `may` holds and a request is handed over; in the other two cases

@@ -1,7 +1,6 @@
 -- A service that wraps another one: its sessions are sessions on the inner service.
 use Rattle.std.specs.Prelude.{◌≡◌, ℕ, List, Option}
-use Rattle.snap_frame.specs.declared.request.Request.{Request}
-use Rattle.snap_frame.specs.declared.reply.Reply.{Reply}
+use Rattle.snap_frame.specs.declared.{request.Request.Request, reply.Reply.Reply}
 use Rattle.snap_session.specs.Talk.{Talk, Stays, Moves}
 use Rattle.snap_session.specs.Turns.{Turns}
 

@@ -1,8 +1,7 @@
 //! Services, which answer requests at once or later.
 ghost use Rattle.std.specs.Prelude.{◌≡◌, ℕ, List, IfSome, IfNone};
-ghost use Rattle.snap_frame.specs.declared.request.Request.{Request};
-ghost use Rattle.snap_frame.specs.declared.reply.Reply.{Reply};
 ghost use Rattle.snap_frame.specs.Messages.{IsAskable, IsInLimits};
+ghost use Rattle.snap_frame.specs.declared.{request.Request.Request, reply.Reply.Reply};
 ghost use Rattle.snap_session.specs.Asked.{WasAsked};
 
 use snap_disk::Refusal;

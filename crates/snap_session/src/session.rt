@@ -4,25 +4,12 @@
 //! input or output itself: its caller gives it the bytes that arrived, has it answer, and removes
 //! the bytes that were written, in pieces of any size and in any order of these calls
 //! (`specs/Talk.antt`).
-ghost use Rattle.std.specs.Prelude.{◌≡◌, ◌≤◌, ◌<◌, ◌+◌, ◌↔◌, IsTrue, [], length, drop};
-ghost use Rattle.std.specs.Prelude.{Some, None, IfSome, true, false};
+ghost use Rattle.std.specs.Prelude.{◌≡◌, ◌≤◌, ◌<◌, ◌+◌, ◌↔◌, IsTrue, [], length, drop, Some, None, IfSome, true, false};
 ghost use Rattle.snap_frame.specs.Stream.{IsPartial};
 ghost use Rattle.snap_frame.specs.Messages.{max_payload, payload, says, IsAskable, IsInLimits};
-ghost use Rattle.snap_session.specs.Talk.{
-  Talk,
-  Goes,
-  GoesBy,
-  Stays,
-  HasTaken,
-  Owes,
-  start,
-  longest_frame,
-  most_owed,
-  most_answers,
-};
-ghost use Rattle.snap_session.specs.Waits.{WaitsFor};
-ghost use Rattle.snap_session.specs.Asked.{AreAsked};
-ghost use Rattle.snap_session.specs.Hears.{Hears};
+ghost use Rattle.snap_session.specs.Talk.{Talk, Goes, GoesBy, Stays, HasTaken, Owes, start, longest_frame, most_owed};
+ghost use Rattle.snap_session.specs.Talk.{most_answers};
+ghost use Rattle.snap_session.specs.{Waits.WaitsFor, Asked.AreAsked, Hears.Hears};
 
 use crate::service::Service;
 use bytes::BytesMut;

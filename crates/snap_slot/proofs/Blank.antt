@@ -1,18 +1,16 @@
 -- A file that is being formatted, and the file of a new segment.
-use Rattle.std.proofs.Common.{false, ◌≡◌, ◌≢◌, ◌⊎◌, inl, inr, ⊎_elim, ℕ, ◌+◌, ◌*◌, ◌%◌, ◌<◌, ◌≤◌, List, [], ◌∷◌}
-use Rattle.std.proofs.Common.{◌++◌, length}
-use Rattle.std.proofs.Common.{slice_index, refl, sym, ◌∙◌, ap, arith, append_assoc, length-append}
-use Rattle.std.proofs.lemmas.List.{append-nil}
-use Rattle.std.proofs.lemmas.Bool.{cases_eq}
+use Rattle.std.proofs.Common.{false, ◌≡◌, ◌≢◌, ◌⊎◌, inl, inr, ⊎_elim, ℕ, ◌+◌, ◌*◌, ◌%◌, ◌<◌, ◌≤◌, List, [], ◌∷◌, ◌++◌}
+use Rattle.std.proofs.Common.{length, slice_index, refl, sym, ◌∙◌, ap, arith, append_assoc, length-append}
+use Rattle.std.proofs.lemmas.{List.append-nil, Bool.cases_eq}
 use Rattle.snap_disk.specs.Device.{Device, IsSettled, part, opened, MayLeave, DiffersWithin, IsTouched, IsSynced}
 use Rattle.snap_disk.specs.Device.{IsWritten}
 use Rattle.snap_disk.specs.Laws.{part_kept, index-part, settled_opened}
 use Rattle.snap_history.specs.Limits.{IsNumber, IsShort}
-use Rattle.snap_slot.specs.Layout.{slot_of, next_slot, spare_slot, body_at, header_front, slots_of, fresh_file}
-use Rattle.snap_slot.specs.Layout.{Open, IsClosed, Head, IsUnformatted, IsFileOf}
+use Rattle.snap_slot.specs.Layout.{slot_of, next_slot, spare_slot, body_at, header_front, slots_of, fresh_file, Open}
+use Rattle.snap_slot.specs.Layout.{IsClosed, Head, IsUnformatted, IsFileOf}
 use Rattle.snap_slot.specs.States.{IsAtRest, IsPrepared}
-use Rattle.snap_slot.proofs.Blocks.{part-between, part-part, length-header_front, slots_gate, slots_body}
-use Rattle.snap_slot.proofs.Blocks.{slots_closed, length-slots_of}
+use Rattle.snap_slot.proofs.Blocks.{part-between, part-part, length-header_front, slots_gate, slots_body, slots_closed}
+use Rattle.snap_slot.proofs.Blocks.{length-slots_of}
 
 -- a prepared file, of which only the header's gate may still change
 module _ (i n k : ℕ) (v : List ℕ) (below : i < n) (few : n ≤ 16) (small : IsNumber k) (fits : IsShort

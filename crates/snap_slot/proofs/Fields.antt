@@ -1,8 +1,7 @@
 -- From the fields read from a block to the block itself.
 use Rattle.std.proofs.Common.{◌≡◌, ℕ, suc, ◌<◌, ◌^◌, List, [], ◌∷◌, length, slice_index, sym, ◌∙◌, ap, arith}
 use Rattle.std.proofs.lemmas.List.{append-nil}
-use Rattle.snap_disk.specs.Device.{part}
-use Rattle.snap_disk.specs.Laws.{part_whole, part-cons}
+use Rattle.snap_disk.specs.{Device.part, Laws.part_whole, Laws.part-cons}
 use Rattle.snap_slot.specs.Layout.{zeros, big, number_in, gate_block, length_field}
 use Rattle.snap_slot.proofs.Blocks.{number_in-big}
 

@@ -3,12 +3,9 @@ use Rattle.std.proofs.Common.{◌≡◌, ◌⊎◌, inl, inr, ⊎_elim, ℕ, ◌
 use Rattle.std.proofs.lemmas.Bool.{cases_eq}
 use Rattle.snap_disk.specs.Device.{part}
 use Rattle.snap_slot.specs.Layout.{IsClosed, gate_at, body_at}
-use Rattle.snap_slot.specs.Old.{OldOpen, OldHolds}
-use Rattle.snap_slot.specs.OldFound.{IsOldSlotOf}
-use Rattle.snap_slot.proofs.Readings.{closed_is, open_is}
-use Rattle.snap_slot.specs.declared.slot.Flaw.{Flaw}
-use Rattle.snap_slot.specs.declared.slot.Slot.{Slot}
 use Rattle.snap_slot.specs.declared.slot.Slot.TheVariants.{Closed, Open, Bad}
+use Rattle.snap_slot.{specs.Old.OldOpen, specs.Old.OldHolds, specs.OldFound.IsOldSlotOf, proofs.Readings.closed_is}
+use Rattle.snap_slot.{proofs.Readings.open_is, specs.declared.slot.Flaw.Flaw, specs.declared.slot.Slot.Slot}
 
 -- the slots hold a number: one is open and the other closed, or both are open and their numbers
 -- differ by one

@@ -1,19 +1,14 @@
 -- An old file can be read in one way only.
-use Rattle.std.proofs.Common.{◌≡◌, ◌⊎◌, inr, ⊎_elim, ℕ, ◌-◌, List, length, slice_index, Option, Some, None}
-use Rattle.std.proofs.Common.{MatchOption, IfOk, IfErr}
-use Rattle.std.proofs.Common.{refl, sym, ◌∙◌, ap, subst, arith}
-use Rattle.std.specs.Option.{ok_or}
-use Rattle.std.proofs.lemmas.Bool.{cases_eq}
-use Rattle.snap_disk.specs.Device.{part}
-use Rattle.snap_disk.specs.declared.refusal.Refusal.TheVariants.{Damaged}
+use Rattle.std.proofs.Common.{◌≡◌, ◌⊎◌, inr, ⊎_elim, ℕ, ◌-◌, List, length, slice_index, Option, Some, None, MatchOption}
+use Rattle.std.proofs.Common.{IfOk, IfErr, refl, sym, ◌∙◌, ap, subst, arith}
+use Rattle.std.{specs.Option.ok_or, proofs.lemmas.Bool.cases_eq}
+use Rattle.snap_disk.specs.{Device.part, declared.refusal.Refusal.TheVariants.Damaged}
 use Rattle.snap_slot.specs.Layout.{IsClosed, IsUnformatted, gate_at, body_at}
-use Rattle.snap_slot.specs.Findings.{IsOfBytes}
-use Rattle.snap_slot.specs.declared.header.Header.{Header}
-use Rattle.snap_slot.specs.declared.header.Header.TheVariants as header
 use Rattle.snap_slot.proofs.Readings.{open_same, not_open_and_closed, head_same, not_head_and_unformatted}
 use Rattle.snap_slot.specs.Old.{old_mark, OldOpen, OldHolds, OldHead}
 use Rattle.snap_slot.specs.OldFound.{IsOldHeaderOf, IsOldHeld, IsOldFound, IsNoOldOpening}
-use Rattle.snap_slot.specs.declared.old_recovery.OldFound.{OldFound}
+use Rattle.snap_slot.specs.{Findings.IsOfBytes, declared.header.Header.Header, declared.old_recovery.OldFound.OldFound}
+use Rattle.snap_slot.specs.declared.header.Header.TheVariants as header
 
 -- a slot is open with one number and one value only, and isn't closed too
 same_slot : (b : List ℕ) (s k l : ℕ) (v w : List ℕ) → OldOpen b s k v → OldOpen b s l w

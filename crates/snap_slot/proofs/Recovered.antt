@@ -1,16 +1,13 @@
 -- The slots of a file that holds a number.
-use Rattle.std.proofs.Common.{◌≡◌, ◌⊎◌, inl, inr, ⊎_elim, ℕ, ◌-◌, ◌<◌, List, length, subst, arith, Option, Some}
-use Rattle.std.proofs.Common.{None, MatchOption}
+use Rattle.std.proofs.Common.{◌≡◌, ◌⊎◌, inl, inr, ⊎_elim, ℕ, ◌-◌, ◌<◌, List, length, subst, arith, Option, Some, None}
+use Rattle.std.proofs.Common.{MatchOption}
 use Rattle.std.proofs.lemmas.Bool.{cases_eq}
 use Rattle.snap_disk.specs.Device.{part}
-use Rattle.snap_slot.specs.Layout as layout
 use Rattle.snap_slot.specs.Layout.{Holds, IsClosed, slot_of, next_slot, spare_slot, gate_at, body_at}
-use Rattle.snap_slot.specs.Slot.{IsSlotOf}
-use Rattle.snap_slot.specs.Findings.{IsHeld}
 use Rattle.snap_slot.proofs.Readings.{closed_is, open_is}
-use Rattle.snap_slot.specs.declared.findings.Found.{Found}
-use Rattle.snap_slot.specs.declared.slot.Slot.{Slot}
 use Rattle.snap_slot.specs.declared.slot.Slot.TheVariants.{Closed, Open}
+use Rattle.snap_slot.specs.{Slot.IsSlotOf, Findings.IsHeld, declared.findings.Found.Found, declared.slot.Slot.Slot}
+use Rattle.snap_slot.specs.Layout as layout
 
 -- The slot of the newest number is open, the next slot is closed, and the spare slot is closed or
 -- open with the previous number.

@@ -2,8 +2,7 @@
 use Rattle.std.specs.Prelude.{◌⊎◌, ℕ, ◌-◌, ◌%◌, List, codes}
 use Rattle.snap_disk.specs.Device.{part}
 use Rattle.snap_slot.specs.Layout.{IsClosed, IsHeadOf, IsOpenSlot, gate_at, body_at}
-use Rattle.snap_slot.specs.declared.layout.TheConstants.{BLOCK_LEN}
-use Rattle.snap_slot.specs.declared.old_layout.TheConstants.{OLD_SLOT_COUNT}
+use Rattle.snap_slot.specs.declared.{layout.TheConstants.BLOCK_LEN, old_layout.TheConstants.OLD_SLOT_COUNT}
 
 -- the slot that holds number k, and the other slot
 abbrev pub old_slot_of : ℕ → ℕ

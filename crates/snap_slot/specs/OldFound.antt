@@ -1,20 +1,13 @@
 -- The finding in the bytes b of an old file.
 use Rattle.std.specs.Prelude.{◌≡◌, ◌≢◌, ◌⊎◌, ℕ, ◌≤◌, List, length}
-use Rattle.snap_disk.specs.Device.{part}
-use Rattle.snap_disk.specs.declared.refusal.Refusal.{Refusal}
 use Rattle.snap_disk.specs.declared.refusal.Refusal.TheVariants.{DeviceFailed, Unformatted, Damaged, WrongFile}
-use Rattle.snap_slot.specs.Limits.{IsNumber}
+use Rattle.snap_disk.specs.{Device.part, declared.refusal.Refusal.Refusal}
 use Rattle.snap_slot.specs.Layout.{IsUnformatted, gate_at, body_at}
-use Rattle.snap_slot.specs.Findings.{value_in}
-use Rattle.snap_slot.specs.Header.{IsMarkedHeader}
-use Rattle.snap_slot.specs.Slot.{IsReadAs}
-use Rattle.snap_slot.specs.limits.TheConstants.{MAX_VALUE_LEN}
-use Rattle.snap_slot.specs.declared.layout.TheConstants.{BLOCK_LEN}
-use Rattle.snap_slot.specs.declared.header.Header.{Header}
-use Rattle.snap_slot.specs.declared.slot.Slot.{Slot}
 use Rattle.snap_slot.specs.Old.{old_slot_of, old_mark, OldHolds, OldHead}
 use Rattle.snap_slot.specs.declared.old_layout.TheConstants.{OLD_FILE_LEN, OLD_SLOT_COUNT}
-use Rattle.snap_slot.specs.declared.old_recovery.OldFound.{OldFound}
+use Rattle.snap_slot.specs.{Limits.IsNumber, Findings.value_in, Header.IsMarkedHeader, Slot.IsReadAs}
+use Rattle.snap_slot.specs.{limits.TheConstants.MAX_VALUE_LEN, declared.header.Header.Header, declared.slot.Slot.Slot}
+use Rattle.snap_slot.specs.{declared.layout.TheConstants.BLOCK_LEN, declared.old_recovery.OldFound.OldFound}
 
 -- the reading of the header
 abbrev pub IsOldHeaderOf : List ℕ → Header → Type 0

@@ -1,18 +1,10 @@
 //! Finds the value that a file of the old format holds.
 ghost use Rattle.std.specs.Prelude.{◌≡◌, ◌+◌, ◌<◌, ◌≤◌, ℕ, List, length, IfOk, IfErr, MatchOption};
 ghost use Rattle.snap_disk.specs.Device.{part};
-ghost use Rattle.snap_slot.specs.limits.TheConstants.{MAX_VALUE_LEN};
-ghost use Rattle.snap_slot.specs.declared.layout.TheConstants.{BLOCK_LEN};
 ghost use Rattle.snap_slot.specs.declared.old_layout.TheConstants.{OLD_FILE_LEN, OLD_SLOT_COUNT};
-ghost use Rattle.snap_slot.specs.Findings.{IsOfBytes};
-ghost use Rattle.snap_slot.specs.Old.{OldHolds};
-ghost use Rattle.snap_slot.specs.OldFound.{
-  IsOldHeaderOf,
-  IsOldSlotOf,
-  IsOldHeld,
-  IsOldFound,
-  IsNoOldOpening,
-};
+ghost use Rattle.snap_slot.specs.OldFound.{IsOldHeaderOf, IsOldSlotOf, IsOldHeld, IsOldFound, IsNoOldOpening};
+ghost use Rattle.snap_slot.specs.{limits.TheConstants.MAX_VALUE_LEN, declared.layout.TheConstants.BLOCK_LEN};
+ghost use Rattle.snap_slot.specs.{Findings.IsOfBytes, Old.OldHolds};
 
 use crate::header::{Header, read_header};
 use crate::layout::{BLOCK_LEN, VALUE_AT, body_at, gate_at};
@@ -30,8 +22,7 @@ pub struct OldFound {
 }
 
 impl OldFound {
-    ghost use Rattle.snap_slot.specs.Findings.{value_in};
-    ghost use Rattle.snap_slot.specs.Old.{old_slot_of};
+    ghost use Rattle.snap_slot.specs.{Findings.value_in, Old.old_slot_of};
 
     /// The value, read from the bytes of the file in which it was found.
     #[tactic(auto, unfolding(snap_disk::specs::Device::part))]

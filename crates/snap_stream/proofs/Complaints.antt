@@ -1,11 +1,9 @@
 -- A complaint in a fixed buffer.
-use Rattle.std.proofs.Common.{◌≡◌, ◌-◌, ℕ, List, length, drop, sym, Bool, true, false, not, nat_eq}
-use Rattle.std.proofs.Common.{Option, Some, None, IfSome, inl, inr, codes}
+use Rattle.std.proofs.Common.{◌≡◌, ◌-◌, ℕ, List, length, drop, sym, Bool, true, false, not, nat_eq, Option, Some, None}
+use Rattle.std.proofs.Common.{IfSome, inl, inr, codes}
 use Rattle.std.specs.Cmp.Lexicographic.{pointwise, same_text, other_text}
-use Rattle.std.specs.Fmt.Cut.{IsTextOrCut}
-use Rattle.std.specs.Io.KnownBytes.{Appends}
-use Rattle.snap_stream.specs.declared.complaint.TheConstants.{IN_PLACE}
-use Rattle.snap_stream.specs.Streams.{Complains, complaint_line}
+use Rattle.std.specs.{Fmt.Cut.IsTextOrCut, Io.KnownBytes.Appends}
+use Rattle.snap_stream.specs.{declared.complaint.TheConstants.IN_PLACE, Streams.Complains, Streams.complaint_line}
 use Rattle.snap_stream.proofs.Lines.{whole_is}
 
 -- whether the last three bytes are dots, as `ends_with` computes it

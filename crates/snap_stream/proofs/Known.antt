@@ -1,9 +1,7 @@
 -- Bytes that are read or written part by part.
-use Rattle.std.proofs.Common.{◌≡◌, ℕ, ◌+◌, ◌-◌, ◌≤◌, List, ◌++◌, length, take, drop, sym, ◌∙◌, ap}
-use Rattle.std.proofs.Common.{length-drop, drop_at, length-take-le, le_refl, append-nil, Option}
-use Rattle.std.proofs.Common.{Some, None}
-use Rattle.std.proofs.Math.Seq.{take-length, take-add}
-use Rattle.std.proofs.lemmas.Slice.{take-put_mid_below}
+use Rattle.std.proofs.Common.{◌≡◌, ℕ, ◌+◌, ◌-◌, ◌≤◌, List, ◌++◌, length, take, drop, sym, ◌∙◌, ap, length-drop, drop_at}
+use Rattle.std.proofs.Common.{length-take-le, le_refl, append-nil, Option, Some, None}
+use Rattle.std.proofs.{Math.Seq.take-length, Math.Seq.take-add, lemmas.Slice.take-put_mid_below}
 use Rattle.std.specs.Io.KnownBytes.{Consumes, IsAtEnd}
 use Rattle.snap_stream.specs.Streams.{Had}
 use borrow.Rule.Slice.PartMut.{put_mid, post_of}

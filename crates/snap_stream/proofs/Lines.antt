@@ -1,11 +1,9 @@
 -- Two lines, one written after the other.
-use Rattle.std.proofs.Common.{arith, ◌≡◌, ℕ, ◌+◌, List, ◌++◌, length, take, drop, sym, ◌∙◌, ap}
-use Rattle.std.proofs.Common.{subst, Option, true, Result, Ok, Err, OnOk, OnErr, is_ok}
-use Rattle.std.proofs.Common.{take-append-drop}
-use Rattle.std.proofs.lemmas.List.{append_assoc, length-append}
+use Rattle.std.proofs.Common.{arith, ◌≡◌, ℕ, ◌+◌, List, ◌++◌, length, take, drop, sym, ◌∙◌, ap, subst, Option, true}
+use Rattle.std.proofs.Common.{Result, Ok, Err, OnOk, OnErr, is_ok, take-append-drop}
 use Rattle.std.proofs.Math.Seq.{take-length, take-append_seam, take-append-add}
+use Rattle.std.proofs.{lemmas.List.append_assoc, lemmas.List.length-append, KnownBytes.Appends-trans}
 use Rattle.std.specs.Io.KnownBytes.{Appends}
-use Rattle.std.proofs.KnownBytes.{Appends-trans}
 use Rattle.snap_stream.specs.Streams.{AppendsBeginning, AppendsLess}
 use lib.Seq.{take-append-le}
 

@@ -1,12 +1,8 @@
 -- The bytes that a program reads from and writes to its streams, as far as they are known.
-use Rattle.std.specs.Prelude.{◌≡◌, ◌<◌, ◌⊎◌, ℕ, Bool, true, false, List, ◌++◌, length, Option}
-use Rattle.std.specs.Prelude.{IfSome, codes, take, string_bytes, String}
-use Rattle.std.specs.Global.{Global}
-use Rattle.std.specs.Option.{option_map}
-use Rattle.std.specs.Fmt.Cut.{EndsInDots}
-use Rattle.std.specs.Io.KnownBytes.{Appends}
-use Rattle.snap_disk.specs.Refusal.{refusal_text}
-use Rattle.snap_disk.specs.declared.refusal.Refusal.{Refusal}
+use Rattle.std.specs.Prelude.{◌≡◌, ◌<◌, ◌⊎◌, ℕ, Bool, true, false, List, ◌++◌, length, Option, IfSome, codes, take}
+use Rattle.std.specs.Prelude.{string_bytes, String}
+use Rattle.std.specs.{Global.Global, Option.option_map, Fmt.Cut.EndsInDots, Io.KnownBytes.Appends}
+use Rattle.snap_disk.specs.{Refusal.refusal_text, declared.refusal.Refusal.Refusal}
 use Rattle.snap_stream.specs.declared.complaint.TheConstants.{IN_PLACE}
 
 -- a beginning of these bytes was written

@@ -1,9 +1,8 @@
 //! Complaints: the line on standard error that says why a program stops.
-ghost use Rattle.std.specs.Prelude.{◌≡◌, ◌++◌, List, ℕ, IfSome, IsNone, OnErr, OnOk, false, true};
-ghost use Rattle.std.specs.Prelude.{string_bytes};
+ghost use Rattle.std.specs.Prelude.{◌≡◌, ◌++◌, List, ℕ, IfSome, IsNone, OnErr, OnOk, false, true, string_bytes};
 ghost use Rattle.std.specs.Io.KnownBytes.{Appends};
-ghost use Rattle.snap_stream.specs.Streams.{AppendsBeginning, AppendsLess, SaysLines, refused_line};
-ghost use Rattle.snap_stream.specs.Streams.{Complains, complaint_line};
+ghost use Rattle.snap_stream.specs.Streams.{AppendsBeginning, AppendsLess, SaysLines, refused_line, Complains};
+ghost use Rattle.snap_stream.specs.Streams.{complaint_line};
 
 use crate::write_whole;
 use snap_disk::Refusal;

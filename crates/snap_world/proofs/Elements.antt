@@ -2,9 +2,8 @@
 -- at each place.
 use Rattle.std.proofs.Common.{◌≡◌, ◌≢◌, ℕ, zero, suc, ◌<◌, List, [], ◌∷◌, length, map, get_or, replicate, Some}
 use Rattle.std.proofs.Common.{slice_get, slice_set, refl, ap, sym, ◌∙◌, subst, arith}
-use Rattle.std.specs.Prelude.{option_map}
-use Rattle.std.proofs.lemmas.List.{length-map}
 use Rattle.std.proofs.lemmas.Option.{slice_get-map, slice_get_read, slice_get_within, same_Some}
+use Rattle.std.{specs.Prelude.option_map, proofs.lemmas.List.length-map}
 use Rattle.snap_history.{specs.Pairs.Pairs, proofs.Pairs.element}
 
 -- what holds for the element that was written and for all others holds for each element

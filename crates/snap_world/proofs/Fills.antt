@@ -2,17 +2,16 @@
 use Rattle.std.proofs.Common.{◌≡◌, ℕ, zero, suc, ◌^◌, ◌<◌, List, [], ◌∷◌, length, map, Some, slice_get, slice_set, refl}
 use Rattle.std.proofs.Common.{sym, ◌∙◌, ap, subst, arith}
 use Rattle.std.specs.{Prelude.◌||◌, Prelude.false, Global.Vec}
-use Rattle.std.proofs.{lemmas.List.length-set, lemmas.List.length-map, lemmas.Bool.or_parts}
-use Rattle.std.proofs.lemmas.Option.{slice_get_within, same_Some}
+use Rattle.std.proofs.lemmas.{List.length-set, List.length-map, Bool.or_parts, Option.slice_get_within}
+use Rattle.std.proofs.lemmas.Option.{same_Some}
 use Rattle.snap_disk.specs.Device.{Device, in_range, opened, IsTouched, IsUnsynced}
-use Rattle.snap_disk.{specs.Fills.SomeFill, specs.declared.fill.Fill.Fill, specs.declared.fill.Fill.TheVariants.At}
 use Rattle.snap_disk.proofs.Fills.{vec_of, any_crash, any_failed_write}
+use Rattle.snap_disk.specs.{Fills.SomeFill, declared.fill.Fill.Fill, declared.fill.Fill.TheVariants.At}
 use Rattle.snap_history.proofs.Lists.{get-set_same, get-set_other}
 use Rattle.snap_world.specs.Crashes.{CrashMayLeave, SomeCrashLeaves, AnyCrash, CrashInsideAnyWrite, AnyFault}
 use Rattle.snap_world.specs.Devices.{AreRefilled, Changes, IsRefilled}
-use Rattle.snap_world.specs.{inside.Drives.device_of, Surface.devices_of}
-use Rattle.snap_world.specs.declared.{drive.Drive.Drive, world.World.World}
-use Rattle.snap_world.proofs.Elements.{map_element, each-set}
+use Rattle.snap_world.{specs.inside.Drives.device_of, specs.Surface.devices_of, specs.declared.drive.Drive.Drive}
+use Rattle.snap_world.{specs.declared.world.World.World, proofs.Elements.map_element, proofs.Elements.each-set}
 
 -- each device is short enough for an index
 abbrev pub AllSmall : List Device → Type 0

@@ -2,30 +2,29 @@
 use Rattle.std.proofs.Common.{◌≡◌, ◌≢◌, ℕ, ◌+◌, ◌^◌, ◌<◌, ◌≤◌, List, [], ◌∷◌, ◌++◌, length, take, get_or, Option, Some}
 use Rattle.std.proofs.Common.{slice_index, slice_get, refl, ap, sym, ◌∙◌, subst, arith}
 use Rattle.std.specs.Vec.{with_item}
-use Rattle.std.proofs.lemmas.List.{length-set, length_push}
-use Rattle.std.proofs.lemmas.Option.{slice_get_read, same_Some}
+use Rattle.std.proofs.lemmas.{List.length-set, List.length_push, Option.slice_get_read, Option.same_Some}
 use Rattle.snap_history.specs.History.{Update, from_nothing, number_after, value_after, IsMemory}
 use Rattle.snap_history.proofs.Moments.{number-push, number-push_other, value-push, value-push_other, take-push}
 use Rattle.snap_history.proofs.Moments.{number-le}
 use Rattle.snap_history.proofs.Pairs.{partner, Pairs-set, Pairs-right, Pairs-map}
-use Rattle.snap_scan.{specs.Course.IsNext, specs.Sets.named, specs.Sets.size, proofs.Sets.all_at}
-use Rattle.snap_scan.specs.declared.next.Next.{Next}
 use Rattle.snap_scan.specs.declared.next.Next.TheVariants.{Look, Clean, Borrow}
 use Rattle.snap_scan.proofs.Collects.{Collects-none, Collects-same, IsMoment-same}
+use Rattle.snap_scan.specs.{Course.IsNext, Sets.named, Sets.size, declared.next.Next.Next}
+use Rattle.snap_scan.proofs.Sets.{all_at}
 use Rattle.snap_world.specs.Answers.{ScanState, scan_from, IsAnswer, number_at, value_at, all_of, set_of, numbers_of}
 use Rattle.snap_world.specs.Answers.{values_of}
 use Rattle.snap_world.specs.inside.Gathers.{Gathers, Gathered, IsSeen, picked, IsUnderWay, RegisterStands, IsView}
 use Rattle.snap_world.specs.inside.Gathers.{ViewStands}
 use Rattle.snap_world.specs.Machine.{State, WriterState, ScannerState, with_writer, with_scanner, with_update}
-use Rattle.snap_world.specs.{Phases.WriterIs, Phases.ScannerIs, inside.Steps.phases_of_actors}
 use Rattle.snap_world.specs.inside.Stands.{HasBegun, WriterStands, ScannerStands, ActorsStand, IsAtPhase, IsScannerAt}
 use Rattle.snap_world.specs.inside.Stands.{is_fenced}
-use Rattle.snap_world.specs.declared.{register.Register.Register, collector.Collector.Collector, actors.Actors.Actors}
-use Rattle.snap_world.specs.declared.{writer.Writer.Writer, scanner.Scanner.Scanner, writer.WriterPhase.WriterPhase}
-use Rattle.snap_world.specs.declared.scanner.ScannerPhase.{ScannerPhase}
-use Rattle.snap_world.proofs.{Elements.each-set, Looks.number_now, Looks.first_look}
 use Rattle.snap_world.proofs.PhaseMoves.{writer_there, writer_read, scanner_read, with_actors_writer}
 use Rattle.snap_world.proofs.PhaseMoves.{with_actors_scanner}
+use Rattle.snap_world.specs.{Phases.WriterIs, declared.actors.Actors.Actors, declared.writer.Writer.Writer}
+use Rattle.snap_world.specs.{Phases.ScannerIs, inside.Steps.phases_of_actors, declared.scanner.Scanner.Scanner}
+use Rattle.snap_world.specs.{declared.register.Register.Register, declared.collector.Collector.Collector}
+use Rattle.snap_world.specs.{declared.writer.WriterPhase.WriterPhase, declared.scanner.ScannerPhase.ScannerPhase}
+use Rattle.snap_world.proofs.{Elements.each-set, Looks.number_now, Looks.first_look}
 use Rattle.snap_world.specs.declared.writer.WriterPhase.TheVariants as writer
 use Rattle.snap_world.specs.declared.scanner.ScannerPhase.TheVariants as scanner
 

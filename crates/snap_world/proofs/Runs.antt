@@ -1,19 +1,18 @@
 -- One more step at the end of a run.
 use Rattle.std.proofs.Common.{◌≡◌, ℕ, ◌+◌, ◌<◌, List, [], ◌∷◌, ◌++◌, length, take, get_or, Result, Ok, Err, IfOk, refl}
 use Rattle.std.proofs.Common.{ap, sym, ◌∙◌, subst}
-use Rattle.std.proofs.lemmas.List.{take_more}
-use Rattle.std.specs.declared.alloc.AllocError.{AllocError}
+use Rattle.std.{proofs.lemmas.List.take_more, specs.declared.alloc.AllocError.AllocError}
 use Rattle.snap_history.{specs.History.IsBeginning, proofs.Beginnings.beginning-self, proofs.Beginnings.beginning-trans}
 use Rattle.snap_world.specs.Machine.{State, Step, chosen}
-use Rattle.snap_world.specs.{inside.NodeSteps.IsNodeStep, Runs.Configuration, Runs.Run}
 use Rattle.snap_world.specs.Surface.{StandsFor, IsRun, segments_of, configuration}
-use Rattle.snap_world.specs.declared.event.Actor.TheVariants.{Writer, Scanner}
-use Rattle.snap_world.specs.declared.{event.Event.Event, event.Reply.Reply, world.World.World}
 use Rattle.snap_world.specs.declared.event.Event.TheVariants.{Begin, Look, Call, Fail, Show, Acknowledge, Scan, Pick}
 use Rattle.snap_world.specs.declared.event.Event.TheVariants.{Answer, Crash, Restart, RestartCall, RestartFail, Serve}
 use Rattle.snap_world.specs.declared.event.Reply.TheVariants.{Begun as Begun_reply, Number, Called, DeviceFailed}
 use Rattle.snap_world.specs.declared.event.Reply.TheVariants.{Shown as Shown_reply, Stored, ScanBegun, Memory, Part}
 use Rattle.snap_world.specs.declared.event.Reply.TheVariants.{Crashed, Restarting, NotNow}
+use Rattle.snap_world.specs.{inside.NodeSteps.IsNodeStep, Runs.Configuration, Runs.Run}
+use Rattle.snap_world.specs.{declared.event.Actor.TheVariants.Writer, declared.event.Actor.TheVariants.Scanner}
+use Rattle.snap_world.specs.{declared.event.Event.Event, declared.event.Reply.Reply, declared.world.World.World}
 use Rattle.snap_world.proofs.Fills.{no_bytes_left_out}
 
 stays : (x y : State) → y.history ≡ x.history → IsBeginning x.history y.history

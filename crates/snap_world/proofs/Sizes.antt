@@ -1,9 +1,8 @@
 -- The sizes of actors that represent some state.
 use Rattle.std.proofs.Common.{◌≡◌, ℕ, ◌<◌, ◌≤◌, length, arith}
-use Rattle.std.specs.Vec.{vec_len}
-use Rattle.std.proofs.{Math.Logic.∥∥₁_elim, Props.props, lemmas.Nat.pow_below}
+use Rattle.std.{specs.Vec.vec_len, proofs.Math.Logic.∥∥₁_elim, proofs.Props.props, proofs.lemmas.Nat.pow_below}
 use Rattle.snap_world.specs.{Answers.all_of, Phases.WriterIs, inside.Stands.Stand, inside.Steps.phases_of_actors}
-use Rattle.snap_world.specs.declared.{actors.Actors.Actors, writer.WriterPhase.WriterPhase}
+use Rattle.snap_world.specs.{declared.actors.Actors.Actors, declared.writer.WriterPhase.WriterPhase}
 use Rattle.snap_world.proofs.PhaseMoves.{writer_fits}
 
 module _ (w : Actors) (t : Stand w) where

@@ -2,11 +2,9 @@
 -- updates the history had then.
 use Rattle.std.specs.Prelude.{◌≡◌, ℕ, ◌-◌, ◌^◌, List, [], map, Option, Some, None, slice_index, take}
 use Rattle.snap_history.specs.History.{Update, from_nothing, number_after, value_after}
-use Rattle.snap_scan.specs.Collects.{IsMoment}
-use Rattle.snap_scan.specs.Sets.{named, size}
+use Rattle.snap_scan.specs.{Collects.IsMoment, Sets.named, Sets.size}
 use Rattle.snap_world.specs.declared.event.PartEntry.{PartEntry}
-use Rattle.snap_world.specs.declared.scanner.Asked.{Asked}
-use Rattle.snap_world.specs.declared.scanner.Asked.TheVariants.{All, Only}
+use Rattle.snap_world.specs.declared.scanner.Asked.{Asked, TheVariants.All, TheVariants.Only}
 
 -- number and value of segment i after the first t updates
 abbrev pub number_at : List Update → ℕ → ℕ → ℕ

@@ -1,9 +1,8 @@
 -- The device calls of a store and of a restart, as a reply names them.
 use Rattle.snap_persist.specs.declared.persist.NextCall.{NextCall}
 use Rattle.snap_persist.specs.declared.persist.NextCall.TheVariants.{Write, Sync, Done}
-use Rattle.snap_world.specs.declared.event.Kind.{Kind}
+use Rattle.snap_world.specs.declared.{event.Kind.Kind, node.OpeningCall.OpeningCall}
 use Rattle.snap_world.specs.declared.event.Kind.TheVariants as kind
-use Rattle.snap_world.specs.declared.node.OpeningCall.{OpeningCall}
 use Rattle.snap_world.specs.declared.node.OpeningCall.TheVariants as opening
 
 -- the call of a store of this kind; a store makes no read

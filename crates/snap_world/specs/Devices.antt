@@ -1,25 +1,20 @@
 -- How each event changes the devices.
 use Rattle.std.specs.Prelude.{◌≡◌, ℕ, Bool, ◌+◌, List, ◌∷◌, Some, slice_get, slice_set}
 use Rattle.snap_disk.specs.Device.{Device, in_range, IsTouched, IsSynced, IsUnsynced}
-use Rattle.snap_disk.specs.Fill.{IsFilled}
-use Rattle.snap_disk.specs.declared.fill.Fill.{Fill}
+use Rattle.snap_disk.specs.{Fill.IsFilled, declared.fill.Fill.Fill}
 use Rattle.snap_slot.specs.Layout.{slot_of, body_block, Head, Holds, IsSpare}
 use Rattle.snap_persist.specs.Device.{IsJustWritten, write_at, write_bytes, write_len}
+use Rattle.snap_persist.specs.{declared.persist.NextCall.NextCall, Stage.store_calls}
 use Rattle.snap_history.specs.Pairs.{Pairs}
 use Rattle.snap_history.specs.History.{from_nothing, number_after, value_after}
-use Rattle.snap_persist.specs.declared.persist.NextCall.{NextCall}
-use Rattle.snap_persist.specs.declared.persist.NextCall.TheVariants as next
-use Rattle.snap_persist.specs.Stage.{store_calls}
-use Rattle.snap_world.specs.Calls.{store_call}
 use Rattle.snap_world.specs.Machine.{State, WriterState, Begun}
-use Rattle.snap_world.specs.NodePhases.{WorldPhases}
-use Rattle.snap_world.specs.declared.node.NodePhase.TheVariants.{Restarting}
-use Rattle.snap_world.specs.declared.event.Event.{Event}
 use Rattle.snap_world.specs.declared.event.Event.TheVariants.{Call, Fail, Crash, RestartCall, RestartFail, Serve}
-use Rattle.snap_world.specs.declared.node.OpeningCall.{OpeningCall}
-use Rattle.snap_world.specs.declared.node.OpeningCall.TheVariants as opening
-use Rattle.snap_world.specs.declared.event.Reply.{Reply}
 use Rattle.snap_world.specs.declared.event.Reply.TheVariants.{Called, DeviceFailed, Crashed, Memory, NotNow}
+use Rattle.snap_world.specs.{Calls.store_call, NodePhases.WorldPhases, declared.node.NodePhase.TheVariants.Restarting}
+use Rattle.snap_world.specs.{declared.event.Event.Event, declared.node.OpeningCall.OpeningCall}
+use Rattle.snap_world.specs.declared.event.Reply.{Reply}
+use Rattle.snap_persist.specs.declared.persist.NextCall.TheVariants as next
+use Rattle.snap_world.specs.declared.node.OpeningCall.TheVariants as opening
 
 -- this call of a store of this body block into this slot succeeded
 abbrev pub IsMade : ℕ → List ℕ → NextCall → Device → Device → Type 0

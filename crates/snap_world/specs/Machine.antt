@@ -2,27 +2,19 @@
 -- which each scan began and looked last, and the moment of its answer.
 use Rattle.std.proofs.Common.{suc}
 use Rattle.std.specs.Prelude.{◌≡◌, ℕ, Bool, true, false, List, [], ◌∷◌, ◌++◌, length, map, Option, Some, None}
-use Rattle.std.specs.Prelude.{slice_get, slice_set}
-use Rattle.std.specs.Prelude.{take}
+use Rattle.std.specs.Prelude.{slice_get, slice_set, take}
 use Rattle.snap_history.specs.History.{Update, from_nothing, number_after, IsMemory}
-use Rattle.snap_scan.specs.Looks.{IsDecided}
 use Rattle.snap_scan.specs.Course.{HasTurn, Borrows}
-use Rattle.snap_scan.specs.Sets.{size}
-use Rattle.snap_scan.specs.declared.set.SegmentSet.{SegmentSet}
-use Rattle.snap_scan.specs.Collects.{IsMoment}
+use Rattle.snap_scan.specs.{Looks.IsDecided, Sets.size, declared.set.SegmentSet.SegmentSet, Collects.IsMoment}
 use Rattle.snap_world.specs.Answers.{ScanState, scan_from, IsAnswer, all_of, set_of, numbers_of, part_at, pair_of}
-use Rattle.snap_world.specs.declared.scanner.Asked.{Asked}
-use Rattle.snap_world.specs.declared.scanner.Asked.TheVariants.{All, Only}
-use Rattle.snap_world.specs.declared.event.Actor.TheVariants.{Writer, Scanner}
-use Rattle.snap_world.specs.declared.event.Event.{Event}
-use Rattle.snap_world.specs.declared.event.Event.TheVariants.{Begin, Look, Call, Fail, Show, Acknowledge, Scan}
-use Rattle.snap_world.specs.declared.event.Event.TheVariants.{Pick, Answer, Crash}
-use Rattle.snap_world.specs.declared.event.Event.TheVariants.{Restart, RestartCall, RestartFail, Serve}
-use Rattle.snap_world.specs.declared.event.Reply.{Reply}
+use Rattle.snap_world.specs.declared.event.Event.TheVariants.{Begin, Look, Call, Fail, Show, Acknowledge, Scan, Pick}
+use Rattle.snap_world.specs.declared.event.Event.TheVariants.{Answer, Crash, Restart, RestartCall, RestartFail, Serve}
 use Rattle.snap_world.specs.declared.event.Reply.TheVariants.{Begun as Begun_reply, Number, Called, DeviceFailed}
-use Rattle.snap_world.specs.declared.event.Reply.TheVariants.{Shown as Shown_reply}
-use Rattle.snap_world.specs.declared.event.Reply.TheVariants.{Stored, ScanBegun, Memory, Part, Crashed, Restarting}
-use Rattle.snap_world.specs.declared.event.Reply.TheVariants.{NotNow}
+use Rattle.snap_world.specs.declared.event.Reply.TheVariants.{Shown as Shown_reply, Stored, ScanBegun, Memory, Part}
+use Rattle.snap_world.specs.declared.event.Reply.TheVariants.{Crashed, Restarting, NotNow}
+use Rattle.snap_world.specs.declared.scanner.Asked.{Asked, TheVariants.All, TheVariants.Only}
+use Rattle.snap_world.specs.declared.event.{Actor.TheVariants.Writer, Actor.TheVariants.Scanner, Event.Event}
+use Rattle.snap_world.specs.declared.event.Reply.{Reply}
 
 -- a writer's current update
 pub data Pending : Type 0 where

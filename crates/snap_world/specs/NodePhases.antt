@@ -1,32 +1,24 @@
 -- The phases of a world: of its node, of its writers and scanners, and of the stores on its
 -- devices.
 use Rattle.std.specs.Prelude.{◌≡◌, ◌⊎◌, ℕ, ◌+◌, ◌^◌, ◌<◌, nat_lt, true, if◌then◌else◌, List, [], ◌∷◌, ◌++◌, length}
-use Rattle.std.specs.Prelude.{replicate, Some}
-use Rattle.std.specs.Prelude.{slice_get, slice_set}
-use Rattle.snap_scan.specs.Looks.{IsDecided}
-use Rattle.snap_scan.specs.Sets.{size}
+use Rattle.std.specs.Prelude.{replicate, Some, slice_get, slice_set}
+use Rattle.snap_scan.specs.{Looks.IsDecided, Sets.size}
 use Rattle.snap_history.specs.History.{from_nothing, number_after}
+use Rattle.snap_history.specs.{declared.limits.TheConstants.LAST_NUMBER, Limits.IsShort}
 use Rattle.snap_world.specs.Machine.{State, WriterState, Opened}
 use Rattle.snap_world.specs.Answers.{ScanState, all_of, set_of}
-use Rattle.snap_world.specs.declared.scanner.Asked.{Asked}
 use Rattle.snap_world.specs.Phases.{Phases, WriterIs, ScannerIs, writer_to, scanner_to}
-use Rattle.snap_history.specs.declared.limits.TheConstants.{LAST_NUMBER}
-use Rattle.snap_history.specs.Limits.{IsShort}
-use Rattle.snap_persist.specs.declared.persist.NextCall.{NextCall}
-use Rattle.snap_persist.specs.Stage.{store_calls}
 use Rattle.snap_world.specs.Calls.{store_call, opening_kind}
-use Rattle.snap_world.specs.declared.event.Actor.TheVariants as actor
-use Rattle.snap_world.specs.declared.event.Event.{Event}
-use Rattle.snap_world.specs.declared.event.Event.TheVariants.{Begin, Look, Show, Acknowledge, Scan, Pick, Answer}
-use Rattle.snap_world.specs.declared.event.Event.TheVariants.{Call, Fail, Crash}
-use Rattle.snap_world.specs.declared.event.Event.TheVariants.{Restart, RestartCall, RestartFail, Serve}
-use Rattle.snap_world.specs.declared.event.Reply.{Reply}
+use Rattle.snap_world.specs.declared.event.Event.TheVariants.{Begin, Look, Show, Acknowledge, Scan, Pick, Answer, Call}
+use Rattle.snap_world.specs.declared.event.Event.TheVariants.{Fail, Crash, Restart, RestartCall, RestartFail, Serve}
 use Rattle.snap_world.specs.declared.event.Reply.TheVariants.{Begun, Number, Shown, Stored, ScanBegun, Called}
-use Rattle.snap_world.specs.declared.event.Reply.TheVariants.{DeviceFailed, Crashed}
-use Rattle.snap_world.specs.declared.event.Reply.TheVariants.{Restarting as Restarting_reply, Memory, Part, NotNow}
-use Rattle.snap_world.specs.declared.node.NodePhase.{NodePhase}
+use Rattle.snap_world.specs.declared.event.Reply.TheVariants.{DeviceFailed, Crashed, Restarting as Restarting_reply}
+use Rattle.snap_world.specs.declared.event.Reply.TheVariants.{Memory, Part, NotNow}
 use Rattle.snap_world.specs.declared.node.NodePhase.TheVariants.{Up, Down, Restarting, Ready}
-use Rattle.snap_world.specs.declared.node.OpeningCall.{OpeningCall}
+use Rattle.snap_world.specs.declared.{scanner.Asked.Asked, event.Event.Event, event.Reply.Reply}
+use Rattle.snap_world.specs.declared.{node.NodePhase.NodePhase, node.OpeningCall.OpeningCall}
+use Rattle.snap_persist.specs.{declared.persist.NextCall.NextCall, Stage.store_calls}
+use Rattle.snap_world.specs.declared.event.Actor.TheVariants as actor
 use Rattle.snap_world.specs.declared.node.OpeningCall.TheVariants as opening
 use Rattle.snap_world.specs.declared.writer.WriterPhase.TheVariants as writer
 use Rattle.snap_world.specs.declared.scanner.ScannerPhase.TheVariants as scanner

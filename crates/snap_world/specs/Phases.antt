@@ -1,7 +1,6 @@
 -- The phases of writers and scanners.
 use Rattle.std.specs.Prelude.{◌≡◌, ℕ, List, Some, slice_get, slice_set}
-use Rattle.snap_world.specs.declared.writer.WriterPhase.{WriterPhase}
-use Rattle.snap_world.specs.declared.scanner.ScannerPhase.{ScannerPhase}
+use Rattle.snap_world.specs.declared.{writer.WriterPhase.WriterPhase, scanner.ScannerPhase.ScannerPhase}
 
 -- the phase of each segment's writer, and of each scanner
 pub record Phases : Type 0 where

@@ -1,11 +1,9 @@
 -- Runs of the abstract machine, with the phases of the world and its devices.
 use Rattle.std.specs.Prelude.{◌≡◌, ℕ, List, [], ◌∷◌}
 use Rattle.snap_disk.specs.Device.{Device}
-use Rattle.snap_world.specs.Devices.{DevicesMove, GatesTold}
-use Rattle.snap_world.specs.Machine.{State, Step}
 use Rattle.snap_world.specs.NodePhases.{WorldPhases, TellsWhether, PhasesMove}
-use Rattle.snap_world.specs.declared.event.Event.{Event}
-use Rattle.snap_world.specs.declared.event.Reply.{Reply}
+use Rattle.snap_world.specs.{Devices.DevicesMove, Devices.GatesTold, Machine.State, Machine.Step}
+use Rattle.snap_world.specs.{declared.event.Event.Event, declared.event.Reply.Reply}
 
 -- a state of the abstract machine, with the phases of a world and its devices
 pub record Configuration : Type 0 where

@@ -4,9 +4,7 @@ use Rattle.snap_disk.specs.Device.{Device}
 use Rattle.snap_slot.specs.States.{IsAtRest}
 use Rattle.snap_persist.specs.Stage.{store_calls}
 use Rattle.snap_world.specs.Machine.{State, Closed, resting}
-use Rattle.snap_world.specs.NodePhases.{WorldPhases}
-use Rattle.snap_world.specs.Phases.{Phases}
-use Rattle.snap_world.specs.declared.node.NodePhase.TheVariants.{Up}
+use Rattle.snap_world.specs.{NodePhases.WorldPhases, Phases.Phases, declared.node.NodePhase.TheVariants.Up}
 use Rattle.snap_world.specs.declared.writer.WriterPhase.TheVariants as writer
 use Rattle.snap_world.specs.declared.scanner.ScannerPhase.TheVariants as scanner
 

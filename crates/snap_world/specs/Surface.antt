@@ -2,14 +2,9 @@
 use Rattle.std.specs.Prelude.{◌≡◌, ℕ, List}
 use Rattle.snap_disk.specs.Device.{Device}
 use Rattle.snap_history.specs.History.{IsBeginning}
-use Rattle.snap_world.specs.Machine.{State}
-use Rattle.snap_world.specs.NodePhases.{WorldPhases}
-use Rattle.snap_world.specs.inside.NodeStands.{NodeStands}
-use Rattle.snap_world.specs.inside.NodeSteps.{phases_of_node, devices_of_node}
-use Rattle.snap_world.specs.Runs.{Configuration, Run}
-use Rattle.snap_world.specs.declared.event.Event.{Event}
-use Rattle.snap_world.specs.declared.event.Reply.{Reply}
-use Rattle.snap_world.specs.declared.world.World.{World}
+use Rattle.snap_world.specs.{Machine.State, Runs.Configuration, Runs.Run, declared.world.World.World}
+use Rattle.snap_world.specs.{NodePhases.WorldPhases, inside.NodeSteps.phases_of_node, inside.NodeSteps.devices_of_node}
+use Rattle.snap_world.specs.{inside.NodeStands.NodeStands, declared.event.Event.Event, declared.event.Reply.Reply}
 
 -- how many segments the world has
 abbrev pub segments_of : World → ℕ

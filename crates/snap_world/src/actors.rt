@@ -3,11 +3,10 @@
 
 ghost use Rattle.std.specs.Prelude.{◌≡◌, ◌↔◌, ◌<◌, ◌≤◌, IfOk, IsTrue};
 ghost use Rattle.snap_history.specs.{declared.limits.TheConstants.MAX_COUNT, Pairs.Pairs};
-ghost use Rattle.snap_world.specs.{Phases.WriterIs, Phases.ScannerIs, Start.start_state};
-ghost use Rattle.snap_world.specs.{Start.start_phases, declared.event.Event.Event};
-ghost use Rattle.snap_world.specs.inside.Stands.{ActorsStand, Stand};
-ghost use Rattle.snap_world.specs.inside.{Fresh.IsHalted, Fresh.IsScannerHalted};
-ghost use Rattle.snap_world.specs.inside.{Steps.phases_of_actors, NodeSteps.IsActorsStep};
+ghost use Rattle.snap_world.specs.{Phases.WriterIs, Phases.ScannerIs, Start.start_state, Start.start_phases};
+ghost use Rattle.snap_world.specs.{declared.event.Event.Event, inside.Stands.ActorsStand, inside.Stands.Stand};
+ghost use Rattle.snap_world.specs.{inside.Fresh.IsHalted, inside.Fresh.IsScannerHalted, inside.Steps.phases_of_actors};
+ghost use Rattle.snap_world.specs.inside.NodeSteps.{IsActorsStep};
 
 mod scans;
 mod updates;

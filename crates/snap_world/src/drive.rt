@@ -1,18 +1,17 @@
 //! The device of a segment, and the store that is made on it.
 ghost use Rattle.std.specs.Prelude.{◌≡◌, ◌≢◌, ◌∷◌, ◌+◌, ◌<◌, ◌≤◌, ℕ, List, [], length, map, IfOk};
 ghost use Rattle.snap_disk.specs.{Device.Device, Device.IsTouched, declared.fill.Fill.Fill};
-ghost use Rattle.snap_slot.specs.declared.layout.TheConstants.{FILE_LEN, SLOT_COUNT};
-ghost use Rattle.snap_history.specs.declared.limits.TheConstants.{MAX_COUNT, MAX_VALUE_LEN};
-ghost use Rattle.snap_history.specs.{Limits.IsNumber, Limits.IsShort, Pairs.Pairs};
+ghost use Rattle.snap_slot.specs.{declared.layout.TheConstants.FILE_LEN, declared.layout.TheConstants.SLOT_COUNT};
 ghost use Rattle.snap_slot.specs.{Layout.body_block, Layout.IsFileOf, Findings.IsFound};
+ghost use Rattle.snap_history.specs.{declared.limits.TheConstants.MAX_COUNT, Pairs.Pairs};
+ghost use Rattle.snap_history.specs.{declared.limits.TheConstants.MAX_VALUE_LEN, Limits.IsNumber, Limits.IsShort};
 ghost use Rattle.snap_persist.specs.Device.{IsJustWritten, write_at, write_bytes, write_len};
 ghost use Rattle.snap_persist.specs.Stage.{calls_left, after_call, first_call};
+ghost use Rattle.snap_persist.specs.declared.persist.NextCall.{NextCall};
 ghost use Rattle.snap_world.specs.Calls.{store_call};
 ghost use Rattle.snap_world.specs.Devices.{IsMade, IsMissed, IsWriteFailed};
-ghost use Rattle.snap_world.specs.inside.Drives.{device_of, IsFormatted, AllReady, IsCrashed};
-ghost use Rattle.snap_world.specs.inside.Drives.{AreCrashed};
+ghost use Rattle.snap_world.specs.inside.Drives.{device_of, IsFormatted, AllReady, IsCrashed, AreCrashed};
 ghost use Rattle.snap_world.specs.inside.Recovery.{found_value, AllReadable, IsResumed};
-ghost use Rattle.snap_persist.specs.declared.persist.NextCall.{NextCall};
 
 use crate::event::Kind;
 use snap_disk::{Fill, Image};

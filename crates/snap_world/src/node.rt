@@ -2,9 +2,8 @@
 ghost use Rattle.std.specs.Prelude.{◌≡◌, ◌<◌, ◌≤◌, IfOk, OnErr};
 ghost use Rattle.snap_history.specs.declared.limits.TheConstants.{MAX_COUNT};
 ghost use Rattle.snap_world.specs.Start.{start_state, start_world_phases, AreFormatted};
-ghost use Rattle.snap_world.specs.NodePhases.{NeedsMemory};
-ghost use Rattle.snap_world.specs.inside.NodeStands.{NodeStands, NodeStand};
 ghost use Rattle.snap_world.specs.inside.NodeSteps.{IsNodeStep, phases_of_node, devices_of_node};
+ghost use Rattle.snap_world.specs.{NodePhases.NeedsMemory, inside.NodeStands.NodeStands, inside.NodeStands.NodeStand};
 
 mod restarts;
 mod stores;

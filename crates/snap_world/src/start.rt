@@ -1,8 +1,7 @@
 //! The actors of a new world, with their registers: nothing was shown, and all are idle.
 ghost use Rattle.std.specs.Prelude.{◌≡◌, ℕ, ◌<◌, ◌≤◌, length, IfOk};
 ghost use Rattle.snap_history.specs.declared.limits.TheConstants.{MAX_COUNT};
-ghost use Rattle.snap_world.specs.inside.Fresh.{IsFreshRegister, IsFreshWriter, IsFreshScanner};
-ghost use Rattle.snap_world.specs.inside.Fresh.{Each};
+ghost use Rattle.snap_world.specs.inside.Fresh.{IsFreshRegister, IsFreshWriter, IsFreshScanner, Each};
 
 use crate::collector::Collector;
 use crate::register::Register;

@@ -1,16 +1,12 @@
 //! A world, which always represents some state of the abstract machine.
 #![tactic(auto, using(crate::proofs::Runs::run_facts))]
 
-ghost use Rattle.std.specs.Prelude.{◌≡◌, ℕ, ◌<◌, ◌≤◌, List, [], ◌∷◌, length, take};
-ghost use Rattle.std.specs.Prelude.{IfOk, IfErr, OnErr};
-ghost use Rattle.snap_history.specs.declared.limits.TheConstants.{MAX_COUNT};
-ghost use Rattle.snap_history.specs.declared.limits.TheConstants.{MAX_SCANNERS};
+ghost use Rattle.std.specs.Prelude.{◌≡◌, ℕ, ◌<◌, ◌≤◌, List, [], ◌∷◌, length, take, IfOk, IfErr, OnErr};
+ghost use Rattle.snap_history.specs.declared.limits.TheConstants.{MAX_COUNT, MAX_SCANNERS};
 ghost use Rattle.snap_history.specs.History.{IsBeginning};
-ghost use Rattle.snap_world.specs.Machine.{State};
 ghost use Rattle.snap_world.specs.NodePhases.{TellsWhether, PhasesMove, NeedsMemory, StopsAt};
 ghost use Rattle.snap_world.specs.Start.{start_state, start_world_phases, AreFormatted};
-ghost use Rattle.snap_world.specs.inside.NodeStands.{NodeStands};
-ghost use Rattle.snap_world.specs.declared.event.Reply.{Reply};
+ghost use Rattle.snap_world.specs.{Machine.State, inside.NodeStands.NodeStands, declared.event.Reply.Reply};
 
 use crate::event::{Event, Reply};
 use crate::node::Node;
@@ -37,8 +33,7 @@ pub struct World {
 
 impl World {
     ghost use Rattle.snap_world.specs.Crashes.{AnyCrash, CrashInsideAnyWrite, AnyFault};
-    ghost use Rattle.snap_world.specs.Surface.{StandsFor, IsRun};
-    ghost use Rattle.snap_world.specs.Surface.{segments_of, phases_of, devices_of};
+    ghost use Rattle.snap_world.specs.Surface.{StandsFor, IsRun, segments_of, phases_of, devices_of};
 
     /// A world of this many segments and scanners, 1 to 16 each: every segment has number 0 and the
     /// empty value, its device is formatted, and all actors are idle. The world keeps the

@@ -1,17 +1,16 @@
 -- Exactly one rule applies to an update.
 use Rattle.std.proofs.Common.{rules, ◌≡◌, ℕ, ◌+◌, List, length, Option, Some, None, refl, arith}
-use mathlib.Core.Logic.{dite}
-use mathlib.Core.List.{List-discrete}
-use native.Mathlib.Decide.{dec_le, ℕ_discrete}
 use Rattle.snap_history.specs.declared.limits.TheConstants.{MAX_VALUE_LEN, LAST_NUMBER}
 use Rattle.snap_history.specs.Limits.{IsNumber, IsShort}
 use Rattle.snap_scan.specs.Looks.{most_looks}
 use Rattle.snap_register.specs.Rule.{segments}
 use Rattle.snap_writer.specs.Writer.{WriterState, number_of, value_of}
-use Rattle.snap_writer.specs.Judge.{IsNext, IsJudged}
-use Rattle.snap_writer.specs.declared.judgement.Judgement.{Judgement}
-use Rattle.snap_writer.specs.declared.judgement.Judgement.TheVariants.{TooLong, Stored, Conflict, OutOfStep}
-use Rattle.snap_writer.specs.declared.judgement.Judgement.TheVariants.{Exhausted, Fenced, Worn, Go}
+use Rattle.snap_writer.specs.declared.judgement.Judgement.TheVariants.{TooLong, Stored, Conflict, OutOfStep, Exhausted}
+use Rattle.snap_writer.specs.declared.judgement.Judgement.TheVariants.{Fenced, Worn, Go}
+use Rattle.snap_writer.specs.{Judge.IsNext, Judge.IsJudged, declared.judgement.Judgement.Judgement}
+use mathlib.Core.Logic.{dite}
+use mathlib.Core.List.{List-discrete}
+use native.Mathlib.Decide.{dec_le, ℕ_discrete}
 
 module _ {D : Type 0} (w : WriterState D) (k : ℕ) (v : List ℕ) where
   abbrev Ruled : Type 0

@@ -2,11 +2,8 @@
 use Rattle.std.proofs.Common.{◌≡◌, ◌⊎◌, ⊎_elim, ℕ, ◌+◌, inl, inr, List, [], ◌∷◌, Some, None, true, Result, Ok, Err}
 use Rattle.std.proofs.Common.{refl, ap, sym, subst}
 use Rattle.std.specs.Prelude.{OnOk, OnErr}
-use Rattle.snap_disk.specs.Device.{MayLeave, IsSettled}
-use Rattle.snap_disk.specs.Time.{LeavesOnly}
-use Rattle.snap_disk.specs.declared.refusal.Refusal.{Refusal}
-use Rattle.snap_slot.specs.Layout.{IsFileOf}
-use Rattle.snap_slot.specs.States.{IsEither}
+use Rattle.snap_disk.specs.{Device.MayLeave, Device.IsSettled, Time.LeavesOnly, declared.refusal.Refusal.Refusal}
+use Rattle.snap_slot.specs.{Layout.IsFileOf, States.IsEither}
 use Rattle.snap_segment.specs.Segment.{SegmentState}
 use Rattle.snap_register.specs.Seat.{Meets}
 use Rattle.snap_writer.specs.Writer.{WriterState, number_of, value_of}

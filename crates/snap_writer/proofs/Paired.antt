@@ -2,9 +2,8 @@
 use Rattle.std.proofs.Common.{◌≡◌, ℕ, ◌+◌, List, ap, sym, ◌∙◌}
 use Rattle.snap_segment.specs.Segment.{SegmentState}
 use Rattle.snap_register.specs.Seat.{Known, Grows}
-use Rattle.snap_writer.specs.Writer.{IsPaired}
-use Rattle.snap_writer.specs.Update.{IsSameSeat, EndsWith}
 use Rattle.snap_writer.proofs.Shown.{same_grown, number_grown, value_grown, number_shown, value_shown}
+use Rattle.snap_writer.specs.{Writer.IsPaired, Update.IsSameSeat, Update.EndsWith}
 
 module _ {D : Type 0} (s r : SegmentState D) (a b : Known) where
   alone_still : IsSameSeat a b → a.high ≡ a.low + 1 → b.high ≡ b.low + 1

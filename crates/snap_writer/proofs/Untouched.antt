@@ -1,19 +1,13 @@
 -- An update under a rule that calls nothing.
 use Rattle.std.proofs.Common.{◌≡◌, ◌≢◌, ℕ, List, [], Option, None, Result, inl, refl, subst}
-use Rattle.snap_disk.specs.Time.{LeavesOnly}
-use Rattle.snap_disk.specs.Laws.{started}
-use Rattle.snap_disk.specs.declared.disk.Disk as Disk
-use Rattle.snap_disk.specs.declared.refusal.Refusal.{Refusal}
-use Rattle.snap_slot.specs.States.{IsEither}
-use Rattle.snap_slot.proofs.Rest.{at_rest_leaves}
+use Rattle.snap_disk.specs.{Time.LeavesOnly, Laws.started, declared.refusal.Refusal.Refusal}
+use Rattle.snap_slot.{specs.States.IsEither, proofs.Rest.at_rest_leaves}
 use Rattle.snap_segment.specs.Segment.{CountsRefusal, IsKept}
 use Rattle.snap_writer.specs.Writer.{WriterState, number_of, value_of}
-use Rattle.snap_writer.specs.Judge.{IsJudged, IsAnswer}
-use Rattle.snap_writer.specs.declared.judgement.Judgement.{Judgement}
-use Rattle.snap_writer.specs.declared.judgement.Judgement.TheVariants.{Go}
-use Rattle.snap_writer.specs.Updated.{IsUpdated}
-use Rattle.snap_writer.proofs.Crashes.{OnlyNow}
-use Rattle.snap_writer.proofs.Judgements.{one_rule}
+use Rattle.snap_writer.specs.{Judge.IsJudged, Judge.IsAnswer, declared.judgement.Judgement.Judgement}
+use Rattle.snap_writer.specs.{declared.judgement.Judgement.TheVariants.Go, Updated.IsUpdated}
+use Rattle.snap_writer.proofs.{Crashes.OnlyNow, Judgements.one_rule}
+use Rattle.snap_disk.specs.declared.disk.Disk as Disk
 
 module _ {D : Type 0} (disk : Disk.Ghosts D) (only_now : OnlyNow disk) (w : WriterState D)
     (kept : disk.is_honest w.segment.device → IsKept w.segment.index w.segment.count (number_of w)

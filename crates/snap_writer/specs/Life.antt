@@ -1,14 +1,10 @@
 -- The life of a writer: its actions in order, each on its device alone or on its seat alone; and
 -- the places in it at which a crash may find it.
 use Rattle.std.specs.Prelude.{◌≡◌, ◌⊎◌, ℕ, ◌+◌, List, [], ◌∷◌, Option, Some, None, true}
-use Rattle.snap_disk.specs.Device.{MayLeave}
-use Rattle.snap_disk.specs.Time.{LeavesOnly}
-use Rattle.snap_segment.specs.Layout.{IsFileOf}
-use Rattle.snap_segment.specs.States.{IsEither}
-use Rattle.snap_segment.specs.Segment.{SegmentState}
+use Rattle.snap_disk.specs.{Device.MayLeave, Time.LeavesOnly}
+use Rattle.snap_segment.specs.{Layout.IsFileOf, States.IsEither, Segment.SegmentState}
 use Rattle.snap_history.specs.History.{Update, IsBeginning}
-use Rattle.snap_register.specs.declared.plan.Plan.{Plan}
-use Rattle.snap_register.specs.Seat.{Grows}
+use Rattle.snap_register.specs.{declared.plan.Plan.Plan, Seat.Grows}
 use Rattle.snap_writer.specs.Writer.{WriterState, number_of, value_of}
 use Rattle.snap_writer.specs.Update.{IsSameSeat, EndsWith}
 use Rattle.snap_disk.specs.declared.disk.Disk as Disk

@@ -1,21 +1,15 @@
 -- All effects of an update on its writer.
 use Rattle.std.specs.Prelude.{◌≡◌, ◌≢◌, ℕ, List, length, Result, None, OnOk, OnErr}
-use Rattle.snap_disk.specs.declared.disk.Disk as Disk
-use Rattle.snap_disk.specs.declared.refusal.Refusal.{Refusal}
 use Rattle.snap_disk.specs.Device.{IsSettled, CountsCalls, MayLeave}
-use Rattle.snap_disk.specs.Time.{LeavesOnly}
-use Rattle.snap_segment.specs.Layout.{IsFileOf}
-use Rattle.snap_segment.specs.States.{IsEither}
-use Rattle.snap_segment.specs.Stage.{store_calls}
-use Rattle.snap_segment.specs.Segment.{CountsRefusal}
+use Rattle.snap_disk.specs.{declared.refusal.Refusal.Refusal, Time.LeavesOnly}
+use Rattle.snap_segment.specs.{Layout.IsFileOf, States.IsEither, Stage.store_calls, Segment.CountsRefusal}
 use Rattle.snap_register.specs.Seat.{IsBelow}
 use Rattle.snap_memory.specs.Scans.{TakesLooks}
 use Rattle.snap_writer.specs.Writer.{WriterState, number_of, value_of}
-use Rattle.snap_writer.specs.Judge.{IsJudged, IsAnswer}
-use Rattle.snap_writer.specs.declared.judgement.Judgement.{Judgement}
-use Rattle.snap_writer.specs.declared.judgement.Judgement.TheVariants.{Go}
 use Rattle.snap_writer.specs.Update.{IsSameSeat, Advances, Fails}
-use Rattle.snap_writer.specs.Life.{HasLived, StoresFirst}
+use Rattle.snap_writer.specs.{Judge.IsJudged, Judge.IsAnswer, declared.judgement.Judgement.Judgement}
+use Rattle.snap_writer.specs.{declared.judgement.Judgement.TheVariants.Go, Life.HasLived, Life.StoresFirst}
+use Rattle.snap_disk.specs.declared.disk.Disk as Disk
 
 -- The writer got an update to number k and value v, and returned `told`. `Disk.Ghosts D` has the
 -- ghost items of the trait `Disk` for a device of type D.

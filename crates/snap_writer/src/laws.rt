@@ -2,8 +2,7 @@
 ghost use Rattle.std.specs.Prelude.{◌≡◌, ℕ, List};
 ghost use Rattle.snap_history.specs.Limits.{IsNumber};
 ghost use Rattle.snap_writer.specs.Writer.{WriterState, number_of};
-ghost use Rattle.snap_writer.specs.Judge.{IsJudged};
-ghost use Rattle.snap_writer.specs.declared.judgement.Judgement.{Judgement};
+ghost use Rattle.snap_writer.specs.{Judge.IsJudged, declared.judgement.Judgement.Judgement};
 
 use snap_disk::Disk;
 

@@ -1,36 +1,16 @@
 //! The only writer of a segment.
-ghost use Rattle.std.specs.Prelude.{
-  ◌≡◌,
-  ◌≢◌,
-  ℕ,
-  ◌+◌,
-  ◌<◌,
-  ◌≤◌,
-  ◌↔◌,
-  List,
-  length,
-  None,
-  IsSome,
-  IsTrue,
-  OnOk,
-  OnErr,
-};
+ghost use Rattle.std.specs.Prelude.{◌≡◌, ◌≢◌, ℕ, ◌+◌, ◌<◌, ◌≤◌, ◌↔◌, List, length, None, IsSome, IsTrue, OnOk, OnErr};
 ghost use Rattle.std.specs.Option.{option_copied};
 ghost use Rattle.snap_disk.specs.Device.{IsSettled, CountsCalls, MayLeave};
 ghost use Rattle.snap_disk.specs.Time.{LeavesOnly};
 ghost use Rattle.snap_history.specs.Limits.{IsNumber, IsShort};
-ghost use Rattle.snap_segment.specs.Layout.{IsFileOf};
-ghost use Rattle.snap_segment.specs.States.{IsEither};
-ghost use Rattle.snap_segment.specs.Stage.{store_calls};
 ghost use Rattle.snap_segment.specs.Segment.{CountsRefusal, IsKept};
-ghost use Rattle.snap_register.specs.Seat.{AreTogether, Meets, IsBelow, own_of};
-ghost use Rattle.snap_register.specs.Seat.{number_in, value_in, MayPublish, Shows};
+ghost use Rattle.snap_segment.specs.{Layout.IsFileOf, States.IsEither, Stage.store_calls};
+ghost use Rattle.snap_register.specs.Seat.{AreTogether, Meets, IsBelow, own_of, number_in, value_in, MayPublish, Shows};
 ghost use Rattle.snap_memory.specs.Scans.{CanScan, TakesLooks};
-ghost use Rattle.snap_writer.specs.Writer.{number_of, value_of};
-ghost use Rattle.snap_writer.specs.Judge.{IsJudged, IsAnswer};
 ghost use Rattle.snap_writer.specs.Update.{IsSameSeat, Advances, Fails};
-ghost use Rattle.snap_writer.specs.Life.{HasLived, IsShown};
-ghost use Rattle.snap_writer.specs.Updated.{IsUpdated};
+ghost use Rattle.snap_writer.specs.{Writer.number_of, Writer.value_of, Judge.IsJudged, Judge.IsAnswer, Life.HasLived};
+ghost use Rattle.snap_writer.specs.{Life.IsShown, Updated.IsUpdated};
 
 use crate::judgement::Judgement;
 use snap_disk::{Disk, Refusal};

@@ -1,8 +1,7 @@
 -- Files on which no call was made have never failed.
 use Rattle.std.proofs.Common.{ℕ, ◌-◌, ◌^◌, ◌<◌, List, All, subst, sym, lit<}
 use Rattle.std.proofs.lemmas.List.Elements.{All-weaker}
-use Rattle.snap_devices.specs.FileDisk.{IsUncalled}
-use Rattle.snap_devices.specs.declared.file.FileOf.{FileOf}
+use Rattle.snap_devices.specs.{FileDisk.IsUncalled, declared.file.FileOf.FileOf}
 
 pub headroom : {R S : Type 0} (files : List (FileOf R S)) → All IsUncalled files
     → All (λ d. d.failures < 2 ^ 64 - 1) files

@@ -1,7 +1,6 @@
 //! The command `dump`: prints all values of a server or a folder as one document.
 ghost use Rattle.std.specs.Prelude.{◌<◌, ◌≤◌, length};
-ghost use Rattle.snap_order.specs.Limits.{MAX_COUNT};
-ghost use Rattle.snap_order.specs.Order.{IsDumpable};
+ghost use Rattle.snap_order.specs.{Limits.MAX_COUNT, Order.IsDumpable};
 
 use crate::call_command::fetch;
 use crate::complaint::{fail, fail_at, fail_in, or_stop, print_whole, stop_without_memory};

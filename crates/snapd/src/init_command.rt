@@ -1,7 +1,6 @@
 //! The command `init`: makes the files of a folder, one after the other.
 ghost use Rattle.std.specs.Prelude.{◌<◌, ◌≤◌};
-ghost use Rattle.snap_order.specs.Limits.{MAX_COUNT};
-ghost use Rattle.snap_order.specs.Order.{IsOneTo};
+ghost use Rattle.snap_order.specs.{Limits.MAX_COUNT, Order.IsOneTo};
 
 use crate::complaint::{fail_at_folder, fail_in, or_stop, refuse};
 use crate::files::{FirstFault, take_file};

@@ -4,8 +4,7 @@
 //! folder exists whole or not at all.
 ghost use Rattle.std.specs.Prelude.{◌≡◌, ◌<◌, ◌≤◌, All, IfOk, length};
 ghost use Rattle.snap_frame.specs.Limits.{IsNumber, IsShort};
-ghost use Rattle.snap_order.specs.Limits.{MAX_COUNT};
-ghost use Rattle.snap_order.specs.Order.{IsLoadable, IsOneTo};
+ghost use Rattle.snap_order.specs.{Limits.MAX_COUNT, Order.IsLoadable, Order.IsOneTo};
 ghost use Rattle.snap_file_commands.specs.Document.{AreServable, IsKeepable};
 
 use crate::complaint::{fail_at, or_stop, print_whole, refuse, stop_without_memory};

@@ -8,8 +8,7 @@
 
 ghost use Rattle.std.specs.Prelude.{◌≡◌, ◌<◌, ◌≤◌, length};
 ghost use Rattle.snap_order.specs.Limits.{MAX_COUNT};
-ghost use Rattle.snap_order.specs.Order.{IsFileWithinLimits, IsPlace, IsServable, IsWithinLimits};
-ghost use Rattle.snap_order.specs.Order.{KeepsLimits};
+ghost use Rattle.snap_order.specs.Order.{IsFileWithinLimits, IsPlace, IsServable, IsWithinLimits, KeepsLimits};
 
 mod call_command;
 mod complaint;

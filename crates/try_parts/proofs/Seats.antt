@@ -1,14 +1,11 @@
 -- Seats of one opening, taken out of a store and put back.
-use Rattle.std.proofs.Common.{◌≡◌, ℕ, ◌+◌, ◌<◌, ◌≤◌, List, [], ◌∷◌, length, slice_get, Some, refl, ap, sym, subst}
-use Rattle.std.proofs.Common.{◌∙◌, arith}
+use Rattle.std.proofs.Common.{◌≡◌, ℕ, ◌+◌, ◌<◌, ◌≤◌, List, [], ◌∷◌, length, slice_get, Some, refl, ap, sym, subst, ◌∙◌}
+use Rattle.std.proofs.Common.{arith}
 use Rattle.std.proofs.lemmas.Option.{slice_get_within}
-use Rattle.snap_register.specs.Registers.{RegistersId, no_registers}
+use Rattle.snap_register.specs.{Registers.RegistersId, Registers.no_registers, declared.plan.Plan.Plan, Rule.segments}
+use Rattle.snap_register.specs.{Seat.Known, Seat.Grows}
 use Rattle.snap_history.specs.declared.limits.TheConstants.{MAX_COUNT}
-use Rattle.snap_register.specs.declared.plan.Plan.{Plan}
-use Rattle.snap_register.specs.Rule.{segments}
-use Rattle.snap_register.specs.Seat.{Known, Grows}
-use Rattle.snap_writer.specs.Update.{IsSameSeat}
-use Rattle.snap_writer.specs.Writer.{WriterState}
+use Rattle.snap_writer.specs.{Update.IsSameSeat, Writer.WriterState}
 use Rattle.snap_restart.specs.Closed.{AreBack, IsSeatAt}
 use Rattle.snap_service.specs.Memory.{no_plan}
 

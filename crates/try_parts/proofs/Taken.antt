@@ -1,7 +1,6 @@
 -- The writers and a scanner that were taken out of a store are of one memory.
 use Rattle.std.proofs.Common.{◌≡◌, ℕ, List, slice_get, Some, ap, sym, ◌∙◌}
-use Rattle.snap_register.specs.Rule.{segments}
-use Rattle.snap_register.specs.Seat.{Known}
+use Rattle.snap_register.specs.{Rule.segments, Seat.Known}
 use Rattle.snap_writer.specs.Writer.{WriterState}
 use Rattle.snap_restart.specs.Closed.{AreBack}
 use Rattle.snap_service.specs.Memory.{AreWriters}

@@ -1,8 +1,7 @@
 //! The table of a server's connections.
 ghost use Rattle.std.specs.Prelude.{◌≤◌};
 ghost use Rattle.slab.specs.Slab.{slab_len};
-ghost use Rattle.snap_board.specs.Answered.{Answered};
-ghost use Rattle.snap_board.specs.declared.server.connections.TheConstants.{MAX_CONNECTIONS};
+ghost use Rattle.snap_board.specs.{Answered.Answered, declared.server.connections.TheConstants.MAX_CONNECTIONS};
 
 use super::connection::{HttpConnection, Step};
 use http_server::Service;

@@ -2,8 +2,7 @@
 ghost use Rattle.std.specs.Prelude.{◌≡◌, ◌++◌, ◌∷◌, [], IfOk, OnOk};
 ghost use Rattle.json.specs.Print.{print};
 ghost use Rattle.snap_json.specs.Each.{each_from};
-ghost use Rattle.snap_file_commands.specs.Document.{comma_before, dump_text};
-ghost use Rattle.snap_file_commands.specs.Document.{head_tokens, last_line, row};
+ghost use Rattle.snap_file_commands.specs.Document.{comma_before, dump_text, head_tokens, last_line, row};
 
 use json::Writer;
 use sha2::{Digest, Sha256};

@@ -1,14 +1,12 @@
 //! The record of an update, drafted word by word in a free buffer.
 ghost use Rattle.std.specs.Prelude.{◌≡◌, ◌+◌, ◌*◌, ◌<◌, ◌≤◌, ◌++◌, ◌∷◌, length, take, []};
-ghost use mathlib.Core.List.{IsPrefix};
 ghost use Rattle.snap_history.specs.Limits.{IsShort};
 ghost use Rattle.snap_register.specs.declared.words.TheConstants.{BLOCK_WORDS};
 ghost use Rattle.snap_register.specs.Rule.{segments, width, without_last};
-ghost use Rattle.snap_register.specs.Words.{IsWhole, IsBlock, AreBlocks, bytes_at, piece};
-ghost use Rattle.snap_register.specs.Words.{size_at, words_for};
+ghost use Rattle.snap_register.specs.Words.{IsWhole, IsBlock, AreBlocks, bytes_at, piece, size_at, words_for};
 ghost use Rattle.snap_register.specs.Held.{held, taken, CanTake};
-ghost use Rattle.snap_register.specs.Steps.{view_of, draft_of, Owns, IsFree, HasPin, IsNext};
-ghost use Rattle.snap_register.specs.Steps.{IsLast, HasDrafted};
+ghost use Rattle.snap_register.specs.Steps.{view_of, draft_of, Owns, IsFree, HasPin, IsNext, IsLast, HasDrafted};
+ghost use mathlib.Core.List.{IsPrefix};
 
 use crate::access::Access;
 use crate::setup::{Redraft, Reuse};

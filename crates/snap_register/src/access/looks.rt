@@ -1,17 +1,15 @@
 //! Looks: a seat returns its old pin, pins the current buffer, and reads what it pins.
-ghost use Rattle.std.specs.Prelude.{◌≡◌, ℕ, ◌+◌, ◌^◌, ◌<◌, ◌≤◌, length, slice_index};
-ghost use Rattle.std.specs.Prelude.{◌*◌, ◌++◌, ◌∷◌, [], slice_set, take, slice_get, IfOk, MatchBool};
-ghost use Rattle.snap_history.specs.Limits.{IsShort};
+ghost use Rattle.std.specs.Prelude.{◌≡◌, ℕ, ◌+◌, ◌^◌, ◌<◌, ◌≤◌, length, slice_index, ◌*◌, ◌++◌, ◌∷◌, [], slice_set};
+ghost use Rattle.std.specs.Prelude.{take, slice_get, IfOk, MatchBool};
+ghost use Rattle.snap_history.specs.{Limits.IsShort, declared.limits.TheConstants.MAX_VALUE_LEN};
 ghost use Rattle.snap_scan.specs.Sets.{Names};
-ghost use Rattle.snap_history.specs.declared.limits.TheConstants.{MAX_VALUE_LEN};
 ghost use Rattle.snap_register.specs.declared.words.TheConstants.{BLOCK_WORDS};
 ghost use Rattle.snap_register.specs.Rule.{segments, Learns, IsLegal};
 ghost use Rattle.snap_register.specs.Words.{IsWhole, bytes_at, length_at, size_at, value_at, words_for};
 ghost use Rattle.snap_register.specs.Held.{held, IsPinned, HasLookedFrom};
-ghost use Rattle.snap_register.specs.Seat.{Grows, IsBelow, number_in, Looks, HasLooked, IsValue};
-ghost use Rattle.snap_register.specs.Seat.{HasFoundUpdate, IsView};
-ghost use Rattle.snap_register.specs.Steps.{view_at, view_of, known_of};
-ghost use Rattle.snap_register.specs.Steps.{HasPin, LiesAt, HasSeat, IsSame};
+ghost use Rattle.snap_register.specs.Seat.{Grows, IsBelow, number_in, Looks, HasLooked, IsValue, HasFoundUpdate};
+ghost use Rattle.snap_register.specs.Seat.{IsView};
+ghost use Rattle.snap_register.specs.Steps.{view_at, view_of, known_of, HasPin, LiesAt, HasSeat, IsSame};
 
 use crate::access::{Access, PIN_RANGE};
 use crate::setup::{GiveBack, Pin, Read, TableSeat, WordTable};

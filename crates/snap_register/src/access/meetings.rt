@@ -1,9 +1,8 @@
 //! Meetings: two seats share what they have seen.
 ghost use Rattle.std.specs.Prelude.{◌≡◌, ℕ, ◌<◌, false};
-ghost use mathlib.Core.List.{IsPrefix};
-ghost use Rattle.snap_register.specs.History.{only};
-ghost use Rattle.snap_register.specs.Rule.{Has, IsBelow};
 ghost use Rattle.snap_register.specs.Steps.{view_at, view_of, HasHeard};
+ghost use Rattle.snap_register.specs.{History.only, Rule.Has, Rule.IsBelow};
+ghost use mathlib.Core.List.{IsPrefix};
 
 use crate::access::Access;
 use crate::setup::{Hear, JoinAnswer, JoinMessage, SplitMessenger, TableSeat, WordTable};

@@ -1,14 +1,10 @@
 //! Publications: a writer finds a free buffer, fills it, and makes it the current one.
-ghost use Rattle.std.specs.Prelude.{◌-◌, ◌≡◌, ℕ, ◌+◌, ◌<◌, ◌≤◌, ◌^◌, slice_index, []};
-ghost use Rattle.std.specs.Prelude.{IsTrue, IsFalse};
+ghost use Rattle.std.specs.Prelude.{◌-◌, ◌≡◌, ℕ, ◌+◌, ◌<◌, ◌≤◌, ◌^◌, slice_index, [], IsTrue, IsFalse};
 ghost use Rattle.snap_history.specs.Limits.{IsNumber, IsShort};
-ghost use Rattle.snap_register.specs.History.{entry, number};
-ghost use Rattle.snap_register.specs.Rule.{seats, buffers, next_other, moved_pool};
-ghost use Rattle.snap_register.specs.Rule.{Publishes, Follows, IsLegal};
+ghost use Rattle.snap_register.specs.Rule.{seats, buffers, next_other, moved_pool, Publishes, Follows, IsLegal};
 ghost use Rattle.snap_register.specs.Held.{CanTake, MayTake, IsShown};
-ghost use Rattle.snap_register.specs.Setup.{IsPool};
-ghost use Rattle.snap_register.specs.Steps.{view_of, pool_of, draft_of, Owns, IsFree, IsSameSeat};
-ghost use Rattle.snap_register.specs.Steps.{HasPool};
+ghost use Rattle.snap_register.specs.Steps.{view_of, pool_of, draft_of, Owns, IsFree, IsSameSeat, HasPool};
+ghost use Rattle.snap_register.specs.{History.entry, History.number, Setup.IsPool};
 
 use crate::access::{Access, PIN_RANGE};
 use crate::plan::MAX_BUFFERS;

@@ -3,12 +3,9 @@ ghost use Rattle.std.specs.Prelude.{◌≡◌, ◌≢◌, ◌+◌, ◌-◌, ◌^
 ghost use Rattle.snap_disk.specs.Device.{Device, part, MayLeave};
 ghost use Rattle.snap_disk.specs.Time.{LeavesOnly};
 ghost use Rattle.snap_history.specs.declared.limits.TheConstants.{MAX_COUNT};
-ghost use Rattle.snap_slot.specs.declared.layout.TheConstants.{SLOT_COUNT};
 ghost use Rattle.snap_slot.specs.Layout.{body_at, Head, Holds};
-ghost use Rattle.snap_slot.specs.States.{IsAtRest};
-ghost use Rattle.snap_slot.specs.Findings.{IsNoOpening};
-ghost use Rattle.snap_segment.specs.Open.{CountsFailed};
-ghost use Rattle.snap_segment.specs.Refusals.{IsOpenRefusal};
+ghost use Rattle.snap_slot.specs.{declared.layout.TheConstants.SLOT_COUNT, States.IsAtRest, Findings.IsNoOpening};
+ghost use Rattle.snap_segment.specs.{Open.CountsFailed, Refusals.IsOpenRefusal};
 
 use super::Segment;
 use crate::contents::read_all;

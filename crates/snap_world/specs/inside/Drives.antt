@@ -1,14 +1,13 @@
 -- The device of a segment while its writer is in each phase, and after a crash.
 use Rattle.std.specs.Prelude.{◌≡◌, ◌≢◌, ◌⊎◌, ℕ, ◌+◌, Bool, false, List, [], Some, slice_get}
-use Rattle.snap_disk.specs.Device.{Device, MayLeave}
-use Rattle.snap_world.specs.{Devices.IsRefilled, Machine.WriterState, Machine.Pending, Machine.Begun}
-use Rattle.snap_disk.{specs.declared.fill.Fill.Fill, specs.Image.image_device}
-use Rattle.snap_slot.{specs.Layout.IsFileOf, specs.Layout.slot_of, specs.States.IsAtRest, specs.States.IsEither}
+use Rattle.snap_disk.specs.{Device.Device, Device.MayLeave, declared.fill.Fill.Fill, Image.image_device}
+use Rattle.snap_world.specs.Machine.{WriterState, Pending, Begun}
+use Rattle.snap_world.specs.{Devices.IsRefilled, declared.drive.Drive.Drive, declared.writer.WriterPhase.WriterPhase}
+use Rattle.snap_slot.specs.{Layout.IsFileOf, Layout.slot_of, States.IsAtRest, States.IsEither}
 use Rattle.snap_persist.specs.Device.{IsAtStage}
 use Rattle.snap_persist.specs.Stage.{PersistState, calls_left, first_stage}
 use Rattle.snap_history.specs.History.{Update, from_nothing, number_after, value_after}
 use Rattle.snap_history.specs.Pairs.{Pairs}
-use Rattle.snap_world.specs.declared.{drive.Drive.Drive, writer.WriterPhase.WriterPhase}
 use Rattle.snap_world.specs.declared.writer.WriterPhase.TheVariants as writer
 
 abbrev pub device_of : Drive → Device

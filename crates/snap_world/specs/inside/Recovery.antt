@@ -1,10 +1,9 @@
 -- The results of a restart's reads, and the registers and persists made of them.
 use Rattle.std.specs.Prelude.{◌≡◌, ℕ, ◌+◌, ◌≤◌, List, length, Some, slice_get}
-use Rattle.snap_slot.{specs.declared.layout.TheConstants.FILE_LEN, specs.Layout.slot_of, specs.Findings.value_in}
-use Rattle.snap_history.{specs.declared.limits.TheConstants.MAX_VALUE_LEN, specs.Limits.IsNumber, specs.Pairs.Pairs}
+use Rattle.snap_slot.specs.{declared.layout.TheConstants.FILE_LEN, Layout.slot_of, Findings.value_in}
+use Rattle.snap_history.specs.{declared.limits.TheConstants.MAX_VALUE_LEN, Limits.IsNumber, Pairs.Pairs}
 use Rattle.snap_persist.specs.Stage.{calls_left, first_stage, store_calls}
-use Rattle.snap_world.specs.inside.Drives.{device_of}
-use Rattle.snap_world.specs.declared.{drive.Drive.Drive, register.Register.Register}
+use Rattle.snap_world.specs.{inside.Drives.device_of, declared.drive.Drive.Drive, declared.register.Register.Register}
 
 -- the value that was found
 abbrev pub found_value : Drive → List ℕ

@@ -1,8 +1,7 @@
 -- The abstract states that the actors of a world represent. They store no history.
 use Rattle.std.specs.Prelude.{◌≡◌, ℕ, ◌+◌, ◌<◌, ◌≤◌, Bool, true, false, List, length}
 use Rattle.snap_history.specs.History.{Update, from_nothing, number_after}
-use Rattle.snap_history.{specs.Pairs.Pairs, specs.Limits.IsNumber, specs.Limits.IsShort}
-use Rattle.snap_history.specs.declared.limits.TheConstants.{MAX_COUNT}
+use Rattle.snap_history.specs.{Pairs.Pairs, Limits.IsNumber, Limits.IsShort, declared.limits.TheConstants.MAX_COUNT}
 use Rattle.snap_world.specs.Answers.{ScanState, IsAnswer, number_at, all_of, set_of}
 use Rattle.snap_world.specs.inside.Gathers.{Gathers, IsSeen, IsUnderWay, RegistersStand}
 use Rattle.snap_world.specs.Machine.{State, WriterState, ScannerState, Free, Begun, Shown, Closed, Opened}

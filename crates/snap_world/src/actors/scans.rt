@@ -1,9 +1,8 @@
 //! The events of a scanner.
 ghost use Rattle.std.specs.Prelude.{◌≡◌, ◌<◌, ◌^◌, IfOk, OnErr};
-ghost use Rattle.snap_world.specs.{Answers.set_of, Phases.ScannerIs};
-ghost use Rattle.snap_world.specs.inside.{Stands.Stand, NodeSteps.IsActorsStep};
 ghost use Rattle.snap_world.specs.inside.Steps.{phases_of_actors, asking};
-ghost use Rattle.snap_world.specs.declared.{event.Actor.Actor, event.Event.Event};
+ghost use Rattle.snap_world.specs.{Answers.set_of, Phases.ScannerIs, declared.event.Event.Event};
+ghost use Rattle.snap_world.specs.{inside.Stands.Stand, inside.NodeSteps.IsActorsStep, declared.event.Actor.Actor};
 
 use crate::actors::Actors;
 use crate::event::Reply;

@@ -1,10 +1,9 @@
 //! The events of a writer.
 ghost use Rattle.std.specs.Prelude.{◌≡◌, ◌<◌, ℕ, true, List, slice_get};
 ghost use Rattle.snap_world.specs.Machine.{State, WriterState, Begun, with_writer};
-ghost use Rattle.snap_world.specs.Phases.{WriterIs, writer_to};
-ghost use Rattle.snap_world.specs.inside.Stands.{Stand, ActorsStand};
-ghost use Rattle.snap_world.specs.inside.{Steps.phases_of_actors, NodeSteps.IsActorsStep};
-ghost use Rattle.snap_world.specs.declared.{event.Actor.Actor, event.Event.Event};
+ghost use Rattle.snap_world.specs.{Phases.WriterIs, Phases.writer_to, inside.Stands.Stand, inside.Stands.ActorsStand};
+ghost use Rattle.snap_world.specs.{inside.Steps.phases_of_actors, inside.NodeSteps.IsActorsStep};
+ghost use Rattle.snap_world.specs.{declared.event.Actor.Actor, declared.event.Event.Event};
 
 use crate::actors::Actors;
 use crate::collector::copy_all;

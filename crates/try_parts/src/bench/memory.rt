@@ -13,8 +13,7 @@
 //! `used` and waits for another line, so that the process can be measured before and after.
 ghost use Rattle.std.specs.Prelude.{◌≡◌, ◌<◌, ◌≤◌};
 ghost use Rattle.snap_history.specs.Limits.{IsShort};
-ghost use Rattle.snap_history.specs.declared.limits.TheConstants.{MAX_COUNT};
-ghost use Rattle.snap_history.specs.declared.limits.TheConstants.{MAX_SCANNERS};
+ghost use Rattle.snap_history.specs.declared.limits.TheConstants.{MAX_COUNT, MAX_SCANNERS};
 
 use snap_history::{LAST_NUMBER, MAX_SCANNERS, MAX_VALUE_LEN};
 use snap_memory::{Scanner, Snapshot, prepare, show};

@@ -1,7 +1,6 @@
 //! A device that has power until the plug is pulled.
 ghost use Rattle.std.specs.Prelude.{◌≡◌, ◌≤◌, false};
-ghost use Rattle.snap_devices.specs.MemDisk.{memory_device, memory_failures};
-ghost use Rattle.snap_devices.specs.MemDisk.{memory_clock, memory_left, memory_past};
+ghost use Rattle.snap_devices.specs.MemDisk.{memory_device, memory_failures, memory_clock, memory_left, memory_past};
 
 use crate::plug::pull::{Fate, Plug};
 use snap_devices::MemDisk;

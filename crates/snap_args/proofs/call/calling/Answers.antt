@@ -1,9 +1,8 @@
 use Rattle.std.proofs.Common.{◌≢◌, ◌∙◌, arith, codes, inl, inr, subst, sym}
 use Rattle.std.proofs.lemmas.Grind.{common_steps}
 use Rattle.snap_order.specs.declared.order.OutputFormat.TheVariants.{Lines}
-use Rattle.snap_args.specs.Numbers.{IsLayoutOf}
-use Rattle.snap_args.specs.Words.{word_of}
 use Rattle.snap_args.proofs.Layouts.{not_lines, one_listing}
+use Rattle.snap_args.specs.{Numbers.IsLayoutOf, Words.word_of}
 use Rattle.snap_args.proofs.call.calling.Goals as goal
 
 pub returns-then-not-lists_segments : goal.returns-then-not-lists_segments

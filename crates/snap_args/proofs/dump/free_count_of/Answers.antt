@@ -1,10 +1,8 @@
 use Rattle.std.proofs.Common.{◌≡◌, ◌≢◌, ℕ, IfSome, None, Option, Some, codes, rules}
 use Rattle.clap.specs.Words.{Text}
-use Rattle.snap_order.specs.Limits.{MAX_COUNT}
-use Rattle.snap_order.specs.Order.{IsOneTo}
+use Rattle.snap_order.specs.{Limits.MAX_COUNT, Order.IsOneTo}
 use Rattle.snap_args.specs.Numbers.{IsLargeNumberOf, IsNumberOf}
-use Rattle.snap_args.specs.Words.{word_of}
-use Rattle.snap_args.specs.declared.fault.WordFault.TheVariants.{Memory}
+use Rattle.snap_args.specs.{Words.word_of, declared.fault.WordFault.TheVariants.Memory}
 use Rattle.snap_args.proofs.dump.free_count_of.Goals as goal
 
 -- an argument that is given and is no count is none of an option either

@@ -1,8 +1,7 @@
 use Rattle.std.proofs.Common.{◌≡◌, ◌∙◌, IfOk, arith, subst, sym}
 use Rattle.std.proofs.lemmas.List.{at_drop_all}
 use Rattle.clap.specs.Words.{app_of}
-use Rattle.snap_args.specs.Tables.{app_with}
-use Rattle.snap_args.proofs.Tables.{next_command, next_word}
+use Rattle.snap_args.{specs.Tables.app_with, proofs.Tables.next_command, proofs.Tables.next_word}
 use Rattle.snap_args.proofs.grammar.with_command.Goals as goal
 
 pub loop-word-preserved : goal.loop-word-preserved

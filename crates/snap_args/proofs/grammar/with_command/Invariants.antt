@@ -1,6 +1,5 @@
 use Rattle.std.proofs.Common.{◌≡◌, drop, false}
-use Rattle.clap.specs.Words.{app_of, new_app}
-use Rattle.clap.specs.declared.builder.Command.TheViews.{out-Command}
+use Rattle.clap.specs.{Words.app_of, Words.new_app, declared.builder.Command.TheViews.out-Command}
 use Rattle.snap_args.specs.Tables.{app_with}
 use Rattle.snap_args.proofs.grammar.with_command.Given as goal
 

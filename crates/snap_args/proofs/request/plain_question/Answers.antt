@@ -1,12 +1,8 @@
 use Rattle.std.proofs.Common.{◌≡◌, ◌≢◌, None, codes, length, map, arith, refl, rules}
-use Rattle.std.proofs.lemmas.Bool.Decides.{nat_tests}
-use Rattle.std.proofs.lemmas.Nat.{pow_pos}
-use Rattle.std.proofs.Math.Pow.{pow-lt}
-use Rattle.std.proofs.lemmas.Grind.{common_steps}
+use Rattle.std.proofs.{lemmas.Bool.Decides.nat_tests, lemmas.Nat.pow_pos, Math.Pow.pow-lt, lemmas.Grind.common_steps}
 use Rattle.snap_order.specs.declared.order.CallRequest.{CallRequest}
-use Rattle.snap_args.specs.Requests.{IsQuestionOf, KeepsLimits}
-use Rattle.snap_args.specs.declared.fault.WordFault.TheVariants.{Memory}
 use Rattle.snap_args.proofs.Requests.{four_words, no_get, no_question, two_words}
+use Rattle.snap_args.specs.{Requests.IsQuestionOf, Requests.KeepsLimits, declared.fault.WordFault.TheVariants.Memory}
 use Rattle.snap_args.proofs.request.plain_question.Goals as goal
 
 pub returns-in_err-segment : goal.returns-in_err-segment

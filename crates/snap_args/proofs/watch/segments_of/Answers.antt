@@ -1,7 +1,6 @@
 use Rattle.std.proofs.Common.{◌≡◌, ◌<◌, ◌+◌, ◌++◌, ◌∷◌, [], All, Bor, List, Option, ℕ, arith, length, map, rules}
 use Rattle.std.proofs.Common.{slice_get, slice_index, subst, sym}
-use Rattle.std.proofs.lemmas.Grind.{common_steps}
-use Rattle.std.proofs.lemmas.List.Elements.{All-append}
+use Rattle.std.proofs.lemmas.{Grind.common_steps, List.Elements.All-append}
 use Rattle.clap.specs.Words.{Text}
 use Rattle.snap_order.specs.Limits.{MAX_COUNT}
 use Rattle.snap_args.specs.Numbers.{IsNumberOf}

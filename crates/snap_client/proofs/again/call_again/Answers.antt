@@ -1,6 +1,5 @@
 use Rattle.std.proofs.Common.{rules, of_calls, arith}
-use Rattle.snap_client.specs.Again.{MayPass}
-use Rattle.snap_client.proofs.Tries.{tries_ended, tries_on}
+use Rattle.snap_client.{specs.Again.MayPass, proofs.Tries.tries_ended, proofs.Tries.tries_on}
 use Rattle.snap_client.proofs.again.call_again.Goals as goal
 
 pub try_once-requires-clause-callable : goal.try_once-requires-clause-callable

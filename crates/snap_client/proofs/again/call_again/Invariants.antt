@@ -1,7 +1,6 @@
 use Rattle.std.proofs.Common.{◌≤◌, Result}
 use Rattle.snap_frame.specs.declared.reply.Reply.{Reply}
-use Rattle.snap_client.specs.declared.fault.ClientFault.{ClientFault}
-use Rattle.snap_client.specs.Again.{TriesUpTo}
+use Rattle.snap_client.specs.{declared.fault.ClientFault.ClientFault, Again.TriesUpTo}
 use Rattle.snap_client.proofs.again.call_again.Given as goal
 
 abbrev pub invariant-loop-left : goal.invariant-loop-left

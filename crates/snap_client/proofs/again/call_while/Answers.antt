@@ -1,6 +1,5 @@
 use Rattle.std.proofs.Common.{rules, of_calls, arith, ◌≡◌, ◌-◌, ◌^◌, suc, inl, refl}
-use Rattle.snap_client.specs.Again.{MayPass}
-use Rattle.snap_client.proofs.Tries.{tries_last, tries_next}
+use Rattle.snap_client.{specs.Again.MayPass, proofs.Tries.tries_last, proofs.Tries.tries_next}
 use Rattle.snap_client.proofs.again.call_while.Goals as goal
 
 pub returns-in-Ok : goal.returns-in-Ok

@@ -1,8 +1,7 @@
 use Rattle.std.proofs.Common.{rules, ◌≡◌, []}
 use Rattle.std.specs.Io.KnownBytes.{Appends}
 use Rattle.snap_frame.specs.Messages.{payload, frame}
-use Rattle.snap_client.specs.Calls.{Answers}
-use Rattle.snap_client.proofs.Replies.{heard_fault, heard_other}
+use Rattle.snap_client.{specs.Calls.Answers, proofs.Replies.heard_fault, proofs.Replies.heard_other}
 use Rattle.snap_client.proofs.exchange.exchange.Goals as goal
 
 pub returns-then-not-answers-clause-reaches : goal.returns-then-not-answers-clause-reaches

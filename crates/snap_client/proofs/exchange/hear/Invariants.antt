@@ -1,7 +1,6 @@
 use Rattle.std.proofs.Common.{◌≡◌, ◌+◌, ◌-◌, None, length}
 use Rattle.std.specs.Io.KnownBytes.{Consumes}
-use Rattle.snap_frame.specs.Messages.{max_payload}
-use Rattle.snap_frame.specs.Stream.{IsBytes, IsPartial}
+use Rattle.snap_frame.specs.{Messages.max_payload, Stream.IsBytes, Stream.IsPartial}
 use Rattle.snap_client.proofs.exchange.hear.Given as goal
 
 abbrev pub invariant-loop-n : goal.invariant-loop-n

@@ -1,5 +1,4 @@
-use Rattle.std.proofs.Common.{rules}
-use Rattle.std.proofs.lemmas.Fmt.{length-decimal-le}
+use Rattle.std.proofs.{Common.rules, lemmas.Fmt.length-decimal-le}
 use Rattle.snap_client_commands.proofs.line.append_number.Goals as goal
 
 pub append-requires : goal.append-requires

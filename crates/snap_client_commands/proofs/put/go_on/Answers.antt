@@ -1,5 +1,4 @@
-use Rattle.std.proofs.Common.{inr, refl}
-use Rattle.std.proofs.KnownBytes.{Keeps-refl}
+use Rattle.std.proofs.{Common.inr, Common.refl, KnownBytes.Keeps-refl}
 use Rattle.snap_frame.specs.Messages.{AreEntries, IsStatus}
 use Rattle.snap_client_commands.proofs.Tried.{number_next}
 use Rattle.snap_client_commands.proofs.put.go_on.Goals as goal

@@ -1,10 +1,9 @@
 use Rattle.std.proofs.Common.{rules, ◌≡◌, [], take, ap, ◌∙◌, Err}
 use Rattle.std.proofs.KnownBytes.{Keeps-refl}
 use Rattle.snap_stream.proofs.Known.{had}
-use Rattle.snap_file_commands.specs.Effects.{LeavesNoMore}
-use Rattle.snap_file_commands.specs.declared.fault.CommandFault.TheVariants.{Refused}
 use Rattle.snap_file_commands.proofs.Refused.{put_keeps, refused_count, refused_keeps, refused_open}
 use Rattle.snap_file_commands.proofs.Stored.{held, put_leaves, store_ends_put}
+use Rattle.snap_file_commands.specs.{Effects.LeavesNoMore, declared.fault.CommandFault.TheVariants.Refused}
 use Rattle.snap_file_commands.proofs.commands.put.Goals as goal
 
 pub returns-in-Err-open-clause-count : goal.returns-in-Err-open-clause-count

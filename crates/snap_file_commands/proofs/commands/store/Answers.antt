@@ -1,6 +1,5 @@
 use Rattle.std.proofs.Common.{rules, arith, ap, refl, inl, inr, Err}
-use Rattle.std.proofs.KnownBytes.{Keeps-refl}
-use Rattle.std.proofs.lemmas.Result.{err_from_is_err_and}
+use Rattle.std.proofs.{KnownBytes.Keeps-refl, lemmas.Result.err_from_is_err_and}
 use Rattle.snap_file_commands.proofs.Refused.{refused_count, refused_keeps, refused_store}
 use Rattle.snap_file_commands.proofs.Stored.{stored}
 use Rattle.snap_file_commands.proofs.commands.store.Goals as goal

@@ -1,14 +1,10 @@
 use Rattle.std.proofs.Common.{ap₂, List, ℕ, Err, refl}
-use Rattle.snap_disk.specs.Device.{MayLeave}
-use Rattle.snap_disk.specs.Time.{LeavesOnly}
-use Rattle.snap_disk.specs.declared.refusal.Refusal.{Refusal}
+use Rattle.snap_disk.specs.{Device.MayLeave, Time.LeavesOnly, declared.refusal.Refusal.Refusal}
 use Rattle.snap_disk.specs.declared.refusal.Refusal.TheVariants.{DeviceFailed}
-use Rattle.snap_segment.specs.declared.migration.Which.{Which}
-use Rattle.snap_segment.specs.declared.migration.Which.TheVariants.{Old}
+use Rattle.snap_segment.specs.declared.migration.Which.{Which, TheVariants.Old}
 use Rattle.snap_file_commands.specs.Migration.{IsMigrated, MigrationLeaves}
 use Rattle.snap_file_commands.proofs.Carried.{by_refusal, made_leaves, migrated, migration_keeps, refused_reads}
-use Rattle.snap_file_commands.proofs.Carried.{told_apart}
-use Rattle.snap_file_commands.proofs.Carried.{untouched_leaves}
+use Rattle.snap_file_commands.proofs.Carried.{told_apart, untouched_leaves}
 use Rattle.snap_file_commands.proofs.migration.act_pair.Goals as goal
 use Rattle.snap_file_commands.proofs.migration.act_pair.Goals.{After-write_whole}
 

@@ -1,6 +1,5 @@
 use Rattle.std.proofs.Common.{◌∙◌, sym}
-use Rattle.snap_slot.specs.declared.layout.TheConstants.{OPEN_GATE}
-use Rattle.snap_slot.proofs.Blocks.{gate_block-same}
+use Rattle.snap_slot.{specs.declared.layout.TheConstants.OPEN_GATE, proofs.Blocks.gate_block-same}
 use Rattle.snap_file_commands.proofs.slot_value.value_in.Goals as goal
 
 -- it is read with an open gate

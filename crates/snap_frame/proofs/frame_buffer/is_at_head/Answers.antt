@@ -1,6 +1,5 @@
 use Rattle.std.proofs.Common.{◌≡◌, ◌∙◌, [], sym, ap, refl, None, Ok}
-use Rattle.snap_frame.specs.Stream.{pending}
-use Rattle.snap_frame.proofs.Exact.{at_end}
+use Rattle.snap_frame.{specs.Stream.pending, proofs.Exact.at_end}
 use Rattle.snap_frame.proofs.frame_buffer.is_at_head.Goals as goal
 use Rattle.snap_frame.proofs.frame_buffer.is_at_head.Goals.{After-decode_eof}
 

@@ -1,9 +1,7 @@
 use Rattle.std.proofs.Common.{◌≡◌, ◌∙◌, ℕ, ◌-◌, List, ◌++◌, refl, sym, ap, drop, length, take, slice_index, arith}
 use Rattle.std.specs.Int.{w16, to_be_bytes}
-use Rattle.snap_frame.specs.declared.request.Request.{Request}
 use Rattle.snap_frame.specs.declared.request.Request.TheVariants.{Update, Scan, Status, Part}
-use Rattle.snap_frame.specs.Messages.{Asks}
-use Rattle.snap_frame.proofs.BigEndian.{same_set}
+use Rattle.snap_frame.{specs.declared.request.Request.Request, specs.Messages.Asks, proofs.BigEndian.same_set}
 use Rattle.snap_frame.proofs.request.read_part.Goals as goal
 
 abbrev kind : List ℕ → ℕ

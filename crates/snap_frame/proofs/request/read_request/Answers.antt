@@ -1,5 +1,4 @@
-use Rattle.std.proofs.lemmas.Grind.{common_steps}
-use Rattle.std.proofs.Common.{rules, arith}
+use Rattle.std.proofs.{lemmas.Grind.common_steps, Common.rules, Common.arith}
 use Rattle.snap_frame.proofs.request.read_request.Goals as goal
 
 pub returns-in-Ok-clause-request : goal.returns-in-Ok-clause-request

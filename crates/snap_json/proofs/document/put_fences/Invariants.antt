@@ -1,6 +1,5 @@
 use Rattle.std.proofs.Common.{◌≡◌, ◌++◌, take}
-use Rattle.snap_json.specs.Each.{each_from}
-use Rattle.snap_json.specs.Documents.{fence_tokens}
+use Rattle.snap_json.specs.{Each.each_from, Documents.fence_tokens}
 use Rattle.snap_json.proofs.document.put_fences.Given as goal
 
 abbrev pub invariant-loop-index : goal.invariant-loop-index

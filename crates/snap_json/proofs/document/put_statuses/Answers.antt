@@ -1,7 +1,6 @@
 use Rattle.std.proofs.Common.{false, get_or, ◌∙◌}
 use Rattle.snap_frame.specs.declared.entries.SegmentStatus.{SegmentStatus}
-use Rattle.snap_json.specs.Documents.{status_tokens}
-use Rattle.snap_json.proofs.Growth.{each_next, same_place}
+use Rattle.snap_json.{specs.Documents.status_tokens, proofs.Growth.each_next, proofs.Growth.same_place}
 use Rattle.snap_json.proofs.document.put_statuses.Goals as goal
 
 pub loop-index-preserved : goal.loop-index-preserved

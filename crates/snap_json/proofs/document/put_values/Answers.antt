@@ -1,6 +1,5 @@
 use Rattle.std.proofs.Common.{◌∙◌}
-use Rattle.snap_json.specs.Documents.{value_tokens}
-use Rattle.snap_json.proofs.Growth.{each_next}
+use Rattle.snap_json.{specs.Documents.value_tokens, proofs.Growth.each_next}
 use Rattle.snap_json.proofs.document.put_values.Goals as goal
 
 pub loop-index-preserved : goal.loop-index-preserved

@@ -1,7 +1,6 @@
 use Rattle.std.proofs.Common.{◌∷◌, [], ◌++◌, ◌∙◌, ap, sym, codes, subst, ◌≡◌, OnOk, List, ℕ}
 use Rattle.json.specs.Token.{Token, key, string}
-use Rattle.snap_json.proofs.Growth.{wrote_last}
-use Rattle.snap_json.proofs.Values.{text_tokens, base64_tokens}
+use Rattle.snap_json.proofs.{Growth.wrote_last, Values.text_tokens, Values.base64_tokens}
 use Rattle.snap_json.proofs.member.put_bytes.Goals as goal
 
 pub returns-in_ok-key-in-Ok-clause-tokens : goal.returns-in_ok-key-in-Ok-clause-tokens

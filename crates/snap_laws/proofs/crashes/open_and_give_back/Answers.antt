@@ -1,7 +1,6 @@
 use Rattle.std.proofs.Common.{List, sym, subst}
 use Rattle.snap_restart.proofs.Crash.{backs_opened, backs_stopped}
-use Rattle.snap_laws.specs.Worked.{ComeThrough}
-use Rattle.snap_laws.proofs.Openings.{come_through}
+use Rattle.snap_laws.{specs.Worked.ComeThrough, proofs.Openings.come_through}
 use Rattle.snap_laws.proofs.crashes.open_and_give_back.Goals as goal
 
 pub returns-in-Ok : goal.returns-in-Ok

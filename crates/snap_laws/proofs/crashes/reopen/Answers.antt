@@ -1,8 +1,6 @@
 use Rattle.std.proofs.Common.{◌-◌, ◌^◌, ◌<◌, List, length, map, All, sym, subst}
 use Rattle.snap_history.specs.Pairs.{Pairs}
-use Rattle.snap_restart.specs.Opened.{IsOpened}
-use Rattle.snap_restart.specs.Crash.{AreOpened}
-use Rattle.snap_restart.proofs.Crash.{its_segment}
+use Rattle.snap_restart.{specs.Opened.IsOpened, specs.Crash.AreOpened, proofs.Crash.its_segment}
 use Rattle.snap_laws.proofs.Again.{go_on_behind}
 use Rattle.snap_laws.proofs.crashes.reopen.Goals as goal
 

@@ -1,6 +1,5 @@
 use Rattle.std.proofs.Common.{rules, codes, refl, ◌≡◌}
-use Rattle.snap_log.specs.Line.{hidden_text}
-use Rattle.snap_log.proofs.Shown.{pushed}
+use Rattle.snap_log.{specs.Line.hidden_text, proofs.Shown.pushed}
 use Rattle.snap_log.proofs.line.push_hidden.Goals as goal
 
 pub returns-in-10 : goal.returns-in-10

@@ -1,6 +1,5 @@
 use Rattle.std.proofs.Common.{◌++◌, flat_map, string_bytes, sym, ap, ◌∙◌, map-id}
-use Rattle.std.proofs.lemmas.Iterator.{YieldsList-from_chars}
-use Rattle.std.proofs.lemmas.Iterator.Consumers.{YieldsList-end}
+use Rattle.std.proofs.lemmas.Iterator.{YieldsList-from_chars, Consumers.YieldsList-end}
 use Rattle.snap_log.specs.Line.{shown_char, shown_text}
 use Rattle.snap_log.proofs.line.push_shown.Goals as goal
 

@@ -1,16 +1,11 @@
 use Rattle.std.proofs.Common.{◌≡◌, ℕ, ◌^◌, ◌<◌, List, slice_set, sym, subst, ◌∙◌, arith}
-use Rattle.snap_scan.specs.declared.next.Next.{Next}
-use Rattle.snap_scan.specs.declared.next.Next.TheVariants.{Clean, Borrow}
-use Rattle.snap_scan.specs.Looks.{IsBorrow}
-use Rattle.snap_scan.specs.Sets.{Names, size}
-use Rattle.snap_scan.specs.Course.{IsNext}
-use Rattle.snap_register.specs.Rule.{segments}
-use Rattle.snap_register.specs.declared.plan.Plan.{Plan}
 use Rattle.snap_scan.proofs.Sets.{at_some, at_below, at_named, some}
+use Rattle.snap_scan.specs.{declared.next.Next.Next, declared.next.Next.TheVariants.Clean}
+use Rattle.snap_scan.specs.{declared.next.Next.TheVariants.Borrow, Looks.IsBorrow, Sets.Names, Sets.size, Course.IsNext}
+use Rattle.snap_register.specs.{Rule.segments, declared.plan.Plan.Plan}
 use Rattle.snap_memory.specs.Scans.{IsCleanScan, TakesLooksOf}
 use Rattle.snap_memory.proofs.Collects.{Gathers, Gathers-none, Gathers-look, told_fits, takes_looks, clean_some}
-use Rattle.snap_memory.proofs.Collects.{borrow_some, clean_scan}
-use Rattle.snap_memory.proofs.Collects.{numbers_are, borrowed_scan}
+use Rattle.snap_memory.proofs.Collects.{borrow_some, clean_scan, numbers_are, borrowed_scan}
 use Rattle.snap_memory.proofs.looks.gather.Goals as goal
 
 not_both : (v : Next) (j : ℕ) → v ≡ Clean → v ≡ Borrow j → ⊥

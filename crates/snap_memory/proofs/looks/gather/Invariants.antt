@@ -1,6 +1,5 @@
 use Rattle.std.proofs.Common.{◌≡◌, ◌-◌, length}
-use Rattle.snap_scan.specs.Looks.{most_looks}
-use Rattle.snap_scan.specs.Sets.{size}
+use Rattle.snap_scan.specs.{Looks.most_looks, Sets.size}
 use Rattle.snap_memory.proofs.Collects.{Gathers}
 use Rattle.snap_memory.proofs.looks.gather.Given as goal
 

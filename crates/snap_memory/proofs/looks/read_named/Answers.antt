@@ -1,7 +1,6 @@
 use Rattle.std.proofs.Common.{ℕ, inl, inr, ◌≤◌, Some, slice_get, slice_index, refl, ap, sym, subst, ◌∙◌, arith}
 use Rattle.std.proofs.lemmas.Bool.{cases_eq, iff_false}
-use Rattle.snap_register.specs.Rule.{segments}
-use Rattle.snap_register.specs.Seat.{Known, IsValue}
+use Rattle.snap_register.specs.{Rule.segments, Seat.Known, Seat.IsValue}
 use Rattle.snap_scan.specs.Sets.{Names}
 use Rattle.snap_memory.proofs.looks.read_named.Goals.{then-has, else-has}
 use Rattle.snap_memory.proofs.looks.read_named.Goals as goal

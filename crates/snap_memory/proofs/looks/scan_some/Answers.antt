@@ -1,7 +1,6 @@
 use Rattle.std.proofs.Common.{sym, subst}
 use Rattle.snap_register.specs.Seat.{Known}
-use Rattle.snap_memory.specs.Scans.{IsScan, HasPart}
-use Rattle.snap_memory.proofs.ScanAnswer.{part_clean}
+use Rattle.snap_memory.{specs.Scans.IsScan, specs.Scans.HasPart, proofs.ScanAnswer.part_clean}
 use Rattle.snap_memory.proofs.looks.scan_some.Goals as goal
 
 pub returns-in-Collected-clause-part : goal.returns-in-Collected-clause-part

@@ -1,14 +1,10 @@
 use Rattle.std.proofs.Common.{◌≡◌, ◌+◌, [], ◌∷◌, ◌++◌, None, map, Some, refl, ap, sym, subst, ◌∙◌, arith}
-use Rattle.std.proofs.lemmas.Bool.{iff_false}
-use Rattle.std.proofs.lemmas.List.{length-set, map-append}
-use Rattle.snap_register.specs.Rule.{segments}
-use Rattle.snap_register.specs.Seat.{Known}
-use Rattle.snap_scan.specs.Sets.{named_below}
-use Rattle.snap_scan.specs.Values.{pair_of}
+use Rattle.std.proofs.lemmas.{Bool.iff_false, List.length-set, List.map-append}
+use Rattle.snap_register.specs.{Rule.segments, Seat.Known}
 use Rattle.snap_scan.proofs.Sets.{list_named, list_unnamed, named_all}
+use Rattle.snap_scan.specs.{Sets.named_below, Values.pair_of}
 use Rattle.snap_memory.specs.Rooms.{AreEntries, IsEntry}
-use Rattle.snap_memory.proofs.Kept.{kept_of, kept_in}
-use Rattle.snap_memory.proofs.ScanAnswer.{entries_short}
+use Rattle.snap_memory.proofs.{Kept.kept_of, Kept.kept_in, ScanAnswer.entries_short}
 use Rattle.snap_memory.proofs.room.list.Goals.{then-has+in_ok-entry+in_ok-push, else-has}
 use Rattle.snap_memory.proofs.room.list.Goals as goal
 

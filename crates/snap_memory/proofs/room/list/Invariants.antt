@@ -1,6 +1,5 @@
 use Rattle.std.proofs.Common.{◌≡◌, length, map}
-use Rattle.snap_scan.specs.Sets.{named_below}
-use Rattle.snap_scan.specs.Values.{pair_of}
+use Rattle.snap_scan.specs.{Sets.named_below, Values.pair_of}
 use Rattle.snap_memory.specs.Rooms.{AreKept, AreEntries}
 use Rattle.snap_memory.proofs.room.list.Given as goal
 

@@ -1,14 +1,10 @@
 use Rattle.std.proofs.Common.{◌^◌, ◌<◌, [], IfOk, get_or, map, refl, sym, subst, arith}
-use Rattle.snap_register.specs.declared.plan.Plan.{Plan}
-use Rattle.snap_register.specs.Rule.{segments}
 use Rattle.snap_register.specs.Seat.{Known, IsView}
-use Rattle.snap_register.specs.declared.view.View.TheVariants.{Borrowed}
-use Rattle.snap_scan.specs.Values.{pair_of}
-use Rattle.snap_scan.proofs.Sets.{names_below}
-use Rattle.snap_memory.specs.Rooms.{AreKept, WasSeen}
-use Rattle.snap_memory.specs.Scans.{IsScan, IsPart}
-use Rattle.snap_memory.proofs.Kept.{kept_grown}
+use Rattle.snap_register.specs.{declared.plan.Plan.Plan, Rule.segments, declared.view.View.TheVariants.Borrowed}
+use Rattle.snap_scan.{specs.Values.pair_of, proofs.Sets.names_below}
 use Rattle.snap_memory.proofs.ScanAnswer.{list_clean, list_borrowed, view_seen, map_ok}
+use Rattle.snap_memory.specs.{Rooms.AreKept, Rooms.WasSeen, Scans.IsScan, Scans.IsPart}
+use Rattle.snap_memory.proofs.Kept.{kept_grown}
 use Rattle.snap_memory.proofs.room.scan_kept.Goals as goal
 
 pub list-requires-clause-found : goal.list-requires-clause-found

@@ -1,7 +1,6 @@
 use Rattle.std.proofs.Common.{ℕ, length, ap, arith, ◌∙◌, refl, sym}
-use Rattle.std.proofs.lemmas.Iterator.Adapters.{YieldsList-from_vec}
-use Rattle.std.proofs.lemmas.Iterator.Consumers.{YieldsList-end}
 use Rattle.std.proofs.lemmas.List.{length_push, map-id}
+use Rattle.std.proofs.lemmas.Iterator.{Adapters.YieldsList-from_vec, Consumers.YieldsList-end}
 use Rattle.snap_history.proofs.Removals.{taken}
 use Rattle.snap_metrics.proofs.devices.time_all.Goals as goal
 

@@ -1,13 +1,9 @@
 use Rattle.std.proofs.Common.{rules, ◌≡◌, ℕ, ◌<◌, List, [], length, subst, sym, ap, ◌∙◌, arith}
-use Rattle.snap_register.specs.Registers.{Mine}
-use Rattle.atomic_table.specs.Table.{opening}
-use Rattle.atomic_table.specs.Seated.{TableId}
-use Rattle.snap_register.specs.declared.plan.Plan.{Plan}
-use Rattle.snap_register.specs.History.{start_at}
-use Rattle.snap_register.specs.Rule.{Kept, segments}
 use Rattle.snap_register.specs.Setup.{plan_with, first_view, opening_words}
-use Rattle.snap_register.specs.Parts.{AreWriters, AreReaders}
 use Rattle.snap_register.proofs.Opens.{opens, wide, opening_words_are, first_is, count_of, base_of}
+use Rattle.snap_register.specs.{Registers.Mine, declared.plan.Plan.Plan, History.start_at, Rule.Kept, Rule.segments}
+use Rattle.snap_register.specs.{Parts.AreWriters, Parts.AreReaders}
+use Rattle.atomic_table.specs.{Table.opening, Seated.TableId}
 use Rattle.snap_register.proofs.tables.open.Goals as goal
 use Rattle.snap_register.proofs.tables.open.Goals.{After-as_slice}
 

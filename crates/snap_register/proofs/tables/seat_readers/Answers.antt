@@ -1,12 +1,8 @@
 use Rattle.std.proofs.Common.{rules, ◌≡◌, ◌<◌, List, subst, sym, ap, ◌∙◌, arith, refl}
 use Rattle.atomic_table.specs.Seated.{TableId}
-use Rattle.snap_register.specs.declared.plan.Plan.{Plan}
-use Rattle.snap_register.specs.Rule.{size}
-use Rattle.snap_register.specs.Seat.{Known}
-use Rattle.snap_register.specs.Parts.{IsNewSeat, AreReaders}
-use Rattle.snap_register.proofs.Joins.{seats_reader}
-use Rattle.snap_register.proofs.Later.{some_words}
 use Rattle.snap_register.proofs.Opens.{enough, bare, first_after, readers_more, new_seat}
+use Rattle.snap_register.specs.{declared.plan.Plan.Plan, Rule.size, Seat.Known, Parts.IsNewSeat, Parts.AreReaders}
+use Rattle.snap_register.proofs.{Joins.seats_reader, Later.some_words}
 use Rattle.snap_register.proofs.tables.seat_readers.Goals as goal
 
 pub split_seat-seat-requires : goal.split_seat-seat-requires

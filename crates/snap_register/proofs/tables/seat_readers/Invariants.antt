@@ -1,6 +1,5 @@
 use Rattle.std.proofs.Common.{◌≡◌, ◌-◌, length}
-use Rattle.snap_register.specs.Setup.{IsFirst}
-use Rattle.snap_register.specs.Parts.{AreReaders}
+use Rattle.snap_register.specs.{Setup.IsFirst, Parts.AreReaders}
 use Rattle.snap_register.proofs.tables.seat_readers.Given as goal
 
 abbrev pub invariant-loop-k : goal.invariant-loop-k

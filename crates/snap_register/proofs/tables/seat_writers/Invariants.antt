@@ -1,7 +1,5 @@
 use Rattle.std.proofs.Common.{◌≡◌, ◌-◌, length}
-use Rattle.snap_register.specs.Rule.{seats}
-use Rattle.snap_register.specs.Setup.{IsFirst}
-use Rattle.snap_register.specs.Parts.{AreWriters}
+use Rattle.snap_register.specs.{Rule.seats, Setup.IsFirst, Parts.AreWriters}
 use Rattle.snap_register.proofs.tables.seat_writers.Given as goal
 
 abbrev pub invariant-loop-i : goal.invariant-loop-i

@@ -1,5 +1,4 @@
-use Rattle.snap_restart.proofs.Lives.{life_fits}
-use Rattle.snap_restart.proofs.LifeDurability.{stays}
+use Rattle.snap_restart.proofs.{Lives.life_fits, LifeDurability.stays}
 use Rattle.snap_restart.proofs.crashes.life_laws.Goals as goal
 
 pub returns-clause-lives : goal.returns-clause-lives

@@ -1,6 +1,5 @@
 use Rattle.std.proofs.Common.{◌++◌, ◌∷◌, [], length, append_assoc, ap, sym, ◌∙◌, arith}
-use Rattle.std.specs.Vec.Iter.{into_iter_items}
-use Rattle.std.proofs.lemmas.List.{length_push}
+use Rattle.std.{specs.Vec.Iter.into_iter_items, proofs.lemmas.List.length_push}
 use Rattle.snap_restart.proofs.Removals.{one_fewer}
 use Rattle.snap_restart.proofs.files.returned.Goals as goal
 

@@ -1,6 +1,5 @@
 use Rattle.std.proofs.Common.{◌≡◌, ℕ, ◌<◌, slice_get, Some}
-use Rattle.snap_history.specs.History.{IsBeginning}
-use Rattle.snap_history.specs.Pairs.{Pairs}
+use Rattle.snap_history.specs.{History.IsBeginning, Pairs.Pairs}
 use Rattle.snap_register.specs.Seat.{Known, Grows}
 use Rattle.snap_restart.specs.Closed.{HasMet}
 use Rattle.snap_restart.proofs.shutdown.hear_all.Given as goal

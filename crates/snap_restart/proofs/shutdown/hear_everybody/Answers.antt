@@ -1,13 +1,10 @@
 use Rattle.std.proofs.Common.{◌≡◌, length, Some, slice_get, slice_set, refl, arith}
 use Rattle.std.proofs.lemmas.Option.{slice_get_read}
-use Rattle.snap_history.specs.Pairs.{Pairs}
-use Rattle.snap_history.proofs.Lists.{get-set_same}
-use Rattle.snap_history.proofs.Pairs.{element}
+use Rattle.snap_history.{specs.Pairs.Pairs, proofs.Lists.get-set_same, proofs.Pairs.element}
 use Rattle.snap_register.specs.Seat.{Known, Grows}
 use Rattle.snap_memory.proofs.Collects.{grows_more}
-use Rattle.snap_restart.specs.Closed.{HasMet}
-use Rattle.snap_restart.proofs.Pairs.{pairs_more}
 use Rattle.snap_restart.proofs.Meetings.{met_more, together_after, first_met, history_told}
+use Rattle.snap_restart.{specs.Closed.HasMet, proofs.Pairs.pairs_more}
 use Rattle.snap_restart.proofs.shutdown.hear_everybody.Goals as goal
 use Rattle.snap_restart.proofs.shutdown.hear_everybody.Goals.{After-index_mut-scanner}
 

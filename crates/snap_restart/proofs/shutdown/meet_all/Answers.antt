@@ -3,9 +3,8 @@ use Rattle.std.proofs.lemmas.Option.{slice_get_within, slice_get_read}
 use Rattle.snap_history.proofs.Pairs.{element}
 use Rattle.snap_memory.proofs.Collects.{grows_more}
 use Rattle.snap_writer.specs.Writer.{WriterState}
-use Rattle.snap_restart.specs.Closed.{HasMet}
-use Rattle.snap_restart.proofs.Pairs.{pairs_moved}
 use Rattle.snap_restart.proofs.Meetings.{together_grown, told_step, met_more}
+use Rattle.snap_restart.{specs.Closed.HasMet, proofs.Pairs.pairs_moved}
 use Rattle.snap_restart.proofs.shutdown.meet_all.Goals as goal
 use Rattle.snap_restart.proofs.shutdown.meet_all.Goals.{After-index_mut}
 

@@ -1,10 +1,8 @@
 use Rattle.std.proofs.Common.{ℕ, ◌∷◌, ◌++◌, [], length, map, ap, sym, ◌∙◌, arith}
-use Rattle.std.proofs.lemmas.List.{length_push}
-use Rattle.std.proofs.lemmas.Option.{slice_get_within}
+use Rattle.std.proofs.lemmas.{List.length_push, Option.slice_get_within}
 use Rattle.snap_history.proofs.Removals.{taken, map_front, all_taken, none_after}
 use Rattle.snap_restart.specs.Closed.{Rests}
-use Rattle.snap_restart.proofs.Removals.{one_fewer, so_far}
-use Rattle.snap_restart.proofs.Meetings.{one_more, rests_moved}
+use Rattle.snap_restart.proofs.{Removals.one_fewer, Removals.so_far, Meetings.one_more, Meetings.rests_moved}
 use Rattle.snap_restart.proofs.shutdown.release_all.Goals as goal
 
 pub writers-preserved : goal.writers-preserved

@@ -4,11 +4,9 @@ use Rattle.snap_segment.specs.Segment.{SegmentState}
 use Rattle.snap_history.specs.Pairs.{Pairs}
 use Rattle.snap_register.specs.Seat.{Known}
 use Rattle.snap_restart.specs.Opened.{AreFresh, IsOpened, IsStopped, recovered}
-use Rattle.snap_restart.specs.Closed.{AreBack}
-use Rattle.snap_restart.proofs.Refusals.{stopped_last}
 use Rattle.snap_restart.proofs.NewSeats.{map_both, starts_are, fresh_are, back_are, paired_are}
 use Rattle.snap_restart.proofs.Crash.{opened, stay_kept, backs_opened, backs_stopped}
-use Rattle.snap_restart.proofs.Durability.{stay_stored}
+use Rattle.snap_restart.{specs.Closed.AreBack, proofs.Refusals.stopped_last, proofs.Durability.stay_stored}
 use Rattle.snap_restart.proofs.store.open_all.Goals as goal
 
 pub place_writers-requires-clause-starts : goal.place_writers-requires-clause-starts

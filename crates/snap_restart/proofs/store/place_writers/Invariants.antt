@@ -1,6 +1,5 @@
 use Rattle.std.proofs.Common.{◌≡◌, ◌≤◌, length, map, take, drop}
-use Rattle.std.specs.Prelude.{vec_capacity}
-use Rattle.std.specs.Vec.Iter.{into_iter_items, into_iter_len}
+use Rattle.std.specs.{Prelude.vec_capacity, Vec.Iter.into_iter_items, Vec.Iter.into_iter_len}
 use Rattle.snap_restart.proofs.store.place_writers.Given as goal
 
 abbrev pub invariant-writers : goal.invariant-writers

@@ -1,7 +1,6 @@
 use Rattle.std.proofs.Common.{rules, ◌≡◌, ℕ, ◌^◌, ◌<◌, ◌≤◌, ◌∷◌, ◌++◌, List, [], length, map, take, slice_get, Some}
 use Rattle.std.proofs.Common.{Vec, Global, refl, subst, ap, sym, ◌∙◌}
-use Rattle.std.proofs.lemmas.List.{map-append, take_all}
-use Rattle.std.proofs.lemmas.Option.{slice_get_read}
+use Rattle.std.proofs.lemmas.{List.map-append, List.take_all, Option.slice_get_read}
 use Rattle.snap_history.proofs.Lists.{get-push}
 use Rattle.snap_register.proofs.Pairs.{map_next}
 use Rattle.snap_restart.specs.Opened.{contents}

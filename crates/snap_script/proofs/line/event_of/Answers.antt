@@ -1,10 +1,8 @@
 use Rattle.std.proofs.Common.{◌≡◌, ◌⊎◌, inl, inr, ℕ, List}
-use Rattle.snap_script.specs.Words.{words_of}
-use Rattle.snap_script.specs.Line.{HasForm}
-use Rattle.snap_script.specs.declared.verb.Verb.{Verb}
-use Rattle.snap_script.specs.declared.verb.Verb.TheVariants as verb
-use Rattle.snap_world.specs.declared.event.Event.{Event}
+use Rattle.snap_script.specs.{Words.words_of, Line.HasForm, declared.verb.Verb.Verb}
 use Rattle.snap_script.proofs.Parts.{parts-ne-nil}
+use Rattle.snap_world.specs.declared.event.Event.{Event}
+use Rattle.snap_script.specs.declared.verb.Verb.TheVariants as verb
 use Rattle.snap_script.proofs.line.event_of.Goals as goal
 
 pub returns-in-Begin : goal.returns-in-Begin

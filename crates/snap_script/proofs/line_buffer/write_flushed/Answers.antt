@@ -1,6 +1,4 @@
-use Rattle.std.proofs.Common.{length}
-use Rattle.std.proofs.KnownBytes.{Appends-kept}
-use Rattle.std.proofs.Math.Seq.{take-length}
+use Rattle.std.proofs.{Common.length, KnownBytes.Appends-kept, Math.Seq.take-length}
 use Rattle.snap_script.proofs.line_buffer.write_flushed.Goals as goal
 
 pub returns-clause-whole : goal.returns-clause-whole

@@ -1,9 +1,6 @@
-use Rattle.std.proofs.Common.{ℕ, ◌≡◌, ◌<◌, ◌+◌, Some, None, ◌∷◌, length, take, drop, ◌-◌}
-use Rattle.std.proofs.Common.{length-drop, arith}
-use Rattle.std.proofs.lemmas.List.{take_all, length-take-le}
-use Rattle.std.specs.Prelude.{◌==◌}
-use Rattle.snap_script.specs.Words.{parts_at}
-use Rattle.snap_script.proofs.Parts.{splits_at_place}
+use Rattle.std.proofs.Common.{ℕ, ◌≡◌, ◌<◌, ◌+◌, Some, None, ◌∷◌, length, take, drop, ◌-◌, length-drop, arith}
+use Rattle.std.{proofs.lemmas.List.take_all, proofs.lemmas.List.length-take-le, specs.Prelude.◌==◌}
+use Rattle.snap_script.{specs.Words.parts_at, proofs.Parts.splits_at_place}
 use Rattle.snap_script.proofs.words.cut.Goals as goal
 use Rattle.snap_script.proofs.words.cut.Goals.{In-Some}
 

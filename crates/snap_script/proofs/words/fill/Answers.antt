@@ -1,6 +1,5 @@
 use Rattle.std.proofs.Common.{◌≡◌, codes, ◌∷◌, sym, ◌∙◌, ap}
-use Rattle.snap_script.specs.Words.{parts_at}
-use Rattle.snap_script.proofs.Operands.{fill_after, where_none}
+use Rattle.snap_script.{specs.Words.parts_at, proofs.Operands.fill_after, proofs.Operands.where_none}
 use Rattle.snap_script.proofs.words.fill.Goals as goal
 
 pub returns : goal.returns

@@ -2,13 +2,10 @@ use Rattle.std.proofs.Common.{◌≡◌, inl, inr, ℕ, Bool, true, List, Result
 use Rattle.std.proofs.lemmas.Grind.{common_steps}
 use Rattle.std.specs.Prelude.{IsTrue, ◌↔◌, OnOk}
 use Rattle.snap_disk.specs.Device.{IsSettled, IsSynced}
+use Rattle.snap_slot.{specs.Layout.IsUnformatted, proofs.Blank.gate_leaves, proofs.Blank.formatted}
+use Rattle.snap_segment.specs.{Calls.Leaves, Calls.LeavesAsBefore, Creation.IsMadeOrLeft}
+use Rattle.snap_segment.proofs.{Leaves.then, Leaves.weaker, Made.made_bytes}
 use Rattle.snap_disk.specs.declared.disk.Disk as Disk
-use Rattle.snap_slot.specs.Layout.{IsUnformatted}
-use Rattle.snap_slot.proofs.Blank.{gate_leaves, formatted}
-use Rattle.snap_segment.specs.Calls.{Leaves, LeavesAsBefore}
-use Rattle.snap_segment.specs.Creation.{IsMadeOrLeft}
-use Rattle.snap_segment.proofs.Leaves.{then, weaker}
-use Rattle.snap_segment.proofs.Made.{made_bytes}
 use Rattle.snap_segment.proofs.creation.create.Goals as goal
 
 -- from a call that succeeds exactly if the result is Ok, what holds at Ok carries over

@@ -1,5 +1,4 @@
-use Rattle.std.proofs.Common.{◌∙◌, rules}
-use Rattle.std.proofs.lemmas.Result.{on_ok_weaker}
+use Rattle.std.proofs.{Common.◌∙◌, Common.rules, lemmas.Result.on_ok_weaker}
 use Rattle.snap_slot.proofs.Blank.{prepared}
 use Rattle.snap_segment.proofs.creation.write_front.Goals as goal
 

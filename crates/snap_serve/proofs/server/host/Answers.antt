@@ -1,5 +1,4 @@
-use Rattle.std.proofs.Common.{refl}
-use Rattle.std.proofs.KnownBytes.{Keeps-refl}
+use Rattle.std.proofs.{Common.refl, KnownBytes.Keeps-refl}
 use Rattle.snap_serve.proofs.server.host.Goals as goal
 
 pub returns-in-Ok : goal.returns-in-Ok

@@ -1,6 +1,5 @@
 use Rattle.snap_serve.specs.Serve.{addresses_of, site_at}
-use Rattle.snap_serve.proofs.Memories.{as_opened, may_serve}
-use Rattle.snap_serve.proofs.Ends.{ends_opened, reported}
+use Rattle.snap_serve.proofs.{Memories.as_opened, Memories.may_serve, Ends.ends_opened, Ends.reported}
 use Rattle.snap_serve.proofs.server.open_and_serve.Goals as goal
 
 pub returns-in-Ok : goal.returns-in-Ok

@@ -1,6 +1,5 @@
 use Rattle.std.proofs.Common.{ℕ, length, ap, arith, ◌∙◌}
-use Rattle.std.proofs.lemmas.Iterator.Adapters.{YieldsList-from_vec}
-use Rattle.std.proofs.lemmas.Iterator.Consumers.{YieldsList-end}
+use Rattle.std.proofs.lemmas.Iterator.{Adapters.YieldsList-from_vec, Consumers.YieldsList-end}
 use Rattle.std.proofs.lemmas.List.{length_push}
 use Rattle.snap_history.proofs.Removals.{taken}
 use Rattle.snap_serve.proofs.stores.open_desks.Goals as goal

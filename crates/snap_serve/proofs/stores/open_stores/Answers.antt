@@ -1,9 +1,7 @@
 use Rattle.std.proofs.Common.{◌≡◌, ℕ, Some, length, slice_get, ap, arith, subst, sym, ◌∙◌}
-use Rattle.std.proofs.lemmas.Iterator.Adapters.{YieldsList-from_vec}
-use Rattle.std.proofs.lemmas.Iterator.Consumers.{YieldsList-end}
+use Rattle.std.proofs.lemmas.Iterator.{Adapters.YieldsList-from_vec, Consumers.YieldsList-end}
 use Rattle.std.proofs.lemmas.List.{length_push}
-use Rattle.snap_history.proofs.Lists.{get-push_at}
-use Rattle.snap_history.proofs.Removals.{taken}
+use Rattle.snap_history.proofs.{Lists.get-push_at, Removals.taken}
 use Rattle.snap_memory.specs.Seat.{own_of}
 use Rattle.snap_serve.proofs.stores.open_stores.Goals as goal
 

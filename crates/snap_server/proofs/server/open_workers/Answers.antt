@@ -1,6 +1,5 @@
 use Rattle.std.proofs.Common.{◌≡◌, ◌∷◌, length, not, ap, inr, refl, sym, ◌∙◌, arith}
-use Rattle.std.specs.List.{range_with_len}
-use Rattle.std.specs.Vec.Iter.{into_iter_items}
+use Rattle.std.specs.{List.range_with_len, Vec.Iter.into_iter_items}
 use Rattle.snap_server.proofs.Made.{made_more, made_all, made_len, numbered_more, pushed, pushed_len}
 use Rattle.snap_server.proofs.server.open_workers.Goals as goal
 

@@ -1,6 +1,5 @@
 use Rattle.std.proofs.Common.{◌≡◌, ◌++◌, length, map}
-use Rattle.std.specs.List.{range_with_len}
-use Rattle.std.specs.Vec.Iter.{into_iter_items, into_iter_len}
+use Rattle.std.specs.{List.range_with_len, Vec.Iter.into_iter_items, Vec.Iter.into_iter_len}
 use Rattle.snap_server.proofs.server.open_workers.Given as goal
 
 abbrev pub invariant-services : goal.invariant-services

@@ -1,8 +1,6 @@
 use Rattle.std.proofs.Common.{◌^◌, ◌<◌, sym, subst}
-use Rattle.snap_register.specs.declared.plan.Plan.{Plan}
-use Rattle.snap_register.specs.Rule.{segments}
-use Rattle.snap_memory.specs.Scans.{IsPart}
-use Rattle.snap_memory.proofs.ScanAnswer.{all_grown}
+use Rattle.snap_register.specs.{declared.plan.Plan.Plan, Rule.segments}
+use Rattle.snap_memory.{specs.Scans.IsPart, proofs.ScanAnswer.all_grown}
 use Rattle.snap_service.proofs.Lines.{named_listed, short_as}
 use Rattle.snap_service.proofs.scans.answer_part.Goals as goal
 

@@ -1,6 +1,5 @@
 use Rattle.std.proofs.Common.{◌^◌, ◌<◌, map, refl, sym, subst, ◌∙◌}
-use Rattle.snap_register.specs.declared.plan.Plan.{Plan}
-use Rattle.snap_register.specs.Rule.{segments}
+use Rattle.snap_register.specs.{declared.plan.Plan.Plan, Rule.segments}
 use Rattle.snap_scan.specs.Values.{pair_of}
 use Rattle.snap_memory.specs.Scans.{IsPart, MayRefuse, TakesLooksOf}
 use Rattle.snap_memory.proofs.ScanAnswer.{snapshot_listed, all_set, all_is, all_count, all_grown, all_same}

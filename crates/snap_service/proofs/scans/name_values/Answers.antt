@@ -1,17 +1,13 @@
 use Rattle.std.proofs.Common.{◌≡◌, ℕ, suc, ◌+◌, [], ◌∷◌, ◌++◌, length, map, take, Some, slice_get, get_or, refl, ap}
 use Rattle.std.proofs.Common.{sym, subst, ◌∙◌, arith}
-use Rattle.std.proofs.lemmas.Bool.{iff_false}
 use Rattle.std.proofs.lemmas.List.{length-map, length_push, map-append}
 use Rattle.std.proofs.lemmas.Option.{slice_get-map, slice_get_read}
-use Rattle.std.specs.Option.{option_map}
-use Rattle.std.proofs.Math.Seq.{take-length}
+use Rattle.std.{proofs.lemmas.Bool.iff_false, specs.Option.option_map, proofs.Math.Seq.take-length}
 use Rattle.snap_register.proofs.Pairs.{take_next}
-use Rattle.snap_scan.specs.Sets.{Names, named_below}
-use Rattle.snap_scan.specs.Values.{pair_of}
+use Rattle.snap_scan.specs.{Sets.Names, Sets.named_below, Values.pair_of}
 use Rattle.snap_scan.proofs.Sets.{with, without}
 use Rattle.snap_frame.specs.declared.named.NamedValue.{NamedValue}
-use Rattle.snap_service.specs.Answers.{segment_of, named_pair}
-use Rattle.snap_service.proofs.Lines.{counts}
+use Rattle.snap_service.{specs.Answers.segment_of, specs.Answers.named_pair, proofs.Lines.counts}
 use Rattle.snap_service.proofs.scans.name_values.Goals.{then-has+in_ok-clone+in_ok-push, else-has}
 use Rattle.snap_service.proofs.scans.name_values.Goals as goal
 

@@ -1,6 +1,5 @@
 use Rattle.std.proofs.Common.{◌≡◌, length, map, take}
-use Rattle.snap_scan.specs.Sets.{named_below}
-use Rattle.snap_scan.specs.Values.{pair_of}
+use Rattle.snap_scan.specs.{Sets.named_below, Values.pair_of}
 use Rattle.snap_service.specs.Answers.{segment_of, named_pair}
 use Rattle.snap_service.proofs.scans.name_values.Given as goal
 

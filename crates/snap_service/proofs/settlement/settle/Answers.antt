@@ -1,6 +1,5 @@
 use Rattle.std.proofs.Common.{ℕ, subst, ◌∙◌}
-use Rattle.snap_service.specs.Settled.{IsSettledAt}
-use Rattle.snap_service.proofs.Meetings.{still_together, still_seated}
+use Rattle.snap_service.{specs.Settled.IsSettledAt, proofs.Meetings.still_together, proofs.Meetings.still_seated}
 use Rattle.snap_service.proofs.settlement.settle.Goals as goal
 
 pub reply_told-requires : goal.reply_told-requires

@@ -1,25 +1,18 @@
-use Rattle.std.proofs.Common.{None, OnSome, inl, inr, ◌⊎◌, ap, sym, subst, length, ◌≤◌, ◌∙◌, take, [], ◌≡◌, ◌<◌}
-use Rattle.std.proofs.Common.{◌+◌, ℕ, List, Option, Some}
-use Rattle.std.proofs.Common.{true≢false, refl, arith}
-use Rattle.std.specs.Io.KnownBytes.{Consumes}
+use Rattle.std.proofs.Common.{None, OnSome, inl, inr, ◌⊎◌, ap, sym, subst, length, ◌≤◌, ◌∙◌, take, [], ◌≡◌, ◌<◌, ◌+◌, ℕ}
+use Rattle.std.proofs.Common.{List, Option, Some, true≢false, refl, arith}
+use Rattle.std.{specs.Io.KnownBytes.Consumes, proofs.KnownBytes.Consumes-kept}
 use Rattle.snap_session.specs.Talk.{Talk, Stays, HoldsFrameAnd, most_owed}
 use Rattle.snap_session.specs.Turns.{Turns, AllSaid, StandsAt, TakesRounds, FewRounds, WholeRounds, most_rounds}
-use Rattle.snap_frame.specs.declared.request.Request.{Request}
-use Rattle.snap_frame.specs.declared.reply.Reply.{Reply}
 use Rattle.snap_session.specs.declared.turns.End.TheVariants.{Closed, Truncated, TooLarge, NoMemory, ReadFailed}
 use Rattle.snap_session.specs.declared.turns.End.TheVariants.{WriteFailed}
-use Rattle.snap_session.specs.declared.turns.Polled.{Polled}
 use Rattle.snap_session.specs.declared.turns.Polled.TheVariants.{Again, NeedsInput, NeedsRoom, NeedsOutcome, Over}
-use Rattle.std.proofs.KnownBytes.{Consumes-kept}
-use Rattle.snap_session.proofs.Asked.{asked_anyway}
-use Rattle.snap_session.proofs.Known.{consumes_none}
 use Rattle.snap_session.proofs.Held.{holds_sent, holds_answered, holds_taken}
 use Rattle.snap_session.proofs.Rounds.{scene, only_sends, reads_nothing, answers_some, reads_some, one_more, and_last}
-use Rattle.snap_session.proofs.Steps.{taken_asked, taken_owed}
 use Rattle.snap_session.proofs.TurnRuns.{Stood, stood_sent, begins, then_round, then_takes, then_ends, few_left}
-use Rattle.snap_session.proofs.TurnRuns.{none_owed, some_owed}
-use Rattle.snap_session.proofs.TurnRuns.{blocked_apart, failed_apart, on_any, on_none}
-use Rattle.snap_session.proofs.TurnRuns.{or_new}
+use Rattle.snap_session.proofs.TurnRuns.{none_owed, some_owed, blocked_apart, failed_apart, on_any, on_none, or_new}
+use Rattle.snap_session.specs.declared.turns.Polled.{Polled}
+use Rattle.snap_session.proofs.{Asked.asked_anyway, Known.consumes_none, Steps.taken_asked, Steps.taken_owed}
+use Rattle.snap_frame.specs.declared.{request.Request.Request, reply.Reply.Reply}
 use Rattle.snap_session.proofs.turns.proceed.Goals as goal
 use Rattle.snap_session.proofs.turns.proceed.Goals.{After-send_owed, After-answer, After-read}
 

@@ -1,7 +1,5 @@
 use Rattle.std.proofs.Common.{length}
-use Rattle.snap_session.specs.Turns.{WholeRounds}
-use Rattle.snap_session.proofs.Rounds.{scene}
-use Rattle.snap_session.proofs.TurnRuns.{Stood}
+use Rattle.snap_session.{specs.Turns.WholeRounds, proofs.Rounds.scene, proofs.TurnRuns.Stood}
 use Rattle.snap_session.proofs.turns.proceed.Given as goal
 
 abbrev pub invariant-loop : goal.invariant-loop

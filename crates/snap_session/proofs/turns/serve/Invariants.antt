@@ -1,6 +1,5 @@
 use Rattle.std.proofs.Common.{None, ◌≡◌}
-use Rattle.snap_session.specs.Talk.{Stays, start}
-use Rattle.snap_session.specs.Turns.{Turns}
+use Rattle.snap_session.specs.{Talk.Stays, Talk.start, Turns.Turns}
 use Rattle.snap_session.proofs.turns.serve.Given as goal
 
 abbrev pub invariant-loop : goal.invariant-loop

@@ -1,5 +1,4 @@
-use Rattle.snap_slot.proofs.Whole.{header_of_file}
-use Rattle.snap_slot.specs.Old.{old_mark}
+use Rattle.snap_slot.{proofs.Whole.header_of_file, specs.Old.old_mark}
 use Rattle.snap_slot.proofs.old_recovery.old_header.Goals as goal
 
 pub returns : goal.returns

@@ -1,12 +1,9 @@
 use Rattle.std.proofs.Common.{◌≡◌, ℕ, Result, IfOk, IfErr, inr, subst, sym, ◌∙◌, ap}
 use Rattle.snap_disk.specs.declared.refusal.Refusal.{Refusal}
-use Rattle.snap_slot.specs.Findings.{IsOfBytes}
-use Rattle.snap_slot.specs.declared.header.Header.{Header}
-use Rattle.snap_slot.specs.declared.header.Header.TheVariants.{Open}
-use Rattle.snap_slot.specs.Old.{OldHead}
 use Rattle.snap_slot.specs.OldFound.{IsOldHeaderOf, IsOldFound, IsNoOldOpening}
-use Rattle.snap_slot.specs.declared.old_recovery.OldFound.{OldFound}
 use Rattle.snap_slot.proofs.OldSame.{wrong_old_file, old_damaged, old_found}
+use Rattle.snap_slot.specs.{Findings.IsOfBytes, declared.header.Header.Header, declared.header.Header.TheVariants.Open}
+use Rattle.snap_slot.specs.{Old.OldHead, declared.old_recovery.OldFound.OldFound}
 use Rattle.snap_slot.proofs.old_recovery.recover_old.Goals as goal
 
 pub returns-in-Open-clause-found : goal.returns-in-Open-clause-found

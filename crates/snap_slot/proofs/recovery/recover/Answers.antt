@@ -1,6 +1,5 @@
 use Rattle.std.proofs.Common.{◌≡◌, ℕ, inr, ◌∙◌, ap}
-use Rattle.snap_slot.specs.declared.header.Header.TheVariants.{Open}
-use Rattle.snap_slot.proofs.Whole.{damaged, wrong_file}
+use Rattle.snap_slot.{specs.declared.header.Header.TheVariants.Open, proofs.Whole.damaged, proofs.Whole.wrong_file}
 use Rattle.snap_slot.proofs.recovery.recover.Goals as goal
 
 pub returns-in-Open-clause-refused : goal.returns-in-Open-clause-refused

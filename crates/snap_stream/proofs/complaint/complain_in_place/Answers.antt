@@ -1,9 +1,7 @@
 use Rattle.std.proofs.Common.{◌-◌, List, ℕ, codes, length, drop, nat_eq, IfSome, subst, sym, ap, ◌∙◌}
-use Rattle.std.specs.Cmp.Lexicographic.{pointwise}
-use Rattle.std.specs.Fmt.Cut.{IsTextOrCut}
+use Rattle.std.specs.{Cmp.Lexicographic.pointwise, Fmt.Cut.IsTextOrCut}
 use Rattle.snap_stream.specs.declared.complaint.TheConstants.{IN_PLACE}
-use Rattle.snap_stream.proofs.Complaints.{told_in_place}
-use Rattle.snap_stream.proofs.Lines.{on_ok}
+use Rattle.snap_stream.proofs.{Complaints.told_in_place, Lines.on_ok}
 use Rattle.snap_stream.proofs.complaint.complain_in_place.Goals as goal
 
 pub returns-then-is_ok : goal.returns-then-is_ok

@@ -1,7 +1,5 @@
-use Rattle.std.proofs.Common.{◌≡◌, ◌∙◌, List, ℕ, IfSome, string_bytes, String, Global, sym, subst}
-use Rattle.std.proofs.Common.{Option}
-use Rattle.std.specs.Io.KnownBytes.{Appends}
-use Rattle.std.proofs.KnownBytes.{Appends-trans}
+use Rattle.std.proofs.Common.{◌≡◌, ◌∙◌, List, ℕ, IfSome, string_bytes, String, Global, sym, subst, Option}
+use Rattle.std.{specs.Io.KnownBytes.Appends, proofs.KnownBytes.Appends-trans}
 use Rattle.snap_stream.specs.Streams.{AppendsBeginning, refused_line}
 use Rattle.snap_stream.proofs.Lines.{beginning_more, whole_more, beginning_behind, on_ok}
 use Rattle.snap_stream.proofs.complaint.complain_twice.Goals as goal

@@ -1,5 +1,4 @@
-use Rattle.std.proofs.Common.{refl}
-use Rattle.std.specs.Fmt.{digits}
+use Rattle.std.{proofs.Common.refl, specs.Fmt.digits}
 use Rattle.snap_stream.proofs.complaint.line_of.Goals as goal
 
 pub returns-in-Malformed : goal.returns-in-Malformed

@@ -1,6 +1,5 @@
 use Rattle.std.proofs.Common.{List, ℕ, ◌++◌, codes, subst}
-use Rattle.std.specs.Io.KnownBytes.{Appends}
-use Rattle.std.proofs.lemmas.Result.{on_err_weaker}
+use Rattle.std.{specs.Io.KnownBytes.Appends, proofs.lemmas.Result.on_err_weaker}
 use Rattle.snap_stream.specs.Streams.{AppendsLess}
 use Rattle.snap_stream.proofs.Lines.{less_more, less_behind, on_failed}
 use Rattle.snap_stream.proofs.complaint.write_parts.Goals as goal

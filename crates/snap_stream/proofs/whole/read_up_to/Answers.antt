@@ -1,6 +1,5 @@
 use Rattle.std.proofs.Common.{rules, length, ◌-◌, subst}
-use Rattle.std.specs.Io.KnownBytes.{Consumes}
-use Rattle.std.proofs.KnownBytes.{Consumes-trans}
+use Rattle.std.{specs.Io.KnownBytes.Consumes, proofs.KnownBytes.Consumes-trans}
 use Rattle.snap_stream.proofs.Known.{take_put}
 use Rattle.snap_stream.proofs.whole.read_up_to.Goals as goal
 

@@ -1,6 +1,5 @@
 use Rattle.std.proofs.Common.{arith, length, ◌-◌, length-take, length-drop, drop, subst}
-use Rattle.std.specs.Io.KnownBytes.{Appends}
-use Rattle.std.proofs.KnownBytes.{Appends-trans}
+use Rattle.std.{specs.Io.KnownBytes.Appends, proofs.KnownBytes.Appends-trans}
 use Rattle.snap_stream.proofs.Known.{take_on}
 use Rattle.snap_stream.proofs.whole.write_whole.Goals as goal
 

@@ -1,5 +1,4 @@
-use Rattle.snap_world.specs.inside.Fresh.{IsScannerHalted}
-use Rattle.snap_world.proofs.Sweep.{Swept}
+use Rattle.snap_world.{specs.inside.Fresh.IsScannerHalted, proofs.Sweep.Swept}
 use Rattle.snap_world.proofs.actors.halt_scanners.Given as goal
 
 abbrev pub invariant-loop-i : goal.invariant-loop-i

@@ -1,5 +1,4 @@
-use Rattle.snap_world.specs.inside.Fresh.{IsHalted}
-use Rattle.snap_world.proofs.Sweep.{Swept}
+use Rattle.snap_world.{specs.inside.Fresh.IsHalted, proofs.Sweep.Swept}
 use Rattle.snap_world.proofs.actors.halt_writers.Given as goal
 
 abbrev pub invariant-loop-i : goal.invariant-loop-i

@@ -1,7 +1,6 @@
 use Rattle.std.proofs.Common.{sym, ◌∙◌, subst, length, refl, arith}
 use Rattle.std.proofs.lemmas.Option.{slice_get_read, same_Some}
-use Rattle.snap_world.specs.inside.Drives.{IsCrashed}
-use Rattle.snap_world.proofs.Sweep.{swept-more, swept-all}
+use Rattle.snap_world.{specs.inside.Drives.IsCrashed, proofs.Sweep.swept-more, proofs.Sweep.swept-all}
 use Rattle.snap_world.proofs.drive.crash_all.Goals as goal
 
 pub loop-i-preserved : goal.loop-i-preserved

@@ -1,5 +1,4 @@
-use Rattle.snap_world.specs.inside.Recovery.{IsResumed}
-use Rattle.snap_world.proofs.Sweep.{Swept}
+use Rattle.snap_world.{specs.inside.Recovery.IsResumed, proofs.Sweep.Swept}
 use Rattle.snap_world.proofs.drive.resume_all.Given as goal
 
 abbrev pub invariant-loop-i : goal.invariant-loop-i

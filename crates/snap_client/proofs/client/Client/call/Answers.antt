@@ -1,6 +1,5 @@
 use Rattle.std.proofs.Common.{refl, Some, Ok, Err}
-use Rattle.snap_client.specs.Calls.{client_of}
-use Rattle.snap_client.proofs.Replies.{has_called}
+use Rattle.snap_client.{specs.Calls.client_of, proofs.Replies.has_called}
 use Rattle.snap_client.proofs.client.Client.call.Goals as goal
 
 pub returns-in-Ok : goal.returns-in-Ok

@@ -1,6 +1,5 @@
 use Rattle.std.proofs.Common.{◌≡◌, ◌↔◌, ◌∙◌, Contains, List, ap, length, get_or, arith, subst, sym, take, ℕ}
-use Rattle.std.proofs.Math.Seq.{take-length}
-use Rattle.std.proofs.lemmas.List.{take_more}
+use Rattle.std.proofs.{Math.Seq.take-length, lemmas.List.take_more}
 use Rattle.snap_frame.specs.Sets.{Names}
 use Rattle.snap_client_commands.proofs.WatchSets.{names_more, some_named, with}
 use Rattle.snap_client_commands.proofs.watch.segments.set_of.Goals as goal

@@ -1,8 +1,6 @@
 use Rattle.std.proofs.Common.{sym, subst, ◌∙◌}
 use Rattle.snap_memory.specs.Seat.{own_of}
-use Rattle.snap_service.specs.Asked.{StoresAsked}
-use Rattle.snap_service.specs.Memory.{IsOf}
-use Rattle.snap_service.specs.Writer.{WriterState}
+use Rattle.snap_service.specs.{Asked.StoresAsked, Memory.IsOf, Writer.WriterState}
 use Rattle.snap_service.proofs.Asked.{asked_update}
 use Rattle.snap_desk.proofs.heap_writer.HeapWriter.update.Goals as goal
 

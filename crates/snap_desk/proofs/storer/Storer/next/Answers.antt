@@ -1,9 +1,7 @@
 use Rattle.std.proofs.Common.{◌≡◌, inr, sym, subst, ap, ◌∙◌}
-use Rattle.snap_service.specs.Counted.{next_count}
-use Rattle.snap_service.specs.Updated.{IsUpdated}
-use Rattle.snap_desk.specs.Job.{JobState}
+use Rattle.snap_service.specs.{Counted.next_count, Updated.IsUpdated}
 use Rattle.snap_desk.specs.Storer.{StorerState, Queued, IsTaken, IsIdle, IsWaiting}
-use Rattle.snap_desk.proofs.Idle.{lent_still, if_none}
+use Rattle.snap_desk.{specs.Job.JobState, proofs.Idle.lent_still, proofs.Idle.if_none}
 use Rattle.snap_desk.proofs.storer.Storer.next.Goals as goal
 
 pub returns-in_default-clause-none : goal.returns-in_default-clause-none

@@ -1,5 +1,4 @@
-use Rattle.std.proofs.lemmas.Grind.{common_steps}
-use Rattle.std.proofs.Common.{arith}
+use Rattle.std.proofs.{lemmas.Grind.common_steps, Common.arith}
 use Rattle.snap_disk.proofs.image.Image.put_failed.Goals as goal
 
 pub returns-clause-touched : goal.returns-clause-touched

@@ -1,6 +1,5 @@
 use Rattle.std.proofs.Common.{◌∙◌, sym, ap, subst, rules}
-use Rattle.snap_frame.specs.Stream.{Held, HasFrame}
-use Rattle.snap_frame.proofs.Exact.{same_frame}
+use Rattle.snap_frame.{specs.Stream.Held, specs.Stream.HasFrame, proofs.Exact.same_frame}
 use Rattle.snap_frame.proofs.feed.Feed.next.Goals as goal
 
 pub returns-in-Ok-Some-read_request-clause-malformed :

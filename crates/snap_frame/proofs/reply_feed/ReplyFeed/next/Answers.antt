@@ -1,7 +1,5 @@
 use Rattle.std.proofs.Common.{◌∙◌, List, ℕ, sym, ap, subst, rules}
-use Rattle.snap_frame.specs.Messages.{Says}
-use Rattle.snap_frame.specs.Stream.{Held, HasFrame}
-use Rattle.snap_frame.proofs.Exact.{same_frame}
+use Rattle.snap_frame.{specs.Messages.Says, specs.Stream.Held, specs.Stream.HasFrame, proofs.Exact.same_frame}
 use Rattle.snap_frame.proofs.reply_feed.ReplyFeed.next.Goals as goal
 
 pub returns-in-Ok-Some-read_reply-clause-bad : goal.returns-in-Ok-Some-read_reply-clause-bad

@@ -1,7 +1,5 @@
-use Rattle.std.proofs.Common.{sym, subst}
-use Rattle.std.proofs.lemmas.Result.{IfOk-weaker}
-use Rattle.snap_log.specs.Line.{IsOneLine}
-use Rattle.snap_log.proofs.Seen.{one_line}
+use Rattle.std.proofs.{Common.sym, Common.subst, lemmas.Result.IfOk-weaker}
+use Rattle.snap_log.{specs.Line.IsOneLine, proofs.Seen.one_line}
 use Rattle.snap_log.proofs.lines.Lines.line.Goals as goal
 
 pub returns : goal.returns

@@ -1,9 +1,7 @@
 use Rattle.std.proofs.Common.{take, sym, ap, subst, ◌∙◌}
 use Rattle.snap_history.proofs.Beginnings.{beginning-self}
 use Rattle.snap_register.specs.Seat.{Known, value_in}
-use Rattle.snap_memory.specs.Rooms.{Fits}
-use Rattle.snap_memory.proofs.ScanAnswer.{value_told}
-use Rattle.snap_memory.proofs.Kept.{fits_grown}
+use Rattle.snap_memory.{specs.Rooms.Fits, proofs.ScanAnswer.value_told, proofs.Kept.fits_grown}
 use Rattle.snap_memory.proofs.scanner.Scanner.read_one.Goals as goal
 
 pub invariant_of-self : goal.invariant_of-self

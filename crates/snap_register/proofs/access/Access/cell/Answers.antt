@@ -1,7 +1,5 @@
 use Rattle.std.proofs.Common.{◌≡◌, ℕ, ◌+◌, ◌*◌, ◌<◌, subst, sym}
-use Rattle.snap_register.specs.Rule.{cell}
-use Rattle.snap_register.specs.Steps.{view_of}
-use Rattle.snap_register.proofs.Places.{cell_inside}
+use Rattle.snap_register.{specs.Rule.cell, specs.Steps.view_of, proofs.Places.cell_inside}
 use Rattle.snap_register.proofs.access.Access.cell.Goals as goal
 
 pub returns : goal.returns

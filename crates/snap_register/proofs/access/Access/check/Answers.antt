@@ -1,14 +1,10 @@
 use Rattle.std.proofs.Common.{rules, ◌≡◌, ℕ, ◌<◌, ap, subst, ◌∙◌, get_or}
+use Rattle.atomic_table.specs.Seated.{TableId}
+use Rattle.snap_register.specs.Rule.{buffers, given, next_other}
+use Rattle.snap_register.specs.{Registers.Mine, declared.plan.Pool.Pool, Setup.IsSeated, Steps.view_of, Steps.pool_of}
+use Rattle.snap_register.proofs.{Pools.checks, Later.seated_pool, Later.sized_still}
 use mathlib.Core.Logic.{dite}
 use native.Mathlib.Decide.{ℕ_discrete}
-use Rattle.atomic_table.specs.Seated.{TableId}
-use Rattle.snap_register.specs.Registers.{Mine}
-use Rattle.snap_register.specs.declared.plan.Pool.{Pool}
-use Rattle.snap_register.specs.Rule.{buffers, given, next_other}
-use Rattle.snap_register.specs.Setup.{IsSeated}
-use Rattle.snap_register.specs.Steps.{view_of, pool_of}
-use Rattle.snap_register.proofs.Pools.{checks}
-use Rattle.snap_register.proofs.Later.{seated_pool, sized_still}
 use Rattle.snap_register.proofs.access.Access.check.Goals as goal
 
 pub load-found-requires : goal.load-found-requires

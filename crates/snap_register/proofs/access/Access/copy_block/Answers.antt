@@ -1,14 +1,9 @@
 use Rattle.std.proofs.Common.{◌≡◌, ℕ, ◌+◌, ◌<◌, ◌≤◌, ◌++◌, ◌∷◌, [], List, length, get_or, refl, ap, sym, subst, ◌∙◌}
-use Rattle.std.proofs.Common.{arith}
-use Rattle.std.proofs.Common.{append_assoc}
-use Rattle.snap_register.specs.Registers.{Mine}
-use Rattle.snap_register.specs.Held.{held}
-use Rattle.snap_register.specs.Words.{piece, size_at}
-use Rattle.snap_register.specs.Rule.{width}
-use Rattle.snap_register.proofs.Blocks.{piece_more, piece_length}
+use Rattle.std.proofs.Common.{arith, append_assoc}
 use Rattle.snap_register.specs.Steps.{view_of, LiesAt, IsNext}
-use Rattle.snap_register.proofs.Drafts.{DraftedBy}
-use Rattle.snap_register.proofs.Spots.{lies_more, next_more}
+use Rattle.snap_register.specs.{Registers.Mine, Held.held, Words.piece, Words.size_at, Rule.width}
+use Rattle.snap_register.proofs.{Blocks.piece_more, Blocks.piece_length, Drafts.DraftedBy, Spots.lies_more}
+use Rattle.snap_register.proofs.Spots.{next_more}
 use Rattle.snap_register.proofs.access.Access.copy_block.Goals as goal
 use Rattle.snap_register.proofs.access.Access.copy_block.Goals.{In-loop-q}
 

@@ -1,7 +1,6 @@
 use Rattle.std.proofs.Common.{◌++◌}
-use Rattle.snap_register.specs.Held.{held}
-use Rattle.snap_register.specs.Words.{piece}
 use Rattle.snap_register.specs.Steps.{view_of, draft_of, HasDrafted}
+use Rattle.snap_register.specs.{Held.held, Words.piece}
 use Rattle.snap_register.proofs.access.Access.copy_block.Given as goal
 
 abbrev pub invariant-loop-q : goal.invariant-loop-q

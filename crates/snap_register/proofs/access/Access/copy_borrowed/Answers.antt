@@ -1,13 +1,9 @@
 use Rattle.std.proofs.Common.{◌≡◌, ℕ, ◌+◌, ◌<◌, List, ap, sym, subst, ◌∙◌, arith}
-use Rattle.snap_register.specs.Registers.{Mine}
-use Rattle.snap_register.specs.declared.view.View.TheVariants.{Borrowed}
-use Rattle.snap_register.specs.Rule.{segments}
-use Rattle.snap_register.specs.Held.{held, taken}
 use Rattle.snap_register.specs.Words.{IsWhole, size_at, block_at, behind}
-use Rattle.snap_register.specs.Steps.{view_of}
-use Rattle.snap_register.proofs.Blocks.{behind_more}
-use Rattle.snap_register.proofs.Views.{view_whole, ends_small}
-use Rattle.snap_register.proofs.Drafts.{held_drafted, block_copied}
+use Rattle.snap_register.specs.{Registers.Mine, declared.view.View.TheVariants.Borrowed, Rule.segments, Held.held}
+use Rattle.snap_register.specs.{Held.taken, Steps.view_of}
+use Rattle.snap_register.proofs.{Blocks.behind_more, Views.view_whole, Views.ends_small, Drafts.held_drafted}
+use Rattle.snap_register.proofs.Drafts.{block_copied}
 use Rattle.snap_register.proofs.access.Access.copy_borrowed.Goals as goal
 use Rattle.snap_register.proofs.access.Access.copy_borrowed.Goals.{In-loop}
 

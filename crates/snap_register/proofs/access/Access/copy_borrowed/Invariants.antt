@@ -1,9 +1,6 @@
 use Rattle.std.proofs.Common.{◌≡◌}
-use Rattle.snap_register.specs.declared.view.View.TheVariants.{Borrowed}
-use Rattle.snap_register.specs.Held.{held, taken}
-use Rattle.snap_register.specs.Words.{behind, size_at}
-use Rattle.snap_register.specs.Steps.{view_of}
-use Rattle.snap_register.proofs.Drafts.{HasCopied}
+use Rattle.snap_register.{specs.declared.view.View.TheVariants.Borrowed, specs.Held.held, specs.Held.taken}
+use Rattle.snap_register.{specs.Words.behind, specs.Words.size_at, specs.Steps.view_of, proofs.Drafts.HasCopied}
 use Rattle.snap_register.proofs.access.Access.copy_borrowed.Given as goal
 
 abbrev pub invariant-loop : goal.invariant-loop

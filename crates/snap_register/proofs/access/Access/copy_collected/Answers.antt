@@ -1,11 +1,6 @@
 use Rattle.std.proofs.Common.{ℕ, ◌<◌, List, ap, sym, subst, arith}
-use Rattle.snap_register.specs.Registers.{Mine}
-use Rattle.snap_register.specs.declared.view.View.TheVariants.{Collected}
-use Rattle.snap_register.specs.declared.plan.Plan.{Plan}
-use Rattle.snap_register.specs.Rule.{segments}
-use Rattle.snap_register.specs.Held.{held, taken}
-use Rattle.snap_register.specs.Words.{block_at}
-use Rattle.snap_register.specs.Steps.{view_of}
+use Rattle.snap_register.specs.{Registers.Mine, declared.view.View.TheVariants.Collected, declared.plan.Plan.Plan}
+use Rattle.snap_register.specs.{Rule.segments, Held.held, Held.taken, Words.block_at, Steps.view_of}
 use Rattle.snap_register.proofs.Drafts.{held_drafted, block_copied}
 use Rattle.snap_register.proofs.access.Access.copy_collected.Goals as goal
 

@@ -1,6 +1,4 @@
-use Rattle.snap_register.specs.declared.view.View.TheVariants.{Collected}
-use Rattle.snap_register.specs.Held.{taken}
-use Rattle.snap_register.specs.Steps.{view_of}
+use Rattle.snap_register.specs.{declared.view.View.TheVariants.Collected, Held.taken, Steps.view_of}
 use Rattle.snap_register.proofs.Drafts.{HasCopied}
 use Rattle.snap_register.proofs.access.Access.copy_collected.Given as goal
 

@@ -1,11 +1,7 @@
-use Rattle.std.proofs.Common.{◌≡◌, ℕ, ◌+◌, ◌-◌, ◌*◌, ◌<◌, ◌++◌, ◌∷◌, [], List, length, take, drop, ap, sym, subst}
-use Rattle.std.proofs.Common.{◌∙◌, arith}
-use Rattle.std.proofs.Common.{length-drop}
-use Rattle.std.proofs.lemmas.List.{take-append-drop, take_all}
-use Rattle.std.specs.Int.{w64, to_le_bytes}
-use Rattle.snap_register.specs.Registers.{Mine}
-use Rattle.snap_register.specs.Words.{bytes_at, words_for}
-use Rattle.snap_register.specs.Steps.{draft_of}
+use Rattle.std.proofs.Common.{◌≡◌, ℕ, ◌+◌, ◌-◌, ◌*◌, ◌<◌, ◌++◌, ◌∷◌, [], List, length, take, drop, ap, sym, subst, ◌∙◌}
+use Rattle.std.proofs.Common.{arith, length-drop}
+use Rattle.std.{proofs.lemmas.List.take-append-drop, proofs.lemmas.List.take_all, specs.Int.w64, specs.Int.to_le_bytes}
+use Rattle.snap_register.specs.{Registers.Mine, Words.bytes_at, Words.words_for, Steps.draft_of}
 use Rattle.snap_register.proofs.Blocks.{tail_bytes}
 use Rattle.snap_register.proofs.access.Access.draft_tail.Goals as goal
 

@@ -1,10 +1,8 @@
-use Rattle.std.proofs.Common.{◌≡◌, ℕ, ◌+◌, ◌-◌, ◌*◌, ◌++◌, ◌∷◌, [], List, length, take, drop, get_or, ap, ◌∙◌}
-use Rattle.std.proofs.Common.{arith, length-append}
-use Rattle.std.proofs.lemmas.List.{get_or_append_left}
-use Rattle.std.specs.Int.{w64, to_le_bytes}
-use Rattle.snap_register.specs.Words.{bytes_at}
-use Rattle.snap_register.proofs.Blocks.{bytes_push}
+use Rattle.std.proofs.Common.{◌≡◌, ℕ, ◌+◌, ◌-◌, ◌*◌, ◌++◌, ◌∷◌, [], List, length, take, drop, get_or, ap, ◌∙◌, arith}
+use Rattle.std.proofs.Common.{length-append}
+use Rattle.std.{proofs.lemmas.List.get_or_append_left, specs.Int.w64, specs.Int.to_le_bytes}
 use Rattle.snap_register.proofs.Drafts.{drafted, drafted_then, draft_is}
+use Rattle.snap_register.{specs.Words.bytes_at, proofs.Blocks.bytes_push}
 use Rattle.snap_register.proofs.access.Access.draft_value.Goals as goal
 
 pub loop-q-preserved : goal.loop-q-preserved

@@ -1,6 +1,5 @@
 use Rattle.std.proofs.Common.{◌≡◌, ◌+◌, ◌*◌, length, take, slice_index}
-use Rattle.snap_register.specs.Words.{bytes_at}
-use Rattle.snap_register.specs.Steps.{draft_of, HasDrafted}
+use Rattle.snap_register.specs.{Words.bytes_at, Steps.draft_of, Steps.HasDrafted}
 use Rattle.snap_register.proofs.access.Access.draft_value.Given as goal
 
 abbrev pub invariant-loop-q : goal.invariant-loop-q

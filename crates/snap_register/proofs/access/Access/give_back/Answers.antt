@@ -1,9 +1,7 @@
 use Rattle.std.proofs.Common.{rules, ◌-◌, ◌≡◌, ◌<◌, refl, ap, subst, ◌∙◌, arith, get_or, set}
 use Rattle.atomic_table.specs.Seated.{TableId}
-use Rattle.snap_register.specs.Registers.{Mine}
-use Rattle.snap_register.specs.Steps.{view_of}
-use Rattle.snap_register.proofs.Keeps.{gives_back}
-use Rattle.snap_register.proofs.Later.{seated_bare, sized_still}
+use Rattle.snap_register.specs.{Registers.Mine, Steps.view_of}
+use Rattle.snap_register.proofs.{Keeps.gives_back, Later.seated_bare, Later.sized_still}
 use Rattle.snap_register.proofs.access.Access.give_back.Goals as goal
 use Rattle.snap_register.proofs.access.Access.give_back.Goals.{After-fetch_add}
 

@@ -1,13 +1,9 @@
 use Rattle.std.proofs.Common.{rules, ◌≡◌, ℕ, ◌+◌, ◌<◌, ◌≤◌, ◌/◌, List, length, sym, ap, subst, ◌∙◌, arith, get_or}
-use Rattle.snap_register.specs.Registers.{Mine}
-use Rattle.snap_register.specs.declared.plan.Plan.{Plan}
-use Rattle.snap_register.specs.declared.plan.SeatView.{SeatView}
-use Rattle.snap_register.specs.History.{number, start_at}
 use Rattle.snap_register.specs.Held.{held, HasLookedFrom, Readable}
-use Rattle.snap_register.specs.Rule.{segments, Learns}
-use Rattle.snap_register.specs.Rule as rule
-use Rattle.snap_register.specs.Steps.{view_of}
 use Rattle.snap_register.proofs.Updates.{number_is, grows_is, below_is}
+use Rattle.snap_register.specs.{Registers.Mine, declared.plan.Plan.Plan, declared.plan.SeatView.SeatView}
+use Rattle.snap_register.specs.{History.number, History.start_at, Rule.segments, Rule.Learns, Steps.view_of}
+use Rattle.snap_register.specs.Rule as rule
 use Rattle.snap_register.proofs.access.Access.look.Goals as goal
 use Rattle.snap_register.proofs.access.Access.look.Goals.{After-pin, After-read}
 

@@ -1,14 +1,11 @@
 use Rattle.std.proofs.Common.{rules, ◌≡◌, ◌<◌, List, [], subst, sym, ap, ◌∙◌, get_or}
-use mathlib.Core.List.{IsPrefix}
-use Rattle.snap_register.specs.declared.plan.Entry.{Entry}
-use Rattle.atomic_table.specs.Seated.{TableId}
-use Rattle.snap_register.specs.Registers.{Mine}
-use Rattle.snap_register.specs.declared.plan.Plan.{Plan}
-use Rattle.snap_register.specs.declared.plan.SeatView.{SeatView}
 use Rattle.snap_register.specs.Rule.{Learns, IsLegal, with_received}
-use Rattle.snap_register.specs.Steps.{view_of, pool_of}
 use Rattle.snap_register.proofs.Joins.{shares, tells, adopts}
 use Rattle.snap_register.proofs.Later.{seated_shown, sized_still, some_words}
+use Rattle.snap_register.specs.{declared.plan.Entry.Entry, Registers.Mine, declared.plan.Plan.Plan}
+use Rattle.snap_register.specs.{declared.plan.SeatView.SeatView, Steps.view_of, Steps.pool_of}
+use Rattle.atomic_table.specs.Seated.{TableId}
+use mathlib.Core.List.{IsPrefix}
 use Rattle.snap_register.proofs.access.Access.meet.Goals as goal
 use Rattle.snap_register.proofs.access.Access.meet.Goals.{After-split_seat-answer, After-join_seat-2}
 

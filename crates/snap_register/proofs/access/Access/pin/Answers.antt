@@ -1,10 +1,7 @@
 use Rattle.std.proofs.Common.{rules, ◌≡◌, ℕ, ◌<◌, sym, ap, subst, ◌∙◌, arith}
 use Rattle.atomic_table.specs.Seated.{TableId}
-use Rattle.snap_register.specs.declared.plan.SeatView.{SeatView}
-use Rattle.snap_register.specs.Steps.{view_of}
-use Rattle.snap_register.proofs.Keeps.{pins}
-use Rattle.snap_register.proofs.Places.{word_inside}
-use Rattle.snap_register.proofs.Later.{seated_pinned, sized_still}
+use Rattle.snap_register.specs.{declared.plan.SeatView.SeatView, Steps.view_of}
+use Rattle.snap_register.proofs.{Keeps.pins, Places.word_inside, Later.seated_pinned, Later.sized_still}
 use Rattle.snap_register.proofs.access.Access.pin.Goals as goal
 
 pub fetch_add-found-requires : goal.fetch_add-found-requires

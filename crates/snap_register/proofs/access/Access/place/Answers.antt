@@ -1,6 +1,5 @@
 use Rattle.std.proofs.Common.{◌<◌, arith, length}
-use Rattle.snap_register.specs.Held.{held}
-use Rattle.snap_register.specs.Steps.{view_of}
+use Rattle.snap_register.specs.{Held.held, Steps.view_of}
 use Rattle.snap_register.proofs.access.Access.place.Goals as goal
 
 pub cell-requires : goal.cell-requires

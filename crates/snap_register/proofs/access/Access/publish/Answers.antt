@@ -1,19 +1,12 @@
 use Rattle.std.proofs.Common.{◌≡◌, ℕ, ◌+◌, ◌++◌, ◌∷◌, [], List, length, refl, ap, sym, subst, ◌∙◌, arith}
-use Rattle.snap_register.specs.Registers.{Mine}
-use Rattle.snap_register.specs.declared.plan.Entry.{Entry}
-use Rattle.snap_register.specs.declared.plan.Plan.{Plan}
-use Rattle.snap_register.specs.declared.plan.Pool.{Pool}
-use Rattle.snap_register.specs.declared.plan.SeatView.{SeatView}
-use Rattle.snap_register.specs.declared.view.View.{View}
 use Rattle.snap_register.specs.declared.view.View.TheVariants.{Collected, Borrowed}
 use Rattle.snap_register.specs.History.{entry, count, start_at}
 use Rattle.snap_register.specs.Rule.{segments, IsLegal, IsBelow, Follows}
-use Rattle.snap_register.specs.Held.{taken}
-use Rattle.snap_register.specs.Words.{AreBlocks}
 use Rattle.snap_register.specs.Steps.{view_of, pool_of, draft_of}
-use Rattle.snap_register.proofs.Blocks.{block_stays}
-use Rattle.snap_register.proofs.Later.{publishes_count}
-use Rattle.snap_register.proofs.Updates.{follows_is}
+use Rattle.snap_register.specs.{Registers.Mine, declared.plan.Entry.Entry, declared.plan.Plan.Plan}
+use Rattle.snap_register.specs.{declared.plan.Pool.Pool, declared.plan.SeatView.SeatView, declared.view.View.View}
+use Rattle.snap_register.specs.{Held.taken, Words.AreBlocks}
+use Rattle.snap_register.proofs.{Blocks.block_stays, Later.publishes_count, Updates.follows_is}
 use Rattle.snap_register.proofs.access.Access.publish.Goals as goal
 use Rattle.snap_register.proofs.access.Access.publish.Goals.{After-copy_view}
 

@@ -1,10 +1,8 @@
 use Rattle.std.proofs.Common.{rules, ◌≡◌, ℕ, ◌+◌, ◌*◌, ◌/◌, ◌^◌, ◌<◌, ◌≤◌, List, length, take, ap, sym, subst, ◌∙◌}
 use Rattle.std.proofs.Common.{arith}
 use Rattle.std.proofs.lemmas.List.{take-take}
-use Rattle.snap_register.specs.Registers.{Mine}
-use Rattle.snap_register.specs.Held.{held}
 use Rattle.snap_register.specs.Words.{bytes_at, length_at, words_for}
-use Rattle.snap_register.specs.Steps.{view_of, LiesAt}
+use Rattle.snap_register.specs.{Registers.Mine, Held.held, Steps.view_of, Steps.LiesAt}
 use Rattle.snap_register.proofs.access.Access.read_value.Goals as goal
 use Rattle.snap_register.proofs.access.Access.read_value.Goals.{After-read-length}
 

@@ -1,7 +1,6 @@
 use Rattle.std.proofs.Common.{rules, ◌≡◌, ◌<◌, subst}
 use Rattle.atomic_table.specs.Seated.{TableId}
-use Rattle.snap_register.proofs.Pools.{redrafts}
-use Rattle.snap_register.proofs.Spots.{last_inside}
+use Rattle.snap_register.proofs.{Pools.redrafts, Spots.last_inside}
 use Rattle.snap_register.proofs.access.Access.redraft.Goals as goal
 
 pub store-requires : goal.store-requires

@@ -1,7 +1,6 @@
 use Rattle.std.proofs.Common.{rules, ◌≡◌, ◌<◌, subst}
 use Rattle.atomic_table.specs.Seated.{TableId}
-use Rattle.snap_register.proofs.Pools.{reuses}
-use Rattle.snap_register.proofs.Spots.{next_inside}
+use Rattle.snap_register.proofs.{Pools.reuses, Spots.next_inside}
 use Rattle.snap_register.proofs.access.Access.reuse.Goals as goal
 
 pub load-requires : goal.load-requires

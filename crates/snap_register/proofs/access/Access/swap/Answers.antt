@@ -1,11 +1,8 @@
 use Rattle.std.proofs.Common.{rules, ◌*◌, ◌^◌, ◌≡◌, ℕ, ◌<◌, sym, ap, subst, ◌∙◌}
 use Rattle.atomic_table.specs.Seated.{TableId}
-use Rattle.snap_register.specs.declared.plan.SeatView.{SeatView}
-use Rattle.snap_register.specs.Rule.{buffers}
-use Rattle.snap_register.specs.Steps.{view_of}
-use Rattle.snap_register.proofs.Pools.{publishes}
-use Rattle.snap_register.proofs.Places.{word_inside}
 use Rattle.snap_register.proofs.Later.{seated_shown, publishes_later, sized_still}
+use Rattle.snap_register.specs.{declared.plan.SeatView.SeatView, Rule.buffers, Steps.view_of}
+use Rattle.snap_register.proofs.{Pools.publishes, Places.word_inside}
 use Rattle.snap_register.proofs.access.Access.swap.Goals as goal
 
 pub swap-found-requires : goal.swap-found-requires

@@ -1,5 +1,4 @@
-use Rattle.snap_register.specs.Steps.{view_of}
-use Rattle.snap_register.proofs.Updates.{value_shown}
+use Rattle.snap_register.{specs.Steps.view_of, proofs.Updates.value_shown}
 use Rattle.snap_register.proofs.access.Access.value.Goals as goal
 
 pub returns-clause-value : goal.returns-clause-value

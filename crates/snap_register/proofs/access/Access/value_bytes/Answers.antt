@@ -1,9 +1,6 @@
 use Rattle.std.proofs.Common.{◌≡◌, ◌++◌, length, take, drop, ap, ◌∙◌, arith}
 use Rattle.std.proofs.Math.Seq.{take-append_seam}
-use Rattle.snap_register.specs.Registers.{Mine}
-use Rattle.snap_register.specs.Held.{held}
-use Rattle.snap_register.specs.Words.{value_at}
-use Rattle.snap_register.specs.Steps.{view_of}
+use Rattle.snap_register.specs.{Registers.Mine, Held.held, Words.value_at, Steps.view_of}
 use Rattle.snap_register.proofs.Updates.{value_shown}
 use Rattle.snap_register.proofs.access.Access.value_bytes.Goals as goal
 

@@ -1,19 +1,15 @@
 use Rattle.std.proofs.Common.{rules, ◌≡◌, ℕ, ◌+◌, ◌<◌, List, Some, slice_get, slice_set, length, refl, ap, sym, subst}
 use Rattle.std.proofs.Common.{◌∙◌, arith}
-use mathlib.Core.Logic.{dite}
-use native.Mathlib.Decide.{ℕ_discrete}
 use Rattle.std.proofs.lemmas.Bool.{MatchBool-at_true, MatchBool-at_false, false_from_ne_true}
 use Rattle.std.proofs.lemmas.Option.{slice_get_read}
-use Rattle.snap_register.specs.Registers.{Mine}
+use Rattle.snap_register.specs.Words.{IsWhole, size_at, block_at, behind}
+use Rattle.snap_register.specs.{Registers.Mine, Rule.segments, Held.held, Held.view_in, Steps.view_of}
+use Rattle.snap_register.proofs.{Blocks.behind_more, Views.view_whole, Views.ends_small, Updates.update_found}
+use Rattle.snap_register.proofs.Updates.{view_shown}
 use Rattle.snap_scan.specs.Sets.{Names}
 use Rattle.snap_history.proofs.Lists.{get-set_same, get-set_other}
-use Rattle.snap_register.specs.Rule.{segments}
-use Rattle.snap_register.specs.Held.{held, view_in}
-use Rattle.snap_register.specs.Words.{IsWhole, size_at, block_at, behind}
-use Rattle.snap_register.specs.Steps.{view_of}
-use Rattle.snap_register.proofs.Blocks.{behind_more}
-use Rattle.snap_register.proofs.Views.{view_whole, ends_small}
-use Rattle.snap_register.proofs.Updates.{update_found, view_shown}
+use mathlib.Core.Logic.{dite}
+use native.Mathlib.Decide.{ℕ_discrete}
 use Rattle.snap_register.proofs.access.Access.view.Goals as goal
 use Rattle.snap_register.proofs.access.Access.view.Goals.{In-loop-k}
 

@@ -1,8 +1,6 @@
 use Rattle.std.proofs.Common.{◌≡◌, ℕ, ◌<◌, length, slice_get, Some}
 use Rattle.snap_scan.specs.Sets.{Names}
-use Rattle.snap_register.specs.Held.{held, view_in}
-use Rattle.snap_register.specs.Words.{behind, size_at}
-use Rattle.snap_register.specs.Steps.{view_of, IsSame}
+use Rattle.snap_register.specs.{Held.held, Held.view_in, Words.behind, Words.size_at, Steps.view_of, Steps.IsSame}
 use Rattle.snap_register.proofs.access.Access.view.Given as goal
 
 abbrev pub invariant-loop-k : goal.invariant-loop-k

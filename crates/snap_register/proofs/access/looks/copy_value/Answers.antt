@@ -1,13 +1,8 @@
 use Rattle.std.proofs.Common.{rules, ◌≡◌, ℕ, ◌+◌, ◌-◌, ◌≤◌, ◌*◌, ◌++◌, List, length, get_or, ap, sym, subst, ◌∙◌, arith}
-use Rattle.std.specs.Int.{w64, to_le_bytes}
-use Rattle.std.proofs.lemmas.Slice.{take-put_mid}
+use Rattle.std.{specs.Int.w64, specs.Int.to_le_bytes, proofs.lemmas.Slice.take-put_mid}
 use Rattle.atomic_table.specs.Seated.{TableId}
-use Rattle.snap_register.specs.Registers.{Mine}
-use Rattle.snap_register.specs.Held.{held}
-use Rattle.snap_register.specs.Setup.{IsSeated}
-use Rattle.snap_register.specs.Steps.{LiesAt}
-use Rattle.snap_register.proofs.Blocks.{bytes_more}
-use Rattle.snap_register.proofs.Spots.{lies_more}
+use Rattle.snap_register.specs.{Registers.Mine, Held.held, Setup.IsSeated, Steps.LiesAt}
+use Rattle.snap_register.proofs.{Blocks.bytes_more, Spots.lies_more}
 use Rattle.snap_register.proofs.access.looks.copy_value.Goals as goal
 use Rattle.snap_register.proofs.access.looks.copy_value.Goals.{In-loop-q}
 

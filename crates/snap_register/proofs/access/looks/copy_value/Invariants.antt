@@ -1,7 +1,5 @@
 use Rattle.std.proofs.Common.{◌≡◌, ℕ, ◌+◌, ◌*◌, ◌≤◌, length, take}
-use Rattle.snap_register.specs.Held.{held}
-use Rattle.snap_register.specs.Words.{bytes_at}
-use Rattle.snap_register.specs.Steps.{LiesAt}
+use Rattle.snap_register.specs.{Held.held, Words.bytes_at, Steps.LiesAt}
 use Rattle.snap_register.proofs.access.looks.copy_value.Given as goal
 
 abbrev pub invariant-loop-q : goal.invariant-loop-q

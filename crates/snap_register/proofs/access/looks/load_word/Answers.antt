@@ -1,8 +1,6 @@
 use Rattle.std.proofs.Common.{◌-◌, ◌<◌, subst, arith, length, get_or}
 use Rattle.atomic_table.specs.Seated.{TableId}
-use Rattle.snap_register.specs.Held.{held}
-use Rattle.snap_register.proofs.Keeps.{reads}
-use Rattle.snap_register.proofs.Spots.{lies_inside}
+use Rattle.snap_register.{specs.Held.held, proofs.Keeps.reads, proofs.Spots.lies_inside}
 use Rattle.snap_register.proofs.access.looks.load_word.Goals as goal
 
 pub load-requires : goal.load-requires

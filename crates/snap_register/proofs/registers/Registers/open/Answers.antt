@@ -1,13 +1,10 @@
-use Rattle.std.proofs.Common.{rules, ◌≡◌, ℕ, List, [], ◌∷◌, ◌++◌, length, map, take, slice_get, Some, refl, subst}
-use Rattle.std.proofs.Common.{sym, arith}
-use Rattle.std.proofs.lemmas.Option.{slice_get_read}
-use Rattle.std.proofs.lemmas.Result.{IfOk-weaker}
+use Rattle.std.proofs.Common.{rules, ◌≡◌, ℕ, List, [], ◌∷◌, ◌++◌, length, map, take, slice_get, Some, refl, subst, sym}
+use Rattle.std.proofs.Common.{arith}
+use Rattle.std.proofs.lemmas.{Option.slice_get_read, Result.IfOk-weaker}
 use Rattle.snap_history.specs.Pairs.{Pairs}
-use Rattle.snap_register.specs.declared.plan.Opening.{Opening}
-use Rattle.snap_register.specs.Parts.{IsPacked}
-use Rattle.snap_register.specs.Setup.{plan_with}
 use Rattle.snap_register.proofs.Pairs.{Pairs-push, map_next}
 use Rattle.snap_register.proofs.Packed.{ready_is, opening_is, packed_all, packed_length}
+use Rattle.snap_register.specs.{declared.plan.Opening.Opening, Parts.IsPacked, Setup.plan_with}
 use Rattle.snap_register.proofs.registers.Registers.open.Goals as goal
 use Rattle.snap_register.proofs.registers.Registers.open.Goals.{After-loop-start}
 

@@ -1,12 +1,8 @@
 use Rattle.std.proofs.Common.{◌≡◌, List, ap, sym, subst, ◌∙◌, arith}
-use Rattle.snap_register.specs.Registers.{Mine}
-use Rattle.snap_register.specs.declared.plan.Plan.{Plan}
-use Rattle.snap_register.specs.declared.plan.SeatView.{SeatView}
-use Rattle.snap_register.specs.declared.plan.Entry.{Entry}
-use Rattle.snap_register.specs.Rule as rule
-use Rattle.snap_register.specs.Seat.{Known, Meets}
-use Rattle.snap_register.specs.Steps.{view_of, known_of}
+use Rattle.snap_register.specs.{Registers.Mine, declared.plan.Plan.Plan, declared.plan.SeatView.SeatView}
+use Rattle.snap_register.specs.{declared.plan.Entry.Entry, Seat.Known, Seat.Meets, Steps.view_of, Steps.known_of}
 use Rattle.snap_register.proofs.Updates.{meets_is, below_is}
+use Rattle.snap_register.specs.Rule as rule
 use Rattle.snap_register.proofs.seats.ReadSeat.meet.Goals as goal
 
 pub returns-clause-scanner : goal.returns-clause-scanner

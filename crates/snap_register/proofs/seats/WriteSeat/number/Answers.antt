@@ -1,8 +1,6 @@
 use Rattle.std.proofs.Common.{sym, ap, ◌∙◌, ℕ}
 use Rattle.snap_register.specs.Seat.{Known, number_in, own_of}
-use Rattle.snap_register.specs.History.{number}
-use Rattle.snap_register.specs.Steps.{view_of}
-use Rattle.snap_register.proofs.Updates.{number_is}
+use Rattle.snap_register.{specs.History.number, specs.Steps.view_of, proofs.Updates.number_is}
 use Rattle.snap_register.proofs.seats.WriteSeat.number.Goals as goal
 
 pub returns : goal.returns

@@ -1,19 +1,12 @@
 use Rattle.std.proofs.Common.{rules, ◌≡◌, ℕ, ◌+◌, ◌^◌, ◌<◌, length, get_or, set, ap, sym, subst, ◌∙◌, arith}
-use Rattle.snap_register.specs.declared.access.Access.{Access}
-use Rattle.snap_register.specs.declared.plan.Plan.{Plan}
-use Rattle.snap_register.specs.declared.plan.SeatView.{SeatView}
-use Rattle.snap_register.specs.History.{number}
-use Rattle.snap_register.specs.Rule.{segments, IsWriter}
-use Rattle.snap_register.specs.Seat.{Known, known, MayPublish, Shows, number_in, own_of}
 use Rattle.std.proofs.Common.{get_or-set_same, get_or-set_other}
 use Rattle.std.proofs.lemmas.List.{length-set}
-use Rattle.snap_register.specs.declared.plan.Pool.{Pool}
-use Rattle.snap_register.specs.Rule.{buffers}
-use Rattle.snap_register.specs.Held.{MayTake}
-use Rattle.snap_register.specs.Steps.{view_of, known_of}
-use Rattle.snap_register.proofs.Views.{few_buffers}
-use Rattle.snap_register.proofs.Later.{set_each}
+use Rattle.snap_register.specs.Rule.{segments, IsWriter, buffers}
+use Rattle.snap_register.specs.Seat.{Known, known, MayPublish, Shows, number_in, own_of}
 use Rattle.snap_register.proofs.Updates.{can_take, may_take, shown_is, below_is, number_is}
+use Rattle.snap_register.specs.{declared.access.Access.Access, declared.plan.Plan.Plan, declared.plan.SeatView.SeatView}
+use Rattle.snap_register.specs.{History.number, declared.plan.Pool.Pool, Held.MayTake, Steps.view_of, Steps.known_of}
+use Rattle.snap_register.proofs.{Views.few_buffers, Later.set_each}
 use Rattle.snap_register.proofs.seats.WriteSeat.publish.Goals as goal
 
 -- the next number is valid

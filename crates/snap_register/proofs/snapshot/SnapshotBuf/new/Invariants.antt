@@ -1,5 +1,4 @@
-use Rattle.std.proofs.Common.{◌≡◌, []}
-use Rattle.std.specs.Prelude.{replicate}
+use Rattle.std.{proofs.Common.◌≡◌, proofs.Common.[], specs.Prelude.replicate}
 use Rattle.snap_register.proofs.snapshot.SnapshotBuf.new.Given as goal
 
 abbrev pub invariant-loop : goal.invariant-loop

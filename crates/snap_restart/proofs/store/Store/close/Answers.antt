@@ -2,9 +2,7 @@ use Rattle.std.proofs.Common.{ap, sym, ◌∙◌}
 use Rattle.snap_segment.specs.Segment.{SegmentState}
 use Rattle.snap_writer.specs.Writer.{WriterState}
 use Rattle.snap_restart.specs.Closed.{HasMet}
-use Rattle.snap_restart.proofs.Pairs.{pairs_mapped}
-use Rattle.snap_restart.proofs.Meetings.{holds_after}
-use Rattle.snap_restart.proofs.Crash.{any_cut}
+use Rattle.snap_restart.proofs.{Pairs.pairs_mapped, Meetings.holds_after, Crash.any_cut}
 use Rattle.snap_restart.proofs.store.Store.close.Goals as goal
 
 pub returns-clause-devices : goal.returns-clause-devices

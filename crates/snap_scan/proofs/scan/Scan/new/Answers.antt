@@ -1,5 +1,4 @@
-use Rattle.std.proofs.Common.{arith}
-use Rattle.std.proofs.lemmas.Nat.{pow_below}
+use Rattle.std.proofs.{Common.arith, lemmas.Nat.pow_below}
 use Rattle.snap_scan.proofs.scan.Scan.new.Goals as goal
 
 pub of-requires : goal.of-requires

@@ -1,8 +1,6 @@
 use Rattle.std.proofs.Common.{sym, ap, ◌∙◌}
-use Rattle.snap_scan.specs.Course.{Course}
-use Rattle.snap_scan.specs.Stands.{next_at}
-use Rattle.snap_scan.specs.declared.next.Next.TheVariants.{Look, Borrow}
-use Rattle.snap_scan.proofs.Verdict.{next_is, listed}
+use Rattle.snap_scan.{specs.Course.Course, specs.Stands.next_at, specs.declared.next.Next.TheVariants.Look}
+use Rattle.snap_scan.{specs.declared.next.Next.TheVariants.Borrow, proofs.Verdict.next_is, proofs.Verdict.listed}
 use Rattle.snap_scan.proofs.scan.Scan.next.Goals as goal
 
 pub returns-in-Look-clause-decides : goal.returns-in-Look-clause-decides

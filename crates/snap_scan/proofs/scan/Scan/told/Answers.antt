@@ -1,10 +1,7 @@
 use Rattle.std.proofs.Common.{ℕ, sym, subst, ap, ◌∙◌}
-use Rattle.snap_scan.specs.Looks.{IsNoFall}
-use Rattle.snap_scan.specs.Course.{Course}
 use Rattle.snap_scan.specs.Sets.{size, IsAt}
-use Rattle.snap_scan.specs.Stands.{StandsFor}
-use Rattle.snap_scan.specs.declared.next.Next.TheVariants.{Look}
 use Rattle.snap_scan.proofs.Verdict.{says_next, at_look, turn_at}
+use Rattle.snap_scan.specs.{Looks.IsNoFall, Course.Course, Stands.StandsFor, declared.next.Next.TheVariants.Look}
 use Rattle.snap_scan.proofs.scan.Scan.told.Goals as goal
 
 -- the segment has a place

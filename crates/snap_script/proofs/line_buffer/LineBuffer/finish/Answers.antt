@@ -1,6 +1,5 @@
 use Rattle.std.proofs.Common.{[], refl, append-nil}
-use Rattle.snap_script.proofs.Halts.{at_line}
-use Rattle.snap_script.proofs.Steps.{prints}
+use Rattle.snap_script.proofs.{Halts.at_line, Steps.prints}
 use Rattle.snap_script.proofs.line_buffer.LineBuffer.finish.Goals as goal
 
 pub returns-in-Ok : goal.returns-in-Ok

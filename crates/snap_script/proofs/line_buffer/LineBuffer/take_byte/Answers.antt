@@ -1,12 +1,7 @@
-use Rattle.std.proofs.Common.{◌≡◌, ◌≢◌, ℕ, ◌<◌, ◌≤◌, Option, List, [], ◌∷◌, ◌++◌, Result, Ok, Err, length, refl}
-use Rattle.std.proofs.Common.{arith}
-use Rattle.std.specs.Prelude.{OnOk}
-use Rattle.std.proofs.lemmas.Bool.Decides.{nat_tests}
-use Rattle.std.proofs.lemmas.Result.{IfErr-weaker}
+use Rattle.std.proofs.Common.{◌≡◌, ◌≢◌, ℕ, ◌<◌, ◌≤◌, Option, List, [], ◌∷◌, ◌++◌, Result, Ok, Err, length, refl, arith}
+use Rattle.std.{specs.Prelude.OnOk, proofs.lemmas.Bool.Decides.nat_tests, proofs.lemmas.Result.IfErr-weaker}
 use Rattle.snap_script.proofs.Halts.{at_line, no_memory, taken_byte, taken_line, too_long}
-use Rattle.snap_script.specs.LineBuffer.{HasDone}
-use Rattle.snap_script.specs.Script.{IsLine}
-use Rattle.snap_script.specs.declared.run.TheConstants.{MAX_LINE}
+use Rattle.snap_script.specs.{LineBuffer.HasDone, Script.IsLine, declared.run.TheConstants.MAX_LINE}
 use Rattle.snap_script.proofs.line_buffer.LineBuffer.take_byte.Goals as goal
 
 -- what follows from two facts of a call that succeeded

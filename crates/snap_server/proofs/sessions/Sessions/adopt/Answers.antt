@@ -1,10 +1,9 @@
 use Rattle.std.proofs.Common.{ℕ, ◌+◌, ◌≡◌, sym, ap, ◌∙◌, refl, true≢false}
-use mathlib.Core.Logic.{∥∥₁_map}
 use Rattle.slab.specs.Slab.{Slab, get, slab_len}
 use Rattle.snap_server.specs.declared.connection.Connection.{Connection}
-use Rattle.snap_server.proofs.SharedService.{added_are, same_are}
-use Rattle.snap_server.proofs.TurnList.{lists_added, lists_same}
-use Rattle.snap_server.proofs.Step.{none_there}
+use Rattle.snap_server.proofs.{SharedService.added_are, SharedService.same_are, TurnList.lists_added}
+use Rattle.snap_server.proofs.{TurnList.lists_same, Step.none_there}
+use mathlib.Core.Logic.{∥∥₁_map}
 use Rattle.snap_server.proofs.sessions.Sessions.adopt.Goals.{then-is_err-via-then-is_err}
 use Rattle.snap_server.proofs.sessions.Sessions.adopt.Goals.{then-is_err-via-else-is_err+then-is_err-2}
 use Rattle.snap_server.proofs.sessions.Sessions.adopt.Goals as goal

@@ -1,8 +1,6 @@
 use Rattle.std.proofs.Common.{sym}
+use Rattle.snap_server.proofs.{SharedService.removed_are, Step.over_off, TurnList.lists_removed}
 use mathlib.Core.Logic.{∥∥₁_map}
-use Rattle.snap_server.proofs.SharedService.{removed_are}
-use Rattle.snap_server.proofs.Step.{over_off}
-use Rattle.snap_server.proofs.TurnList.{lists_removed}
 use Rattle.snap_server.proofs.sessions.Sessions.let_go.Goals as goal
 
 pub invariant_of-self-clause-are : goal.invariant_of-self-clause-are

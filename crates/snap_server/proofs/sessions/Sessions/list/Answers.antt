@@ -1,10 +1,9 @@
 use Rattle.std.proofs.Common.{arith, sym, ap, ◌∙◌, Some, refl, true≢false}
-use mathlib.Core.Logic.{∥∥₁_map}
-use Rattle.snap_server.specs.declared.connection.Connection.{Connection}
-use Rattle.snap_server.specs.TurnList.{enlisted}
 use Rattle.snap_server.proofs.Step.{written, somebody, none_there, of_old, same_stage}
 use Rattle.snap_server.proofs.TurnList.{lists_more, lists_room, enlisted_same, behind_same}
 use Rattle.snap_server.proofs.SharedService.{turned_are, no_turn, still_holds}
+use Rattle.snap_server.specs.{declared.connection.Connection.Connection, TurnList.enlisted}
+use mathlib.Core.Logic.{∥∥₁_map}
 use Rattle.snap_server.proofs.sessions.Sessions.list.Goals as goal
 
 pub push_back_reserved-requires : goal.push_back_reserved-requires

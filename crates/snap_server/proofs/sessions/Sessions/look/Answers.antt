@@ -1,8 +1,7 @@
 use Rattle.std.proofs.Common.{sym, ◌∙◌, refl, rules}
-use Rattle.snap_server.specs.declared.connection.Connection.{Connection}
-use Rattle.snap_server.specs.declared.connection.ConnectionState.TheVariants.{Over}
 use Rattle.snap_server.proofs.Step.{written, same_stage, ends_idle}
 use Rattle.snap_server.proofs.SharedService.{no_turn, still_holds}
+use Rattle.snap_server.specs.declared.connection.{Connection.Connection, ConnectionState.TheVariants.Over}
 use Rattle.snap_server.proofs.sessions.Sessions.look.Goals as goal
 
 pub invariant_of-self-in-Break-branch-2 : goal.invariant_of-self-in-Break-branch-2

@@ -1,7 +1,6 @@
 use Rattle.std.proofs.Common.{None, ap, slice_index_or}
 use Rattle.std.proofs.lemmas.Grind.{merely}
-use Rattle.snap_server.proofs.SharedService.{none_are}
-use Rattle.snap_server.proofs.TurnList.{none_list}
+use Rattle.snap_server.proofs.{SharedService.none_are, TurnList.none_list}
 use Rattle.snap_server.proofs.sessions.Sessions.new.Goals as goal
 
 pub invariant_of-result-clause-are : goal.invariant_of-result-clause-are

@@ -1,10 +1,9 @@
 use Rattle.std.proofs.Common.{arith, sym, ap, subst, ◌∙◌, refl, Some, ◌∷◌, ◌≡◌, List, ℕ}
-use mathlib.Core.Logic.{∥∥₁_map}
-use Rattle.snap_server.specs.declared.connection.Connection.{Connection}
-use Rattle.snap_server.specs.TurnList.{Lists}
 use Rattle.snap_server.proofs.Step.{written, none_there, of_old, of_new}
 use Rattle.snap_server.proofs.TurnList.{lists_rest, none_first}
 use Rattle.snap_server.proofs.SharedService.{turned_are, no_turn}
+use Rattle.snap_server.specs.{declared.connection.Connection.Connection, TurnList.Lists}
+use mathlib.Core.Logic.{∥∥₁_map}
 use Rattle.snap_server.proofs.sessions.Sessions.next.Goals as goal
 
 pub invariant_of-self-in-Some : goal.invariant_of-self-in-Some

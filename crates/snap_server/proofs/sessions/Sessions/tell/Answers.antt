@@ -1,11 +1,10 @@
 use Rattle.std.proofs.Common.{sym, ap, ◌∙◌, ◌≡◌, [], refl, true≢false, is_some}
-use mathlib.Core.Logic.{∥∥₁_map}
-use Rattle.snap_server.specs.declared.connection.ConnectionState.TheVariants.{Over}
-use Rattle.snap_server.specs.TurnList.{listed_behind}
 use Rattle.snap_server.proofs.SharedService.{moved, removed_are, turned_are, still_holds}
 use Rattle.snap_server.proofs.Step.{written, then_listed, somebody, none_there, of_old, of_new, of_both, same_stage}
 use Rattle.snap_server.proofs.Step.{over_off}
 use Rattle.snap_server.proofs.TurnList.{lists_step, lists_removed, enlisted_going}
+use Rattle.snap_server.specs.{declared.connection.ConnectionState.TheVariants.Over, TurnList.listed_behind}
+use mathlib.Core.Logic.{∥∥₁_map}
 use Rattle.snap_server.proofs.sessions.Sessions.tell.Goals as goal
 
 pub invariant_of-self-then-take_outcome : goal.invariant_of-self-then-take_outcome

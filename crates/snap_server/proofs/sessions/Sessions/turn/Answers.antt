@@ -1,15 +1,11 @@
 use Rattle.std.proofs.Common.{arith, sym, ap, subst, ◌∙◌, ◌≡◌, ◌⊎◌, [], None, is_some, inl, inr, refl}
 use Rattle.std.proofs.lemmas.Grind.{common_steps}
-use Rattle.snap_session.specs.Talk.{Talk}
-use Rattle.snap_session.specs.Turns.{StandsAt}
-use Rattle.snap_session.specs.declared.turns.Polled.{Polled}
 use Rattle.snap_session.specs.declared.turns.Polled.TheVariants.{NeedsInput, NeedsRoom, NeedsOutcome}
-use Rattle.snap_server.specs.declared.connection.Connection.{Connection}
-use Rattle.snap_server.specs.declared.connection.ConnectionState.TheVariants.{Over}
-use Rattle.snap_server.specs.TurnList.{enlisted, listed_behind}
-use Rattle.snap_server.specs.ConnectionStates.{Waits}
-use Rattle.snap_server.proofs.SharedService.{moved, still_holds}
+use Rattle.snap_session.specs.{Talk.Talk, Turns.StandsAt, declared.turns.Polled.Polled}
 use Rattle.snap_server.proofs.Step.{written, then_listed, somebody, none_there, of_new, of_both, same_stage, ends_idle}
+use Rattle.snap_server.specs.{declared.connection.Connection.Connection, TurnList.enlisted, ConnectionStates.Waits}
+use Rattle.snap_server.specs.{declared.connection.ConnectionState.TheVariants.Over, TurnList.listed_behind}
+use Rattle.snap_server.proofs.SharedService.{moved, still_holds}
 use Rattle.snap_server.proofs.sessions.Sessions.turn.Goals as goal
 
 -- the connection waits for one of the three

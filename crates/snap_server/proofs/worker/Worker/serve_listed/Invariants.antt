@@ -1,5 +1,4 @@
-use Rattle.snap_server.specs.declared.connection.TheConstants.{PIECE}
-use Rattle.snap_server.proofs.Round.{IsRound}
+use Rattle.snap_server.{specs.declared.connection.TheConstants.PIECE, proofs.Round.IsRound}
 use Rattle.snap_server.proofs.worker.Worker.serve_listed.Given as goal
 
 abbrev pub invariant-round : goal.invariant-round

@@ -1,6 +1,5 @@
 use Rattle.std.proofs.Common.{[], refl, subst, sym}
-use Rattle.snap_session.specs.Talk.{Moves}
-use Rattle.snap_session.proofs.Runs.{moves_joins}
+use Rattle.snap_session.{specs.Talk.Moves, proofs.Runs.moves_joins}
 use Rattle.snap_server.proofs.worker.Worker.work.Goals as goal
 
 pub loop-init : goal.loop-init

@@ -1,7 +1,6 @@
 use Rattle.std.proofs.Common.{subst}
 use Rattle.snap_register.specs.Seat.{Known}
-use Rattle.snap_service.specs.Answers.{AnswersUpdate}
-use Rattle.snap_service.specs.Counted.{NodeState}
+use Rattle.snap_service.specs.{Answers.AnswersUpdate, Counted.NodeState}
 use Rattle.snap_service.proofs.node.Node.update.Goals as goal
 
 pub returns-in-Some-clause-answer : goal.returns-in-Some-clause-answer

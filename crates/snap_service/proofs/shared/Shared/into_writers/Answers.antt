@@ -1,6 +1,5 @@
 use Rattle.std.proofs.Common.{◌≡◌, ◌≢◌, ℕ, ◌+◌, length, slice_get, Some, ap, sym, subst, ◌∙◌, arith}
-use Rattle.std.proofs.lemmas.Bool.{false≢true}
-use Rattle.std.proofs.lemmas.List.{length_push}
+use Rattle.std.proofs.lemmas.{Bool.false≢true, List.length_push}
 use Rattle.snap_history.proofs.Lists.{get-append_last}
 use Rattle.snap_register.specs.Seat.{own_of}
 use Rattle.snap_service.specs.Memory.{IsOf}

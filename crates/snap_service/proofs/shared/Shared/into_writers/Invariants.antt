@@ -1,8 +1,6 @@
 use Rattle.std.proofs.Common.{◌≡◌, ◌≢◌, ℕ, ◌+◌, ◌≤◌, true, false, length, slice_get, Some}
-use Rattle.std.specs.Prelude.{vec_capacity}
-use Rattle.std.specs.Vec.Iter.{into_iter_items, into_iter_len}
-use Rattle.snap_register.specs.Rule.{segments}
-use Rattle.snap_register.specs.Seat.{own_of}
+use Rattle.std.specs.{Prelude.vec_capacity, Vec.Iter.into_iter_items, Vec.Iter.into_iter_len}
+use Rattle.snap_register.specs.{Rule.segments, Seat.own_of}
 use Rattle.snap_service.specs.Memory.{IsOf}
 use Rattle.snap_service.proofs.shared.Shared.into_writers.Given as goal
 

@@ -1,9 +1,7 @@
 use Rattle.std.proofs.Common.{ℕ, ◌+◌, length, ap, ◌∙◌}
 use Rattle.std.proofs.lemmas.List.{length_push}
-use Rattle.snap_frame.specs.Messages.{IsStatus}
-use Rattle.snap_frame.specs.declared.entries.SegmentStatus.{SegmentStatus}
-use Rattle.snap_service.specs.Counted.{NodeState}
-use Rattle.snap_service.proofs.Lines.{all_more}
+use Rattle.snap_frame.specs.{Messages.IsStatus, declared.entries.SegmentStatus.SegmentStatus}
+use Rattle.snap_service.{specs.Counted.NodeState, proofs.Lines.all_more}
 use Rattle.snap_service.proofs.shared.Shared.list_statuses.Goals as goal
 
 pub loop-lock-preserved : goal.loop-lock-preserved

@@ -1,6 +1,5 @@
 use Rattle.std.proofs.Common.{◌≡◌, ◌+◌, length, ap, sym, ◌∙◌, arith}
-use Rattle.std.specs.Vec.Iter.{into_iter_items}
-use Rattle.std.proofs.lemmas.List.{length_push, length-drop}
+use Rattle.std.{specs.Vec.Iter.into_iter_items, proofs.lemmas.List.length_push, proofs.lemmas.List.length-drop}
 use Rattle.snap_history.proofs.Removals.{Taken, taken}
 use Rattle.snap_service.proofs.shared.Shared.new.Goals as goal
 use Rattle.snap_service.proofs.shared.Shared.new.Goals.{In-Some}

@@ -1,8 +1,6 @@
 use Rattle.std.proofs.Common.{arith, refl, sym, ◌∙◌}
 use Rattle.snap_session.specs.Talk.{most_answers}
-use Rattle.snap_session.proofs.Steps.{rests, by_more}
-use Rattle.snap_session.proofs.Held.{still_going}
-use Rattle.snap_session.proofs.Continuation.{goes_more}
+use Rattle.snap_session.proofs.{Steps.rests, Steps.by_more, Held.still_going, Continuation.goes_more}
 use Rattle.snap_session.proofs.session.Session.answer.Goals as goal
 
 pub returns-then-not-is_free-clause-goes : goal.returns-then-not-is_free-clause-goes

@@ -1,13 +1,9 @@
 use Rattle.std.proofs.Common.{◌≡◌, [], length, refl, ap, subst, sym, inl, inr, ◌∙◌, Some, None, arith}
-use Rattle.snap_frame.specs.declared.frame_buffer.Failure.TheVariants.{NoMemory}
-use Rattle.snap_session.specs.Asked.{AreAsked}
+use Rattle.snap_frame.specs.{declared.frame_buffer.Failure.TheVariants.NoMemory, Messages.says, Stream.HasLongLength}
 use Rattle.snap_session.specs.Talk.{Talk, refused_malformed, refused_too_large}
-use Rattle.snap_frame.specs.Messages.{says}
-use Rattle.snap_session.proofs.Asked.{asked_behind, owes_held}
 use Rattle.snap_session.proofs.Steps.{rests, by_more, gives_up, answers, refuses, found_first, hands, came_free}
-use Rattle.snap_session.proofs.Steps.{owes_turn}
-use Rattle.snap_session.proofs.Steps.{asked_of}
-use Rattle.snap_frame.specs.Stream.{HasLongLength}
+use Rattle.snap_session.proofs.Steps.{owes_turn, asked_of}
+use Rattle.snap_session.{specs.Asked.AreAsked, proofs.Asked.asked_behind, proofs.Asked.owes_held}
 use Rattle.snap_session.proofs.session.Session.answer_one.Goals as goal
 
 pub returns-in-Nothing-clause-goes : goal.returns-in-Nothing-clause-goes

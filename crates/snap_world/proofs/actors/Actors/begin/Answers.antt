@@ -1,12 +1,11 @@
 use Rattle.std.proofs.Common.{◌≡◌, ◌-◌, ◌^◌, ◌<◌, ◌≤◌, List, ℕ, length, refl, ap, subst, ◌∙◌, sym, arith}
 use Rattle.snap_history.specs.History.{from_nothing, number_after}
-use Rattle.snap_world.specs.{Answers.scan_from, Answers.all_of, inside.NodeSteps.node_of, inside.Stands.ActorsStand}
 use Rattle.snap_world.specs.Machine.{State, WriterState, Begun, with_writer}
-use Rattle.snap_world.specs.declared.writer.Writer.{Writer}
-use Rattle.snap_world.proofs.LookingOn.{all_among, some_named}
-use Rattle.snap_world.proofs.{Sizes.all_some, Looks.number_now, PhaseMoves.writer_moved}
 use Rattle.snap_world.proofs.Moves.{within, the_writer, the_register, Gathers-none}
 use Rattle.snap_world.proofs.Events.{up_at, came, writer_goes, refuses}
+use Rattle.snap_world.{specs.Answers.scan_from, specs.Answers.all_of, proofs.Sizes.all_some, proofs.Looks.number_now}
+use Rattle.snap_world.{specs.inside.NodeSteps.node_of, proofs.LookingOn.some_named, proofs.PhaseMoves.writer_moved}
+use Rattle.snap_world.{specs.inside.Stands.ActorsStand, specs.declared.writer.Writer.Writer, proofs.LookingOn.all_among}
 use Rattle.snap_world.specs.declared.writer.WriterPhase.TheVariants as writer
 use Rattle.snap_world.proofs.actors.Actors.begin.Goals as goal
 

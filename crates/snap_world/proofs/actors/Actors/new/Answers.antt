@@ -1,6 +1,5 @@
 use Rattle.std.proofs.Common.{refl}
-use Rattle.snap_world.specs.declared.actors.Actors.{Actors}
-use Rattle.snap_world.proofs.NewWorld.{starts, phases_idle}
+use Rattle.snap_world.{specs.declared.actors.Actors.Actors, proofs.NewWorld.starts, proofs.NewWorld.phases_idle}
 use Rattle.snap_world.proofs.actors.Actors.new.Goals as goal
 
 pub returns : goal.returns

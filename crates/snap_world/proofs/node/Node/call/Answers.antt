@@ -1,10 +1,9 @@
 use Rattle.std.proofs.Common.{◌≡◌, ◌∷◌, refl, ap, sym, ◌∙◌}
 use Rattle.snap_persist.specs.Stage.{calls_left, first_call, after_call}
 use Rattle.snap_persist.specs.declared.persist.NextCall.TheVariants.{Done}
-use Rattle.snap_world.specs.{Calls.store_call, declared.drive.Drive.Drive}
 use Rattle.snap_world.proofs.Stored.{going_done, not_done, call_goes, call_ends, call_moves, call_stores, there}
 use Rattle.snap_world.proofs.Stored.{storing, number_is, value_is}
-use Rattle.snap_world.proofs.Events.{is_up}
+use Rattle.snap_world.{specs.Calls.store_call, specs.declared.drive.Drive.Drive, proofs.Events.is_up}
 use Rattle.snap_world.proofs.node.Node.call.Goals as goal
 
 pub returns-in-Done : goal.returns-in-Done

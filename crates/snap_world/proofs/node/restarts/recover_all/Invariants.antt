@@ -1,6 +1,5 @@
 use Rattle.std.proofs.Common.{◌≡◌, Some, slice_get}
-use Rattle.snap_world.specs.{inside.Recovery.IsRecovered, declared.drive.Drive.Drive}
-use Rattle.snap_world.proofs.Sweep.{Swept}
+use Rattle.snap_world.{specs.inside.Recovery.IsRecovered, specs.declared.drive.Drive.Drive, proofs.Sweep.Swept}
 use Rattle.snap_world.proofs.node.restarts.recover_all.Given as goal
 
 abbrev pub invariant-loop-i : goal.invariant-loop-i

@@ -1,8 +1,6 @@
 use Rattle.std.proofs.Common.{rules, refl, subst}
-use Rattle.snap_writer.proofs.Paired.{paired_grown}
+use Rattle.snap_writer.{proofs.Paired.paired_grown, specs.Writer.WriterState, proofs.Lives.met}
 use Rattle.snap_register.specs.Seat.{Meets}
-use Rattle.snap_writer.specs.Writer.{WriterState}
-use Rattle.snap_writer.proofs.Lives.{met}
 use Rattle.snap_writer.proofs.writer.Writer.meet.Goals as goal
 
 pub invariant_of-self : goal.invariant_of-self

@@ -2,13 +2,9 @@ use Rattle.std.proofs.Common.{rules, ◌≡◌, ℕ, ◌+◌, List, None, sym, s
 use Rattle.std.specs.Prelude.{OnOk}
 use Rattle.snap_disk.specs.Device.{IsSettled, MayLeave}
 use Rattle.snap_slot.specs.Layout.{IsFileOf}
-use Rattle.snap_writer.specs.Judge.{IsAnswer}
-use Rattle.snap_writer.specs.Writer.{number_of}
-use Rattle.snap_writer.specs.declared.judgement.Judgement.{Judgement}
+use Rattle.snap_writer.specs.{Judge.IsAnswer, Writer.number_of, declared.judgement.Judgement.Judgement}
 use Rattle.snap_writer.specs.declared.judgement.Judgement.TheVariants.{Go}
-use Rattle.snap_writer.proofs.Judgements.{one_rule}
-use Rattle.snap_writer.proofs.Untouched.{untouched}
-use Rattle.snap_writer.proofs.Lives.{went_on, lived_first}
+use Rattle.snap_writer.proofs.{Judgements.one_rule, Untouched.untouched, Lives.went_on, Lives.lived_first}
 use Rattle.snap_writer.proofs.writer.Writer.update.Goals as goal
 
 pub returns-in_default : goal.returns-in_default

@@ -1,7 +1,6 @@
 use Rattle.std.proofs.Common.{rules, ◌≡◌, ℕ, ◌∷◌, ◌++◌, [], length, slice_get, Some, ap, sym, subst, ◌∙◌, arith}
 use Rattle.std.proofs.lemmas.List.{length_push}
-use Rattle.snap_history.proofs.Lists.{get-push}
-use Rattle.snap_history.proofs.Removals.{taken}
+use Rattle.snap_history.proofs.{Lists.get-push, Removals.taken}
 use Rattle.snap_restart.specs.Closed.{IsSeatAt}
 use Rattle.try_parts.proofs.threads.end.scanners_of.Goals as goal
 
