@@ -1,7 +1,9 @@
 //! Requests out of a stream that arrives in pieces.
-ghost use Rattle.std.specs.Prelude.{◌≡◌, ◌++◌, ◌↔◌, ◌⊎◌, ℕ, IsTrue, List, Some, None, Ok, Err, OnOk, OnErr, IfSome, IfErr};
+ghost use Rattle.std.specs.Prelude.{◌≡◌, ◌++◌, ◌↔◌, ◌⊎◌, ℕ, IsTrue, List, Some, None, Ok, Err, OnOk, OnErr, IfSome};
+ghost use Rattle.std.specs.Prelude.{IfErr};
 ghost use Rattle.snap_frame.specs.Messages.{Malformed};
-ghost use Rattle.snap_frame.specs.Stream.{Held, empty, IsNextRequest, refusal_of, HasFrame, HasLongLength, IsPartial, NoFrameBeginsAnother};
+ghost use Rattle.snap_frame.specs.Stream.{Held, empty, IsNextRequest, refusal_of, HasFrame, HasLongLength, IsPartial};
+ghost use Rattle.snap_frame.specs.Stream.{NoFrameBeginsAnother};
 
 use crate::frame_buffer::{Failure, FrameBuffer};
 use crate::request::{Request, read_request};

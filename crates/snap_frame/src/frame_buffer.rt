@@ -1,5 +1,6 @@
 //! Frames cut out of a stream that arrives in pieces.
-ghost use Rattle.std.specs.Prelude.{◌≡◌, ◌≤◌, ◌<◌, ℕ, ◌++◌, ◌↔◌, IsTrue, List, [], get_or, length, Some, None, Ok, Err, OnOk, OnErr, IfOk, IfSome, IfErr, IfNone};
+ghost use Rattle.std.specs.Prelude.{◌≡◌, ◌≤◌, ◌<◌, ℕ, ◌++◌, ◌↔◌, IsTrue, List, [], get_or, length, Some, None, Ok, Err};
+ghost use Rattle.std.specs.Prelude.{OnOk, OnErr, IfOk, IfSome, IfErr, IfNone};
 ghost use Rattle.snap_frame.specs.Stream.{Held, empty, TakesOff, Found, IsBytes, Ready, pending};
 
 use crate::frame::MAX_PAYLOAD;

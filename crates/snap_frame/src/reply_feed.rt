@@ -1,5 +1,6 @@
 //! Replies out of a stream that arrives in pieces: the client's half.
-ghost use Rattle.std.specs.Prelude.{◌≡◌, ◌++◌, ◌↔◌, ◌⊎◌, ℕ, IsTrue, List, Some, None, Ok, Err, OnOk, OnErr, IfSome, IfErr};
+ghost use Rattle.std.specs.Prelude.{◌≡◌, ◌++◌, ◌↔◌, ◌⊎◌, ℕ, IsTrue, List, Some, None, Ok, Err, OnOk, OnErr, IfSome};
+ghost use Rattle.std.specs.Prelude.{IfErr};
 ghost use Rattle.snap_frame.specs.Messages.{SaysNothing};
 ghost use Rattle.snap_frame.specs.Stream.{Held, empty, IsNextReply, HasFrame, HasLongLength, IsPartial};
 

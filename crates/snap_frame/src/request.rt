@@ -1,8 +1,8 @@
 //! Requests and their payloads.
-ghost use Rattle.std.specs.Prelude.{◌≡◌, ◌<◌, ◌≤◌, ℕ, ◌++◌, ◌∷◌, List, length, drop, slice_index, IsOk, OnOk, OnErr, IfOk, IfErr, IfSome, IfNone};
+ghost use Rattle.std.specs.Prelude.{◌≡◌, ◌<◌, ◌≤◌, ℕ, ◌++◌, ◌∷◌, List, length, drop, slice_index, IsOk, OnOk, OnErr};
+ghost use Rattle.std.specs.Prelude.{IfOk, IfErr, IfSome, IfNone};
 ghost use Rattle.std.specs.Int.{w16, w64, to_be_bytes};
-ghost use Rattle.snap_frame.specs.Messages.{max_payload, Asks, IsAskable, Malformed, payload};
-ghost use Rattle.snap_frame.specs.Messages.{frame};
+ghost use Rattle.snap_frame.specs.Messages.{max_payload, Asks, IsAskable, Malformed, payload, frame};
 
 use crate::frame::{MAX_PAYLOAD, start_frame};
 use crate::numbers::{first_u16, first_u64};

@@ -1,8 +1,8 @@
 //! The table of the registers' words, its rule (specs/Rule.antt), and the result of each step on
 //! it.
-ghost use Rattle.snap_register.specs.Rule.{Kept, pinning, giving, heard, read, checked};
-ghost use Rattle.snap_register.specs.Rule.{reused, redrafted, published, messenger, reader, without_reader, first_role};
-ghost use Rattle.snap_register.specs.Rule.{without_first_role, with_received, with_seen_of, spent};
+ghost use Rattle.snap_register.specs.Rule.{Kept, pinning, giving, heard, read, checked, reused, redrafted, published};
+ghost use Rattle.snap_register.specs.Rule.{messenger, reader, without_reader, first_role, without_first_role};
+ghost use Rattle.snap_register.specs.Rule.{with_received, with_seen_of, spent};
 
 use crate::plan::{Opening, SeatView};
 use atomic_table::{Join, Play, Seat, Split, Table, TableRule};
