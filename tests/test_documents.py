@@ -6,9 +6,9 @@ import subprocess
 import sys
 
 TOP = pathlib.Path(__file__).resolve().parent.parent
-sys.path.insert(0, str(TOP / "verification"))
+sys.path.insert(0, str(TOP / "docs"))
 
-import crates_table  # noqa: E402
+import tables  # noqa: E402
 
 DOCUMENTS = [
     *(TOP / it for it in ("README.md", "CHANGELOG.md", "CONTRIBUTING.md", "SECURITY.md")),
@@ -83,14 +83,14 @@ def test_definitions_stand_where_they_are_named(snapd, random):
 
 def test_what_is_promised_is_in_the_printed_table_of_contracts(snapd, random):
     """The script that PROMISES.md names prints each public function that it links, with its clauses."""
-    script = TOP / "verification" / "contracts_table.py"
-    printed = subprocess.run([sys.executable, script], capture_output=True, text=True, check=True).stdout
+    script = TOP / "docs" / "tables.py"
+    printed = subprocess.run([sys.executable, script, "contracts"], capture_output=True, text=True, check=True).stdout
     rows = {}
     for name, file, clauses in re.findall(r"^\| \[`([\w:]+)`\]\((\S+)\) \| `(.*)` \|$", printed, re.M):
         rows.setdefault((file, name.rpartition("::")[2]), set()).update(clauses.split("`, `"))
     assert len(rows) > 300
     promised, text = set(), " ".join((TOP / "docs" / "PROMISES.md").read_text().split())
-    assert f"`python3 {script.relative_to(TOP)}`" in text
+    assert f"`python3 {script.relative_to(TOP)} contracts`" in text
     for name, target, clauses in CITED.findall(text):
         file, name = target.removeprefix("../"), name.rpartition("::")[2]
         source = (TOP / file).read_text()
@@ -250,8 +250,8 @@ def test_each_crate_stands_in_one_room(snapd, random):
 
 def test_the_table_of_crates_is_as_its_script_writes_it(snapd, random):
     text = ARCHITECTURE.read_text()
-    assert crates_table.written(text) == text, "run: python3 verification/crates_table.py"
-    listed = re.findall(r"^\| \[(\w+)\]", crates_table.table(), re.M)
+    assert tables.written(text) == text, "run: python3 docs/tables.py"
+    listed = re.findall(r"^\| \[(\w+)\]", tables.table(), re.M)
     assert sorted(listed) == sorted(it.parent.name for it in (TOP / "crates").glob("*/src"))
 
 
