@@ -383,7 +383,7 @@ def test_figures_of_readme_are_those_of_performance(snapd, random):
         made = 4096 * int(n) * (int(n) + 1) * (int(n) + int(s) + 2) / 1e6
         assert abs(float(megabytes) / made - 1) < 0.03, (megabytes, made)
     [minutes] = re.findall(r"make prove .*: (some \d+ minutes)", readme)
-    assert f"| `make prove`, from nothing: reckoned | {minutes} |" in performance, minutes
+    assert f"| `make prove`, from nothing | {minutes} |" in performance, minutes
 
 
 # The most words that a document may have, or several together: what one reads in an evening.
