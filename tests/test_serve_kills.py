@@ -17,7 +17,8 @@ def test_a_hundred_kills_under_load(snapd, rng):
     load = Load(16, rng)
     files = fresh(snapd, 16)
     for life in range(ROUNDS):
-        with Server(snapd, *files, scanners=2) as server:
+        # With many workers most have one connection and store themselves, with few the storers do.
+        with Server(snapd, *files, scanners=(2, 16)[life // 5 % 2]) as server:
             load.resume(server)
             # Some lives end while the first updates are stored, others after many.
             work = (0, 1, 10, 50, rng.randrange(50, 200))[life % 5]

@@ -29,3 +29,8 @@ def test_ten_thousand_updates(snapd, rng):
 
 def test_a_scanner_for_each_reader(snapd, rng):
     whole_record(snapd, rng, 1_000, 8)
+
+
+def test_workers_that_store_themselves(snapd, rng):
+    """Some have one connection, and so they store, beside others whose storers do."""
+    whole_record(snapd, rng, 1_000, 16)

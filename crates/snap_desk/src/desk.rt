@@ -1,5 +1,5 @@
 //! The desk: a worker's service.
-ghost use Rattle.std.specs.Prelude.{◌≡◌, ℕ, ◌<◌, IfOk, IfSome, IfNone, length};
+ghost use Rattle.std.specs.Prelude.{◌≡◌, ◌⊎◌, ℕ, ◌+◌, ◌<◌, IfOk, IfSome, IfNone, length, false};
 ghost use Rattle.snap_memory.specs.Rule.{segments};
 ghost use Rattle.snap_frame.specs.Messages.{IsInLimits};
 ghost use Rattle.snap_service.specs.Answers.{Answers, AnswersUpdate, AnswersScan, AnswersPart, AnswersStatus};
@@ -9,6 +9,7 @@ ghost use Rattle.snap_desk.specs.{Handover.HasHanded, Job.job_of, Tells.TellsUpd
 use crate::job::Requested;
 use crate::outbox::{Outbox, Sent, StorerHandle};
 use crate::read_only_service::ReadOnlyService;
+use crate::update_observer::UpdateObserver;
 use crate::writer_lease::Outcome;
 use bytes::Bytes;
 use snap_disk::{Disk, Refusal};
@@ -18,24 +19,28 @@ use snap_metrics::Looking;
 use snap_service::{Memory, answer_by_look, answer_part, answer_scan, refuse_place};
 use snap_session::Service;
 use std::alloc::{AllocError, Global};
-use std::marker::{Brand, Model, PhantomData};
+use std::marker::{Brand, Model};
 use std::rt::Clock;
 use std::sync::Wait;
+use std::sync::atomic::{AtomicBool, Ordering};
 
-/// A worker's [`Service`]: answers scans and statuses itself, and sends updates to the segments'
-/// storers.
+/// A worker's [`Service`]: answers scans and statuses itself. It stores an update itself if nobody else waits for the
+/// desk or has the segment's writer, and else sends it to the segment's storer.
 ///
-/// Models what its scanner knows. It takes no lock and doesn't wait for a store. If memory for a
-/// job runs out, sending the update is tried again for up to a tenth of a second.
+/// Models what its scanner knows. No connection waits for the store of another one. A scan takes no lock. If memory for
+/// a job runs out, sending the update is tried again for up to a tenth of a second. `watch` is notified of the updates
+/// that the desk stores.
 #[derive(Drop)]
-pub struct Desk<R: Wait + Copy, M: Memory, D: Disk + Drop> {
+pub struct Desk<R: Wait + Copy, M: Memory, D: Disk + Drop, H: Drop> {
     alloc: Global,
-    outbox: Outbox<R, M>,
+    outbox: Outbox<R, M, D>,
     scanner: Scanner,
-    of: PhantomData<(M, D)>,
+    watch: H,
+    /// Whether it may store itself, since no other connection waits for it.
+    may_store: AtomicBool,
 }
 
-impl<R: Wait + Copy, M: Memory, D: Disk + Drop> Model for Desk<R, M, D> {
+impl<R: Wait + Copy, M: Memory, D: Disk + Drop, H: Drop> Model for Desk<R, M, D, H> {
     ghost use Rattle.std.specs.Prelude.{◌≡◌, length};
     ghost use Rattle.snap_memory.specs.{Rule.segments, Seat.Known};
     ghost use Rattle.snap_service.specs.Memory.{IsOf};
@@ -77,16 +82,19 @@ pub fn answer_outcome<R: Wait + Copy, M: Memory, D: Disk + Drop>(
     }
 }
 
-/// Sends an update to its storer, once, and returns `None`. If it can't be sent, the reply refuses
-/// the place of the update or comes from one look.
-fn ask<R: Wait + Copy + Clock, M: Memory, J: Requested>(
-    outbox: &mut Outbox<R, M>,
+/// Stores an update, if it may and nobody else has the writer, and replies. Else sends it to its storer, once, and
+/// returns `None`. If it can't be sent, the reply refuses the place of the update or comes from one look.
+fn ask<R: Wait + Copy + Clock, M: Memory, D: Disk + Drop, H: UpdateObserver, J: Requested>(
+    outbox: &mut Outbox<R, M, D>,
     scanner: &mut Scanner,
+    watch: &H,
+    may_store: bool,
     segment: usize,
     number: u64,
     value: &Bytes,
     key: usize,
 ) -> Option<Reply>
+    requires memory { IsOf M.table M.plan scanner.old }
     requires handles { length outbox.old.handles ≡ segments scanner.old.plan }
     requires job { J.job ≡ job_of outbox.old.worker key segment number value.now }
     requires asked { M.asked segment number value.now }
@@ -97,9 +105,18 @@ fn ask<R: Wait + Copy + Clock, M: Memory, J: Requested>(
     ensures later { IfNone result (scanner.new ≡ scanner.old) }
     ensures over { IfNone result (HasHanded outbox.old segment outbox.new) }
     ensures not_over { IfSome result (λ _. outbox.new ≡ outbox.old) }
+    // Where it may not store, the reply needs no store: it is a refusal of the place, or comes from one look.
+    ensures shared { may_store ≡ false → IfSome result (λ _.
+        (scanner.new ≡ scanner.old) ⊎ (scanner.new.left + 1 ≡ scanner.old.left)) }
 {
     if let Some(reply) = refuse_place(scanner, segment, value.as_slice()) {
         return Some(reply);
+    }
+    if may_store {
+        let stored = outbox.store(scanner, watch, segment, number, value.as_slice());
+        if stored.is_some() {
+            return stored;
+        }
     }
     let handed: Option<Sent<J>> = outbox.hand_over(segment, number, value, key);
     if handed.is_some() {
@@ -108,15 +125,17 @@ fn ask<R: Wait + Copy + Clock, M: Memory, J: Requested>(
     Some(answer_by_look(scanner, segment, number, value.as_slice()))
 }
 
-impl<R: Wait + Copy + Clock, M: Memory, D: Disk + Drop> Desk<R, M, D> {
-    /// A desk for the worker at index `worker`, with a handle for each segment.
+impl<R: Wait + Copy + Clock, M: Memory, D: Disk + Drop, H: UpdateObserver + Drop> Desk<R, M, D, H> {
+    /// A desk for the worker at index `worker`, with a handle for each segment. It stores nothing itself until
+    /// [`let_wait`](Service::let_wait) lets it.
     pub fn new(
         rt: R,
         alloc: Global,
         worker: usize,
-        handles: Vec<StorerHandle<M>>,
+        handles: Vec<StorerHandle<M, D>>,
         scanner: Scanner,
-    ) -> Desk<R, M, D>
+        watch: H,
+    ) -> Desk<R, M, D, H>
         requires memory { IsOf M.table M.plan scanner }
         requires handles { length handles.items ≡ segments M.plan }
         ensures { result ≡ scanner }
@@ -125,7 +144,8 @@ impl<R: Wait + Copy + Clock, M: Memory, D: Disk + Drop> Desk<R, M, D> {
             alloc,
             outbox: Outbox::new(rt, alloc, worker, handles),
             scanner,
-            of: PhantomData,
+            watch,
+            may_store: AtomicBool::new(false),
         }
     }
 
@@ -185,7 +205,8 @@ impl<R: Wait + Copy + Clock, M: Memory, D: Disk + Drop> Desk<R, M, D> {
     }
 }
 
-impl<R: Wait + Copy + Clock, M: Memory, D: Disk + Drop> Service for Desk<R, M, D> {
+impl<R: Wait + Copy + Clock, M: Memory, D: Disk + Drop, H: UpdateObserver + Drop> Service
+    for Desk<R, M, D, H> {
     ghost use Rattle.snap_service.specs.{Answers.Answers, Counted.TakesFewLooks, Memory.number_of};
     ghost use Rattle.snap_desk.specs.Tells.{Tells};
 
@@ -208,9 +229,11 @@ impl<R: Wait + Copy + Clock, M: Memory, D: Disk + Drop> Service for Desk<R, M, D
                 segment,
                 number,
                 value,
-            } => ask::<R, M, Brand>(
+            } => ask::<R, M, D, H, Brand>(
                 &mut self.outbox,
                 &mut self.scanner,
+                &self.watch,
+                self.may_store.load(Ordering::Relaxed),
                 usize::from(*segment),
                 *number,
                 value,
@@ -220,6 +243,10 @@ impl<R: Wait + Copy + Clock, M: Memory, D: Disk + Drop> Service for Desk<R, M, D
             Request::Status => Some(self.status()),
             Request::Part(set) => Some(self.part(*set)),
         }
+    }
+
+    fn let_wait(&self, may_wait: bool) {
+        self.may_store.store(may_wait, Ordering::Relaxed);
     }
 
     fn finish(&mut self, request: &Request, outcome: Outcome<R, M, D>) -> Reply {
@@ -242,7 +269,8 @@ impl<R: Wait + Copy + Clock, M: Memory, D: Disk + Drop> Service for Desk<R, M, D
     }
 }
 
-impl<R: Wait + Copy + Clock, M: Memory, D: Disk + Drop> Looking for Desk<R, M, D> {
+impl<R: Wait + Copy + Clock, M: Memory, D: Disk + Drop, H: UpdateObserver + Drop> Looking
+    for Desk<R, M, D, H> {
     /// The number of looks that its scanner may still take.
     ghost looks = { λ d. d.left };
 

@@ -1,13 +1,19 @@
-//! The outbox: a worker's sending side of the channels to the storers.
+//! The outbox: a worker's side of the writers and of the channels to the storers.
 ghost use Rattle.std.specs.Prelude.{◌≡◌, ◌<◌, length, All, IfOk, IfSome, IfNone};
-ghost use Rattle.snap_frame.specs.{Limits.IsShort, Messages.IsStatus};
+ghost use Rattle.snap_frame.specs.{Limits.IsShort, Messages.IsStatus, Messages.IsInLimits};
+ghost use Rattle.snap_memory.specs.Seat.{Meets};
+ghost use Rattle.snap_service.specs.{Memory.IsOf, Settled.IsSettledAt};
 ghost use Rattle.snap_desk.specs.{Handover.HasHanded, Job.job_of};
 
 use crate::job::{Job, Requested};
-use crate::writer_status::status_in;
+use crate::update_observer::UpdateObserver;
+use crate::writer_slot::WriterSlot;
+use crate::writer_status::{WriterStatus, status_in};
 use bytes::Bytes;
 use crossbeam_channel::{SendError, Sender};
-use snap_frame::SegmentStatus;
+use snap_disk::Disk;
+use snap_frame::{Reply, SegmentStatus};
+use snap_memory::Scanner;
 use snap_service::Memory;
 use std::alloc::{AllocError, Global};
 use std::marker::{Model, PhantomData};
@@ -40,18 +46,20 @@ pub(crate) struct Sent<J: Requested> {
     of: PhantomData<J>,
 }
 
-/// A handle to one segment's storer: sends it jobs and reads its last published status.
+/// A handle to one segment's writer and its storer: takes the writer, sends the storer jobs, and reads the last
+/// published status.
 ///
 /// Models the segment's index. The storer runs until every handle is dropped.
 #[derive(Drop)]
-pub struct StorerHandle<M: Memory> {
+pub struct StorerHandle<M: Memory, D: Disk + Drop> {
     segment: usize,
     jobs: Sender<Job<M>>,
-    /// The storer's published status in one word, as [`status_in`] reads it.
+    /// The writer's published status in one word, as [`status_in`] reads it.
     standing: Arc<AtomicU64, Global>,
+    writers: WriterSlot<M, D>,
 }
 
-impl<M: Memory> Model for StorerHandle<M> {
+impl<M: Memory, D: Disk + Drop> Model for StorerHandle<M, D> {
     ghost use Rattle.std.specs.Prelude.{ℕ};
 
     ghost Value = { ℕ };
@@ -59,18 +67,20 @@ impl<M: Memory> Model for StorerHandle<M> {
     ghost view = { λ w. w.segment };
 }
 
-impl<M: Memory> StorerHandle<M> {
+impl<M: Memory, D: Disk + Drop> StorerHandle<M, D> {
     pub(crate) fn new(
         segment: usize,
         jobs: Sender<Job<M>>,
         standing: Arc<AtomicU64, Global>,
-    ) -> StorerHandle<M>
+        writers: WriterSlot<M, D>,
+    ) -> StorerHandle<M, D>
         ensures { result ≡ segment }
     {
         StorerHandle {
             segment,
             jobs,
             standing,
+            writers,
         }
     }
 
@@ -94,7 +104,7 @@ impl<M: Memory> StorerHandle<M> {
         }
     }
 
-    /// Reads the status that the storer published last.
+    /// Reads the status that was published last.
     fn status(&self) -> SegmentStatus
         ensures { IsStatus result }
     {
@@ -102,33 +112,34 @@ impl<M: Memory> StorerHandle<M> {
     }
 }
 
-impl<M: Memory> Clone for StorerHandle<M> {
+impl<M: Memory, D: Disk + Drop> Clone for StorerHandle<M, D> {
     ghost use Rattle.std.specs.Prelude.{◌≡◌};
 
     ghost is_clone = { λ handle copy. copy ≡ handle };
 
-    fn clone(&self) -> Result<StorerHandle<M>, AllocError> {
+    fn clone(&self) -> Result<StorerHandle<M, D>, AllocError> {
         Ok(StorerHandle {
             segment: self.segment,
             jobs: self.jobs.clone()?,
             standing: Arc::try_clone(&self.standing)?,
+            writers: self.writers.clone()?,
         })
     }
 }
 
-/// Sends a worker's updates to the storers, by one handle for each segment.
+/// Stores a worker's updates, or sends them to the storers, by one handle for each segment.
 ///
 /// Models the worker, the handles' segments, and the number of updates that were sent, modulo 2^64.
 #[derive(Drop)]
-pub(crate) struct Outbox<R: Wait + Copy, M: Memory> {
+pub(crate) struct Outbox<R: Wait + Copy, M: Memory, D: Disk + Drop> {
     rt: R,
     alloc: Global,
     worker: usize,
-    handles: Vec<StorerHandle<M>>,
+    handles: Vec<StorerHandle<M, D>>,
     sent: u64,
 }
 
-impl<R: Wait + Copy, M: Memory> Model for Outbox<R, M> {
+impl<R: Wait + Copy, M: Memory, D: Disk + Drop> Model for Outbox<R, M, D> {
     ghost use Rattle.snap_desk.specs.Handover.{Handing};
 
     ghost Value = { Handing };
@@ -136,14 +147,14 @@ impl<R: Wait + Copy, M: Memory> Model for Outbox<R, M> {
     ghost view = { λ o. record { worker = o.worker; handles = o.handles.items; sent = o.sent } };
 }
 
-impl<R: Wait + Copy, M: Memory> Outbox<R, M> {
+impl<R: Wait + Copy, M: Memory, D: Disk + Drop> Outbox<R, M, D> {
     /// An outbox for `worker` that has sent nothing yet.
     pub(crate) fn new(
         rt: R,
         alloc: Global,
         worker: usize,
-        handles: Vec<StorerHandle<M>>,
-    ) -> Outbox<R, M>
+        handles: Vec<StorerHandle<M, D>>,
+    ) -> Outbox<R, M, D>
         ensures { result ≡ record { worker = worker; handles = handles.items; sent = 0 } }
     {
         Outbox {
@@ -180,7 +191,41 @@ impl<R: Wait + Copy, M: Memory> Outbox<R, M> {
     }
 }
 
-impl<R: Wait + Copy + Clock, M: Memory> Outbox<R, M> {
+impl<R: Wait + Copy, M: Memory, D: Disk + Drop> Outbox<R, M, D> {
+    /// Stores an update on this thread, publishes the writer's status, puts the writer back, and replies. `None` if
+    /// another has the writer; then nothing was done.
+    ///
+    /// The scanner meets the writer, so that the reply fits what the scanner has seen. No look is taken.
+    pub(crate) fn store<H: UpdateObserver>(
+        &self,
+        scanner: &mut Scanner,
+        watch: &H,
+        segment: usize,
+        number: u64,
+        value: &[u8],
+    ) -> Option<Reply>
+        requires memory { IsOf M.table M.plan scanner.old }
+        requires asked { M.asked segment number value.now }
+        requires segment { segment < length self.now.handles }
+        requires size { IsShort value.now }
+        ensures settled { IfSome result (λ r. IsSettledAt scanner.new segment number value.now r) }
+        ensures limits { IfSome result (λ r. IsInLimits r) }
+        ensures scanner { IfSome result (λ _. Meets scanner.old scanner.new) }
+        ensures later { IfNone result (scanner.new ≡ scanner.old) }
+    {
+        let handle = &self.handles[segment];
+        let mut writer = handle.writers.try_take(&self.rt, segment)?;
+        let told = writer.update(number, value);
+        let stands = WriterStatus::of(writer.as_ref());
+        handle.standing.store(stands.word(), Ordering::SeqCst);
+        watch.told(segment, number, told);
+        let reply = writer.reply_told(told, scanner);
+        let _ = handle.writers.home.send(&self.rt, writer);
+        Some(reply)
+    }
+}
+
+impl<R: Wait + Copy + Clock, M: Memory, D: Disk + Drop> Outbox<R, M, D> {
     /// Sends an update to its storer, once. `None` if the storer has ended, or if memory runs out
     /// for a tenth of a second; then nothing was sent.
     pub(crate) fn hand_over<J: Requested>(

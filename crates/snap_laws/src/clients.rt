@@ -7,7 +7,7 @@ ghost use Rattle.snap_laws.specs.Heard.{HeardLaw, HearsFrom, FirstHeard, bytes_o
 ghost use Rattle.snap_laws.specs.{Told.IsSendable, Worker.OfScannerLaw, Worker.WorkerLaw, Ever.EverLaw};
 
 use snap_client::{Client, ClientFault};
-use snap_desk::Desk;
+use snap_desk::{Desk, UpdateObserver};
 use snap_disk::Disk;
 use snap_frame::{Reply, Request};
 use snap_metrics::CountingService;
@@ -37,10 +37,10 @@ pub fn session_laws()
 /// The replies of a server's worker are too. Its service is a desk in a `CountingService`, and each session on it is a
 /// session of the desk's scanner. `snap_server` says that a worker's connections are such sessions, also with the gate
 /// around the service (`gate_laws`).
-pub fn worker_laws<R: Wait + Copy + Clock, M: Memory, D: Disk + Drop>()
-    ensures session { OfScannerLaw ⟦<CountingService<'static, Desk<R, M, D>> as Service>⟧.gives
+pub fn worker_laws<R: Wait + Copy + Clock, M: Memory, D: Disk + Drop, H: UpdateObserver + Drop>()
+    ensures session { OfScannerLaw ⟦<CountingService<'static, Desk<R, M, D, H>> as Service>⟧.gives
         (λ counted. counted.service) }
-    ensures told { WorkerLaw ⟦<CountingService<'static, Desk<R, M, D>> as Service>⟧.gives
+    ensures told { WorkerLaw ⟦<CountingService<'static, Desk<R, M, D, H>> as Service>⟧.gives
         (λ counted. counted.service) }
 {}
 

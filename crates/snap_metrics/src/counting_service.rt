@@ -146,6 +146,10 @@ impl<S: Service + Looking + Drop> Service for CountingService<'_, S> {
         self.count(request, reply, looks)
     }
 
+    fn let_wait(&self, may_wait: bool) {
+        self.service.let_wait(may_wait);
+    }
+
     fn refused(&self, why: Refusal) {
         self.metrics.refuse(why);
     }

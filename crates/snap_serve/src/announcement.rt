@@ -5,7 +5,7 @@ ghost use Rattle.snap_serve.specs.Serve.{listening_line, listening_text};
 ghost use Rattle.snap_stream.specs.Streams.{AppendsBeginning};
 
 use crate::report::print_line;
-use crate::update_observer::UpdateObserver;
+use crate::server_observer::ServerObserver;
 use snap_server::{Announce, Endpoint};
 use std::alloc::{AllocError, Global};
 use std::io::{self, Write};
@@ -37,7 +37,7 @@ fn line_of(alloc: Global, endpoint: &Endpoint) -> Result<String, AllocError>
     format!(in alloc; "listening {endpoint}\n")
 }
 
-impl<W: Write, H: UpdateObserver + Drop> Announce<W> for Announcement<H> {
+impl<W: Write, H: ServerObserver + Drop> Announce<W> for Announcement<H> {
     ghost announces = { λ announcement old new.
         Appends (W.contents old) (W.contents new) (string_bytes announcement.lines) };
 

@@ -16,12 +16,13 @@ mod observer;
 mod report;
 mod seen;
 mod server;
+mod server_observer;
 mod stores;
-mod update_observer;
 
 pub use bind::{Bind, ListenFault, Network};
 pub use fault::HostFault;
 pub use notes::log_note;
 pub use observer::{NoObserver, Observer};
 pub use server::{Environment, host};
-pub use update_observer::{NoUpdateObserver, UpdateObserver};
+pub use server_observer::ServerObserver;
+pub use snap_desk::{NoUpdateObserver, UpdateObserver};

@@ -5,7 +5,7 @@ ghost use Rattle.snap_session.specs.Asked.{AllAsked};
 ghost use Rattle.snap_server.specs.{Announced.Announced, Deals.GivesSoMany};
 
 use crate::observer::Observer;
-use snap_desk::{Desk, ReadOnlyService};
+use snap_desk::{Desk, ReadOnlyService, UpdateObserver};
 use snap_disk::Disk;
 use snap_server::{Announce, Gate, Limits, Listen, RunFault, ServerEvent, ServerFault, run};
 use snap_service::Memory;
@@ -25,8 +25,15 @@ pub(crate) struct ObserverTask<'a, M: Memory, O> {
 }
 
 /// Takes the last desk for the observer; the others are the workers'. `None` if there is no desk.
-pub(crate) fn take_observer<'a, R: Wait + Copy + Clock, M: Memory, D: Disk + Drop, O>(
-    desks: &mut Vec<Desk<R, M, D>>,
+pub(crate) fn take_observer<
+    'a,
+    R: Wait + Copy + Clock,
+    M: Memory,
+    D: Disk + Drop,
+    H: UpdateObserver + Drop,
+    O,
+>(
+    desks: &mut Vec<Desk<R, M, D, H>>,
     observer: &'a O,
 ) -> Result<Option<ObserverTask<'a, M, O>>, ServerFault>
     ensures fewer { length desks.new.items ≤ length desks.old.items - 1 }

@@ -14,8 +14,9 @@ use crate::bind::{Bind, ListenFault};
 use crate::fault::HostFault;
 use crate::observer::Observer;
 use crate::report::{print_report, print_served};
+use crate::server_observer::ServerObserver;
 use crate::stores::serve_store;
-use crate::update_observer::UpdateObserver;
+use snap_desk::UpdateObserver;
 use snap_disk::Disk;
 use snap_history::MAX_SCANNERS;
 use snap_metrics::Metrics;
@@ -86,7 +87,7 @@ where
     B::Listener: Drop,
     G: Gate + Sync,
     N: Fn(&ServerEvent) + Sync,
-    H: UpdateObserver + Copy + Send + Drop,
+    H: ServerObserver + UpdateObserver + Copy + Send + Drop,
     C: SystemReason,
     O: Observer + Sync,
     W: Write,
@@ -132,7 +133,7 @@ where
     B::Listener: Drop,
     G: Gate + Sync,
     N: Fn(&ServerEvent) + Sync,
-    H: UpdateObserver + Copy + Send + Drop,
+    H: ServerObserver + UpdateObserver + Copy + Send + Drop,
     C: SystemReason,
     O: Observer + Sync,
     W: Write,
@@ -206,7 +207,7 @@ where
     B::Listener: Drop,
     G: Gate + Sync,
     N: Fn(&ServerEvent) + Sync,
-    H: UpdateObserver + Copy + Send + Drop,
+    H: ServerObserver + UpdateObserver + Copy + Send + Drop,
     C: SystemReason,
     O: Observer + Sync,
     W: Write,

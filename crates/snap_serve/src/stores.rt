@@ -12,8 +12,7 @@ ghost use Rattle.snap_server.specs.{Announced.Announced, Deals.GivesSoMany};
 use crate::counted::CountedListener;
 use crate::observer::Observer;
 use crate::seen::{ObserverTask, run_observed, take_observer};
-use crate::update_observer::UpdateObserver;
-use snap_desk::{Desk, Outcome, Storer, StorerHandle};
+use snap_desk::{Desk, Outcome, Storer, StorerHandle, UpdateObserver};
 use snap_disk::Disk;
 use snap_memory::Scanner;
 use snap_metrics::{CountingService, Metrics};
@@ -56,7 +55,7 @@ fn open_stores<R: Wait + Copy, M: Memory, D: Disk + Drop, H: UpdateObserver + Co
     alloc: Global,
     writers: Vec<Writer<D>>,
     watch: H,
-) -> Result<(Vec<Storing<R, M, D, H>>, Vec<StorerHandle<M>>), AllocError>
+) -> Result<(Vec<Storing<R, M, D, H>>, Vec<StorerHandle<M, D>>), AllocError>
     requires writers { AreWriters M.table M.plan writers.items }
     requires opened { AreAsOpened writers.items }
     ensures stores { IfOk result (λ r. length r.0.items ≡ length writers.items) }
@@ -77,7 +76,7 @@ fn add_store<R: Wait + Copy, M: Memory, D: Disk + Drop, H: UpdateObserver + Copy
     writer: Writer<D>,
     watch: H,
     stores: &mut Vec<Storing<R, M, D, H>>,
-    handles: &mut Vec<StorerHandle<M>>,
+    handles: &mut Vec<StorerHandle<M, D>>,
 ) -> Result<(), AllocError>
     requires memory { IsOf M.table M.plan writer.seat }
     requires opened { IsAsOpened writer }
@@ -97,35 +96,37 @@ fn add_store<R: Wait + Copy, M: Memory, D: Disk + Drop, H: UpdateObserver + Copy
 }
 
 /// Makes a desk for each scanner.
-fn open_desks<R: Wait + Copy + Clock, M: Memory, D: Disk + Drop>(
+fn open_desks<R: Wait + Copy + Clock, M: Memory, D: Disk + Drop, H: UpdateObserver + Copy + Drop>(
     rt: R,
     alloc: Global,
-    handles: Vec<StorerHandle<M>>,
+    handles: Vec<StorerHandle<M, D>>,
     scanners: Vec<Scanner>,
-) -> Result<Vec<Desk<R, M, D>>, AllocError>
+    watch: H,
+) -> Result<Vec<Desk<R, M, D, H>>, AllocError>
     requires handles { AreHandles (segments M.plan) handles.items }
     requires scanners { AreScanners M.table M.plan scanners.items }
     ensures { IfOk result (λ desks. length desks.items ≡ length scanners.items) }
 {
     let mut desks = Vec::new(alloc);
     'scanners: for scanner in scanners {
-        desks.push(open_desk(rt, alloc, desks.len(), &handles, scanner)?)?;
+        desks.push(open_desk(rt, alloc, desks.len(), &handles, scanner, watch)?)?;
     }
     Ok(desks)
 }
 
 /// Makes the desk of this worker, with handles of its own.
-fn open_desk<R: Wait + Copy + Clock, M: Memory, D: Disk + Drop>(
+fn open_desk<R: Wait + Copy + Clock, M: Memory, D: Disk + Drop, H: UpdateObserver + Copy + Drop>(
     rt: R,
     alloc: Global,
     worker: usize,
-    handles: &Vec<StorerHandle<M>>,
+    handles: &Vec<StorerHandle<M, D>>,
     scanner: Scanner,
-) -> Result<Desk<R, M, D>, AllocError>
+    watch: H,
+) -> Result<Desk<R, M, D, H>, AllocError>
     requires handles { AreHandles (segments M.plan) handles.now.items }
     requires memory { IsOf M.table M.plan scanner }
 {
-    Ok(Desk::new(rt, alloc, worker, handles.clone()?, scanner))
+    Ok(Desk::new(rt, alloc, worker, handles.clone()?, scanner, watch))
 }
 
 /// Makes the desks and storers of a server over the memory of these writers and scanners.
@@ -135,7 +136,7 @@ fn open_parts<M, X, D, H>(
     writers: Vec<Writer<D>>,
     scanners: Vec<Scanner>,
     watch: H,
-) -> Result<(Vec<Desk<X, M, D>>, Vec<Storing<X, M, D, H>>), ServerFault>
+) -> Result<(Vec<Desk<X, M, D, H>>, Vec<Storing<X, M, D, H>>), ServerFault>
 where
     M: Memory,
     X: Wait + Clock + Copy,
@@ -150,7 +151,7 @@ where
     let Ok((stores, handles)) = open_stores::<X, M, D, H>(rt, alloc, writers, watch) else {
         return Err(ServerFault::NoMemory);
     };
-    let Ok(desks) = open_desks::<X, M, D>(rt, alloc, handles, scanners) else {
+    let Ok(desks) = open_desks::<X, M, D, H>(rt, alloc, handles, scanners, watch) else {
         return Err(ServerFault::NoMemory);
     };
     Ok((desks, stores))

@@ -1,7 +1,8 @@
 -- The calls of a listener, one after another.
 use Rattle.std.proofs.Common.{◌≡◌, ◌⊎◌, ℕ, zero, suc, nat_lt, if◌then◌else◌, Bool, true, false, List, [], ◌∷◌, length}
 use Rattle.std.proofs.Common.{slice_get, ◌+◌, Some, Result, Ok, Err, IfOk, arith, inl, inr, refl, sym, subst}
-use Rattle.snap_server.specs.Deals.{AsksInVain, CallsInVain, Deals, Gives, GivesSoMany, turn_after, turn_of}
+use Rattle.snap_server.specs.Deals.{AsksInVain, CallsInVain, Deals, Gives, GivesSoMany, IsDelivered, turn_after}
+use Rattle.snap_server.specs.Deals.{turn_of}
 use Rattle.snap_server.specs.declared.listen.{Accepted.Accepted, AcceptFault.AcceptFault}
 
 either : (b : Bool) (n : ℕ) → (if b then n else n) ≡ n
@@ -15,9 +16,9 @@ turn_first many = either (nat_lt 0 many) 0
 -- k connections were delivered and counted, and the next turn is known. `held` are the senders that the dispatcher then
 -- has.
 pub record HasDealt {L H : Type 0} (accepts : L → Result Accepted AcceptFault → L → Type 0)
-    (refuses : L → Type 0) (takes : H → Accepted → Type 0) (senders : List H) (k : ℕ) (old new : L)
+    (refuses : L → Type 0) (takes : H → Accepted → Type 0) (busy : H → Type 0) (senders : List H) (k : ℕ) (old new : L)
     (held : List H) (next dealt : ℕ) : Type 0 where
-  pub deals : Deals accepts takes senders k old new
+  pub deals : Deals accepts takes busy senders k old new
   pub same : refuses new → refuses old
   pub turn : turn_of next (length senders) ≡ turn_after (length senders) k
   pub counted : dealt ≡ k
@@ -28,14 +29,14 @@ one_more = grind arith
 
 -- one more connection was accepted, and delivered to the sender whose turn it was
 pub dealt_more : {L H : Type 0} (accepts : L → Result Accepted AcceptFault → L → Type 0)
-    (refuses : L → Type 0) (takes : H → Accepted → Type 0) (senders : List H) (k : ℕ) (a b c : L)
+    (refuses : L → Type 0) (takes : H → Accepted → Type 0) (busy : H → Type 0) (senders : List H) (k : ℕ) (a b c : L)
     (held held' : List H) (next next' dealt dealt' : ℕ)
-    → HasDealt accepts refuses takes senders k a b held next dealt
+    → HasDealt accepts refuses takes busy senders k a b held next dealt
     → (arrival : Accepted) × (sender : H) × Gives accepts b arrival c
-    × (slice_get held (turn_of next (length held)) ≡ Some sender) × takes sender arrival
+    × (slice_get held (turn_of next (length held)) ≡ Some sender) × IsDelivered takes busy held sender arrival
     → (refuses c → refuses b) → next' ≡ turn_of next (length held) + 1 → dealt' ≡ dealt + 1
-    → held' ≡ held → HasDealt accepts refuses takes senders (k + 1) a c held' next' dealt'
-dealt_more accepts refuses takes senders k a b c held held' next next' dealt dealt' before given
+    → held' ≡ held → HasDealt accepts refuses takes busy senders (k + 1) a c held' next' dealt'
+dealt_more accepts refuses takes busy senders k a b c held held' next next' dealt dealt' before given
     is_same in_turn counted kept = rw (one_more k) record {
       deals = (
         b,
@@ -44,7 +45,7 @@ dealt_more accepts refuses takes senders k a b c held held' next next' dealt dea
         before.deals,
         given.2,
         rw before.turn at (rw before.theirs at given.3),
-        given.4,
+        rw before.theirs at given.4,
       );
       same = λ fails. before.same (is_same fails);
       turn = rw in_turn (rw before.theirs (rw before.turn refl));
@@ -76,16 +77,16 @@ module _ {L : Type 0} (accepts : L → Result Accepted AcceptFault → L → Typ
       (gives.0, vain_behind a b gives.0 before gives.1, gives.2)
 
   -- the connections that were delivered were accepted
-  pub deals_accepted : {H : Type 0} (takes : H → Accepted → Type 0) (senders : List H) (k : ℕ)
-      (a b : L) → Deals accepts takes senders k a b → GivesSoMany accepts k a b
-  deals_accepted takes senders zero a b same = same
-  deals_accepted takes senders (suc k) a b (mid, arrival, sender, before, gives, turn, taken) =
-      (mid, arrival, deals_accepted takes senders k a mid before, gives)
+  pub deals_accepted : {H : Type 0} (takes : H → Accepted → Type 0) (busy : H → Type 0) (senders : List H) (k : ℕ)
+      (a b : L) → Deals accepts takes busy senders k a b → GivesSoMany accepts k a b
+  deals_accepted takes busy senders zero a b same = same
+  deals_accepted takes busy senders (suc k) a b (mid, arrival, sender, before, gives, turn, taken) =
+      (mid, arrival, deals_accepted takes busy senders k a mid before, gives)
 
   -- if the result is the number of delivered connections, as many were accepted
-  pub dealt_accepted : {H E : Type 0} (takes : H → Accepted → Type 0) (senders : List H) (first : L)
-      (end : Result ℕ E) → IfOk end (λ k. (left : L) × Deals accepts takes senders k first left)
+  pub dealt_accepted : {H E : Type 0} (takes : H → Accepted → Type 0) (busy : H → Type 0) (senders : List H) (first : L)
+      (end : Result ℕ E) → IfOk end (λ k. (left : L) × Deals accepts takes busy senders k first left)
       → IfOk end (λ k. (left : L) × GivesSoMany accepts k first left)
-  dealt_accepted takes senders first (Ok k) (left, deals) =
-      (left, deals_accepted takes senders k first left deals)
-  dealt_accepted takes senders first (Err why) deals = tt
+  dealt_accepted takes busy senders first (Ok k) (left, deals) =
+      (left, deals_accepted takes busy senders k first left deals)
+  dealt_accepted takes busy senders first (Err why) deals = tt

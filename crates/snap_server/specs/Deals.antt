@@ -1,5 +1,6 @@
 -- The connections that a listener accepts, and the senders to which they are delivered.
-use Rattle.std.specs.Prelude.{◌≡◌, ℕ, zero, suc, ◌+◌, nat_lt, if◌then◌else◌, List, [], ◌∷◌, length, slice_get, Some}
+use Rattle.std.specs.Prelude.{◌≡◌, ℕ, zero, suc, ◌+◌, ◌-◌, nat_lt, if◌then◌else◌, List, [], ◌∷◌, length}
+use Rattle.std.specs.Prelude.{slice_get, Some}
 use Rattle.std.specs.Prelude.{Result, Ok, Err}
 use Rattle.snap_server.specs.declared.listen.{Accepted.Accepted, AcceptFault.AcceptFault}
 
@@ -11,6 +12,14 @@ turn_of next many = if nat_lt next many then next else 0
 abbrev pub turn_after : (many k : ℕ) → ℕ
 turn_after many zero = 0
 turn_after many (suc k) = turn_of (turn_after many k + 1) many
+
+-- the connection was delivered to this sender, or, as this one is busy, to the last of them
+pub data IsDelivered {H : Type 0} (takes : H → Accepted → Type 0) (busy : H → Type 0) (senders : List H) (sender : H)
+    (arrival : Accepted) : Type 0 where
+  Taken : takes sender arrival → IsDelivered takes busy senders sender arrival
+  Passed : busy sender
+      → (last : H) × (slice_get senders (length senders - 1) ≡ Some last) × takes last arrival
+      → IsDelivered takes busy senders sender arrival
 
 -- `accepts` has the possible results of a call of the listener, and the listener after it.
 module _ {L : Type 0} (accepts : L → Result Accepted AcceptFault → L → Type 0) where
@@ -34,11 +43,11 @@ module _ {L : Type 0} (accepts : L → Result Accepted AcceptFault → L → Typ
   GivesSoMany (suc k) old new =
       (mid : L) × (arrival : Accepted) × GivesSoMany k old mid × Gives mid arrival new
 
-  -- `GivesSoMany`, and each connection was delivered to the sender whose turn it was, as `takes` says.
-  abbrev pub Deals : {H : Type 0} (takes : H → Accepted → Type 0) (senders : List H) → ℕ → L → L
-      → Type 0
-  Deals takes senders zero old new = new ≡ old
-  Deals {H} takes senders (suc k) old new =
-      (mid : L) × (arrival : Accepted) × (sender : H) × Deals takes senders k old mid
+  -- `GivesSoMany`, and each connection was delivered to the sender whose turn it was, or for that one to the last.
+  abbrev pub Deals : {H : Type 0} (takes : H → Accepted → Type 0) (busy : H → Type 0) (senders : List H)
+      → ℕ → L → L → Type 0
+  Deals takes busy senders zero old new = new ≡ old
+  Deals {H} takes busy senders (suc k) old new =
+      (mid : L) × (arrival : Accepted) × (sender : H) × Deals takes busy senders k old mid
       × Gives mid arrival new × (slice_get senders (turn_after (length senders) k) ≡ Some sender)
-      × takes sender arrival
+      × IsDelivered takes busy senders sender arrival

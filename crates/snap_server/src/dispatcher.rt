@@ -1,8 +1,8 @@
 //! The dispatcher: delivers accepted connections to the workers.
 ghost use Rattle.std.specs.Prelude.{◌≡◌, ◌⊎◌, ◌+◌, IfOk, IfErr, OnOk, OnErr, IsOk, Some, true, false, min, length};
-ghost use Rattle.std.specs.Prelude.{slice_get};
+ghost use Rattle.std.specs.Prelude.{slice_get, ◌-◌};
 ghost use Rattle.snap_server.specs.declared.listen.Accepted.{Accepted};
-ghost use Rattle.snap_server.specs.Deals.{Deals, Gives, turn_of};
+ghost use Rattle.snap_server.specs.Deals.{Deals, Gives, IsDelivered, turn_of};
 
 use crate::acceptor::Acceptor;
 use crate::fault::ServerFault;
@@ -12,7 +12,7 @@ use crate::server_event::ServerEvent;
 use std::rt::Clock;
 use std::sync::Wait;
 
-/// Delivers accepted connections to the workers, in turn.
+/// Delivers accepted connections to the workers, in turn; those of a busy worker to the last one.
 #[derive(Drop)]
 pub struct Dispatcher<'a, H: Deliver> {
     acceptor: Acceptor<'a>,
@@ -39,7 +39,7 @@ impl<'a, H: Deliver> Dispatcher<'a, H> {
         }
     }
 
-    /// Delivers a connection to the next worker; `false` if that worker has ended.
+    /// Delivers a connection to the next worker, or to the last if that one is busy; `false` if the worker has ended.
     fn deal<X: Wait + Clock>(&mut self, rt: &X, arrival: Accepted) -> bool
         ensures counted { result ≡ true
             → self.new.dealt ≡ min (self.old.dealt + 1) 18446744073709551615 }
@@ -48,7 +48,7 @@ impl<'a, H: Deliver> Dispatcher<'a, H> {
             → self.new.next ≡ turn_of self.old.next (length self.old.senders.now) + 1 }
         ensures handed { result ≡ true → (sender : H) × (slice_get self.old.senders.now
             (turn_of self.old.next (length self.old.senders.now)) ≡ Some sender)
-            × H.takes sender arrival }
+            × IsDelivered H.takes H.is_busy self.old.senders.now sender arrival }
         ensures senders { self.new.senders.now ≡ self.old.senders.now }
     {
         if self.next >= self.senders.len() {
@@ -58,11 +58,33 @@ impl<'a, H: Deliver> Dispatcher<'a, H> {
             return false;
         };
         self.next += 1;
-        if !sender.deliver(rt, arrival) {
+        if !self.deliver(rt, sender, arrival) {
             return false;
         }
         self.dealt = self.dealt.saturating_add(1);
         true
+    }
+
+    /// Delivers a connection to this worker, or to the last if this one is busy; `false` if the worker has ended.
+    fn deliver<X: Wait + Clock>(&self, rt: &X, sender: &H, arrival: Accepted) -> bool
+        ensures { result ≡ true
+            → IsDelivered H.takes H.is_busy self.now.senders.now sender.now arrival }
+    {
+        match sender.deliver(rt, arrival) {
+            Ok(is_taken) => is_taken,
+            Err(back) => self.deal_to_last(rt, back),
+        }
+    }
+
+    /// Delivers a connection to the last worker, which is never busy; `false` if it has ended.
+    fn deal_to_last<X: Wait + Clock>(&self, rt: &X, arrival: Accepted) -> bool
+        ensures { result ≡ true → (last : H) × (slice_get self.now.senders.now
+            (length self.now.senders.now - 1) ≡ Some last) × H.takes last arrival }
+    {
+        match self.senders.get(self.senders.len().saturating_sub(1)) {
+            Some(last) => matches!(last.deliver(rt, arrival), Ok(true)),
+            None => false,
+        }
     }
 
     /// Accepts one connection and delivers it to the next worker.
@@ -81,7 +103,7 @@ impl<'a, H: Deliver> Dispatcher<'a, H> {
         ensures handed { OnOk result ((arrival : Accepted) × (sender : H)
             × Gives L.accepts listener.old arrival listener.new
             × (slice_get self.old.senders.now (turn_of self.old.next (length self.old.senders.now))
-            ≡ Some sender) × H.takes sender arrival) }
+            ≡ Some sender) × IsDelivered H.takes H.is_busy self.old.senders.now sender arrival) }
         ensures senders { self.new.senders.now ≡ self.old.senders.now }
         ensures same { L.refuses listener.new → L.refuses listener.old }
         ensures faults { IfErr result (λ fault.
@@ -112,7 +134,7 @@ impl<'a, H: Deliver> Dispatcher<'a, H> {
         requires note { N.IsAlwaysCallable note.now }
         ensures dealt { OnOk result (self.new.dealt ≡ most) }
         ensures deals { OnOk result
-            (Deals L.accepts H.takes self.old.senders.now most listener.old listener.new) }
+            (Deals L.accepts H.takes H.is_busy self.old.senders.now most listener.old listener.new) }
         ensures none { most ≡ 0 → IsOk result }
         ensures faults { IfErr result (λ fault.
             (fault ≡ ServerFault.AcceptFailed) ⊎ (fault ≡ ServerFault.PollFailed)) }
@@ -142,7 +164,7 @@ impl<'a, H: Deliver> Dispatcher<'a, H> {
         ensures asked { IfOk result (λ k. connections ≡ Some k) }
         ensures dealt { IfOk result (λ k. self.new.dealt ≡ k) }
         ensures deals { IfOk result (λ k.
-            Deals L.accepts H.takes self.old.senders.now k listener.old listener.new) }
+            Deals L.accepts H.takes H.is_busy self.old.senders.now k listener.old listener.new) }
         ensures none { connections ≡ Some 0 → IsOk result }
         ensures faults { IfErr result (λ fault.
             (fault ≡ ServerFault.AcceptFailed) ⊎ (fault ≡ ServerFault.PollFailed)) }

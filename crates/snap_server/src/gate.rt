@@ -71,6 +71,10 @@ impl<S: Service + Drop, G: Gate> Service for Gated<'_, S, G> {
         reply
     }
 
+    fn let_wait(&self, may_wait: bool) {
+        self.service.let_wait(may_wait);
+    }
+
     fn refused(&self, why: Refusal) {
         self.service.refused(why);
     }

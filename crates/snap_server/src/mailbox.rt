@@ -1,5 +1,5 @@
 //! A worker's mailbox, by which other threads send it connections and messages.
-ghost use Rattle.std.specs.Prelude.{◌≡◌, IfOk, true};
+ghost use Rattle.std.specs.Prelude.{◌≡◌, IfOk, IfErr, true};
 ghost use Rattle.snap_server.specs.declared.listen.Accepted.{Accepted};
 
 use crate::listen::Accepted;
@@ -34,9 +34,14 @@ pub trait Deliver {
     /// The connection was delivered to the worker.
     ghost takes: { Self → Accepted → Type 0 };
 
-    /// Delivers a connection and wakes the worker; `false` if it has ended.
-    fn deliver<X: Wait + Clock>(&self, rt: &X, arrival: Accepted) -> bool
-        ensures { result ≡ true → takes self.now arrival };
+    /// The worker was busy with a request of its only connection.
+    ghost is_busy: { Self → Type 0 };
+
+    /// Delivers a connection and wakes the worker; `Ok(false)` if it has ended. If it is busy, the connection is
+    /// returned.
+    fn deliver<X: Wait + Clock>(&self, rt: &X, arrival: Accepted) -> Result<bool, Accepted>
+        ensures taken { IfOk result (λ is_taken. is_taken ≡ true → takes self.now arrival) }
+        ensures busy { IfErr result (λ back. (back ≡ arrival) × is_busy self.now) };
 
     /// Sends a message and wakes the worker; `false` if it has ended.
     fn post<X: Wait + Clock>(&self, rt: &X, message: Message<Self::Outcome>) -> bool;
@@ -56,6 +61,9 @@ pub struct MailboxSender<O: Drop> {
     messages: Sender<Message<O>>,
     waker: Waker,
     sleeps: Arc<AtomicBool, Global>,
+    busy: Arc<AtomicBool, Global>,
+    /// Whether its worker is the last one, which is never busy.
+    is_last: bool,
     /// The index of its worker. Only clauses read it.
     place: usize,
 }
@@ -67,16 +75,20 @@ pub struct Mailbox<O: Drop> {
     pub messages: Receiver<Message<O>>,
     /// Whether the worker sleeps, or is about to.
     sleeps: Arc<AtomicBool, Global>,
+    /// Whether the worker is busy with its only connection, or gets another one just now. Whoever changes it from
+    /// `false` changes it back. That of the last worker is always `true`, so that nobody changes it.
+    busy: Arc<AtomicBool, Global>,
     /// The index of its worker. Only clauses read it.
     place: usize,
 }
 
 impl<O: Drop> MailboxSender<O> {
-    /// Makes both sides of a mailbox, for the worker at index `place`.
+    /// Makes both sides of a mailbox, for the worker at index `place`, and whether that is the last one.
     pub fn new(
         alloc: Global,
         waker: Waker,
         place: usize,
+        is_last: bool,
     ) -> Result<(MailboxSender<O>, Mailbox<O>), AllocError>
         ensures sender { IfOk result (λ made. made.0.place ≡ place) }
         ensures mailbox { IfOk result (λ made. made.1.place ≡ place) }
@@ -84,10 +96,12 @@ impl<O: Drop> MailboxSender<O> {
         let (arrivals, arrived) = unbounded(alloc)?;
         let (messages, came) = unbounded(alloc)?;
         let sleeps = Arc::new(alloc, AtomicBool::new(false))?;
+        let busy = Arc::new(alloc, AtomicBool::new(is_last))?;
         let mailbox = Mailbox {
             arrivals: arrived,
             messages: came,
             sleeps: Arc::try_clone(&sleeps)?,
+            busy: Arc::try_clone(&busy)?,
             place,
         };
         let sender = MailboxSender {
@@ -95,6 +109,8 @@ impl<O: Drop> MailboxSender<O> {
             messages,
             waker,
             sleeps,
+            busy,
+            is_last,
             place,
         };
         Ok((sender, mailbox))
@@ -130,6 +146,24 @@ impl<O: Drop> Mailbox<O> {
         !self.arrivals.is_empty()
     }
 
+    /// Marks the worker as busy with its only connection, so that no other one is delivered to it; `false` if one is
+    /// delivered, or the worker is the last one.
+    pub fn try_be_busy(&self) -> bool {
+        if self.busy.swap(true, Ordering::SeqCst) {
+            return false;
+        }
+        let is_alone = !self.has_arrivals();
+        self.be_free(!is_alone);
+        is_alone
+    }
+
+    /// Marks the worker as busy no more, if it was.
+    pub fn be_free(&self, was_busy: bool) {
+        if was_busy {
+            self.busy.store(false, Ordering::SeqCst);
+        }
+    }
+
     /// Marks the worker as about to sleep, then checks the mailbox. If the mailbox isn't empty the
     /// worker may not sleep, and is marked as awake.
     pub fn may_sleep(&self) -> bool {
@@ -153,8 +187,18 @@ impl<O: Drop> Deliver for MailboxSender<O> {
     // Nothing is known of what passes through a channel.
     ghost takes = { λ _ _. Unit {0} };
 
-    fn deliver<X: Wait + Clock>(&self, rt: &X, arrival: Accepted) -> bool {
-        self.send(rt, &self.arrivals, arrival)
+    ghost is_busy = { λ _. Unit {0} };
+
+    fn deliver<X: Wait + Clock>(&self, rt: &X, arrival: Accepted) -> Result<bool, Accepted> {
+        if self.is_last {
+            return Ok(self.send(rt, &self.arrivals, arrival));
+        }
+        if self.busy.swap(true, Ordering::SeqCst) {
+            return Err(arrival);
+        }
+        let is_sent = self.send(rt, &self.arrivals, arrival);
+        self.busy.store(false, Ordering::SeqCst);
+        Ok(is_sent)
     }
 
     fn post<X: Wait + Clock>(&self, rt: &X, message: Message<O>) -> bool {

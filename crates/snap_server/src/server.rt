@@ -93,9 +93,17 @@ where
 {
     let mut workers = Vec::new(alloc);
     let mut senders = Vec::new(alloc);
+    let count = services.len();
     'services: for service in services {
         let place = workers.len();
-        let (worker, sender) = Worker::new(net, alloc, service, place, idle.map(IdleTimeout::of))?;
+        let (worker, sender) = Worker::new(
+            net,
+            alloc,
+            service,
+            place,
+            place + 1 == count,
+            idle.map(IdleTimeout::of),
+        )?;
         if workers.push(worker).is_err() || senders.push(sender).is_err() {
             return Err(ServerFault::NoMemory);
         }
@@ -148,7 +156,7 @@ where
     requires note { N.IsAlwaysCallable note.now }
     ensures whole { OnOk result (is_whole ≡ true) }
     ensures asked { IfOk result (λ k. connections ≡ Some k) }
-    ensures deals { IfOk result (λ k. Deals L.accepts H.takes dispatcher.entry.senders.now k
+    ensures deals { IfOk result (λ k. Deals L.accepts H.takes H.is_busy dispatcher.entry.senders.now k
         listener.old listener.new) }
     ensures accepted { IfOk result (λ k. GivesSoMany L.accepts k listener.old listener.new) }
     ensures deaf { IfErr result (λ why.
@@ -172,7 +180,7 @@ where
 /// and accepts on the calling thread.
 ///
 /// It succeeds only if each worker has served all its connections, and each connection was
-/// delivered to the sender whose turn it was.
+/// delivered to the sender whose turn it was, or for a busy one to the last.
 fn run_threads<X, L, K, H, B, N, T, A>(
     rt: &X,
     alloc: Global,
@@ -198,7 +206,7 @@ where
     requires needs { K.needs }
     ensures asked { IfOk result (λ k. limits.connections ≡ Some k) }
     ensures deals { IfOk result (λ k.
-        (left : L) × Deals L.accepts H.takes senders.now k listener left) }
+        (left : L) × Deals L.accepts H.takes H.is_busy senders.now k listener left) }
     ensures served { OnOk result (All K.serves workers.items) }
     ensures deaf { IfErr result (λ why.
         why ≡ RunFault.Server ServerFault.AcceptFailed → L.refuses listener) }
@@ -218,7 +226,7 @@ where
                 × N.IsAlwaysCallable note.now × K.needs × (threads.items ≡ []) }
             ensures asked { IfOk result.0 (λ k. limits.connections ≡ Some k) }
             ensures deals { IfOk result.0 (λ k.
-                (left : L) × Deals L.accepts H.takes senders.entry.now k listener left) }
+                (left : L) × Deals L.accepts H.takes H.is_busy senders.entry.now k listener left) }
             ensures served { OnOk result.0 (All K.serves workers.items) }
             ensures deaf { IfErr result.0 (λ why.
                 why ≡ RunFault.Server ServerFault.AcceptFailed → L.refuses listener) }
@@ -254,7 +262,7 @@ where
 
 /// Serves the listener's connections until as many as the limits allow were accepted and closed,
 /// and returns their number. Connections are delivered in turn to the workers, one for each
-/// service.
+/// service; those of a worker that is busy with its only connection to the last one.
 ///
 /// While the limit of open connections is reached, clients wait in the listener's queue.
 ///

@@ -55,6 +55,16 @@ impl<S: Service + Drop> Sessions<S> {
         self.connections.is_empty()
     }
 
+    /// Whether there is one connection.
+    pub fn is_single(&self) -> bool {
+        self.connections.len() == 1
+    }
+
+    /// Tells the service whether it may let its connections wait.
+    pub fn let_wait(&self, may_wait: bool) {
+        self.service.let_wait(may_wait);
+    }
+
     /// An exclusive upper bound of all connections' keys.
     pub fn places(&self) -> usize {
         self.connections.capacity()

@@ -127,13 +127,15 @@ impl<S: Service + Drop> Worker<S>
 where
     S::Outcome: Drop,
 {
-    /// Makes a worker without connections, for index `place`, and the sender to its mailbox.
+    /// Makes a worker without connections, for index `place`, and the sender to its mailbox. The last worker is never
+    /// busy, so that there is one for each connection that arrives.
     /// `timeout` is the idle timeout of its connections; `None` for no limit.
     pub fn new(
         net: &impl Net,
         alloc: Global,
         service: S,
         place: usize,
+        is_last: bool,
         timeout: Option<IdleTimeout>,
     ) -> Result<(Worker<S>, MailboxSender<S::Outcome>), ServerFault>
         ensures service { IfOk result (λ made. made.0.sessions.service ≡ service) }
@@ -149,7 +151,7 @@ where
         let Ok(events) = Events::with_capacity(alloc, MAX_EVENTS) else {
             return Err(ServerFault::NoMemory);
         };
-        let Ok((sender, mailbox)) = MailboxSender::new(alloc, waker, place) else {
+        let Ok((sender, mailbox)) = MailboxSender::new(alloc, waker, place, is_last) else {
             return Err(ServerFault::NoMemory);
         };
         let worker = Worker {
@@ -408,7 +410,10 @@ where
             self.wait()?;
             self.take_events(rt, limit, note);
             self.look_around(rt, limit, note);
+            let is_busy = self.sessions.is_single() && self.mailbox.try_be_busy();
+            self.sessions.let_wait(is_busy);
             self.serve_listed(&mut piece, limit, note);
+            self.mailbox.be_free(is_busy);
         }
         unreachable!()
     }

@@ -6,7 +6,7 @@ use log::{error, info};
 use snap_args::VERSION;
 use snap_disk::Refusal;
 use snap_log::Lines;
-use snap_serve::UpdateObserver;
+use snap_serve::{ServerObserver, UpdateObserver};
 use snap_server::{RunFault, ServerFault};
 use std::fmt::{self, Display};
 use std::rt::Clock;
@@ -46,7 +46,7 @@ impl<X: Wait + Clock> ServerLog<'_, X> {
     }
 }
 
-impl<X: Wait + Clock> UpdateObserver for ServerLog<'_, X> {
+impl<X: Wait + Clock> ServerObserver for ServerLog<'_, X> {
     fn begun(&self, listening: &str) {
         let process = self.process;
         let (number, count) = (libc::getpid(), process.files.len());
@@ -72,7 +72,9 @@ impl<X: Wait + Clock> UpdateObserver for ServerLog<'_, X> {
             Err(_) => {}
         }
     }
+}
 
+impl<X: Wait + Clock> UpdateObserver for ServerLog<'_, X> {
     fn told(&self, segment: usize, number: u64, told: Result<u64, Refusal>) {
         let metrics = self.process.metrics;
         if segment < metrics.segment_count() {

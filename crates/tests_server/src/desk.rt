@@ -2,7 +2,7 @@
 use crate::frames::{EMPTY, FENCED, HI, Pair, REPEAT, SCAN, STORED_0, halves};
 use crate::stores::{new_files, open};
 use crossbeam_channel::{Sender, bounded};
-use snap_desk::{Desk, Outcome, Storer};
+use snap_desk::{Desk, NoUpdateObserver, Outcome, Storer};
 use snap_devices::MemDisk;
 use snap_memory::Scanner;
 use snap_service::Memory;
@@ -40,7 +40,7 @@ fn work_storer<R: Wait + Copy, M: Memory>(
 /// The bytes that a peer which sends these bytes is owed at once. Then the desk is dropped.
 fn ask<R: Wait + Copy + Clock, M: Memory>(
     alloc: Global,
-    mut desk: Desk<R, M, MemDisk>,
+    mut desk: Desk<R, M, MemDisk, NoUpdateObserver>,
     bytes: &[u8],
 ) -> Result<Vec<u8>, AllocError> {
     let mut session = Session::new(alloc);
@@ -68,7 +68,14 @@ fn run_memory<R: Threads + Wait + Clock + Sync + Send + Copy, M: Memory + Send>(
         storers.push(storer)?;
         windows.push(window)?;
     }
-    let desk: Desk<R, M, MemDisk> = Desk::new(*rt, alloc, 0, windows, scanner);
+    let desk: Desk<R, M, MemDisk, NoUpdateObserver> = Desk::new(
+        *rt,
+        alloc,
+        0,
+        windows,
+        scanner,
+        NoUpdateObserver,
+    );
     if !has_storers {
         storers.clear();
     }
