@@ -1,7 +1,7 @@
 -- A crash at any moment from an opening on, and at any cut once all writers and scanners are back.
 use Rattle.std.proofs.Common.{◌≡◌, ℕ, zero, suc, inl, List, [], ◌∷◌, ◌++◌, length, map, Some, slice_get, refl, sym}
-use Rattle.std.proofs.Common.{subst, ◌∙◌, arith}
-use Rattle.std.proofs.lemmas.{List.length-map, Option.slice_get_within, Option.same_Some}
+use Rattle.std.proofs.Common.{◌∙◌, arith}
+use Rattle.std.proofs.lemmas.{List.length-map, Option.same_Some}
 use Rattle.snap_disk.specs.declared.refusal.Refusal.{Refusal}
 use Rattle.snap_slot.proofs.{Readings.holds_same, Rest.at_rest_leaves}
 use Rattle.snap_segment.specs.Segment.{SegmentState}
@@ -15,7 +15,7 @@ use Rattle.snap_restart.specs.Opened.{IsBack, IsOpened, IsStopped, AreFresh}
 use Rattle.snap_restart.specs.Crash.{AnyMoment, AllHonest, AreOpened, StayKept, AnyCut}
 use Rattle.snap_restart.specs.{LifeCrash.Begun, LifeCrash.IsRecovered, Closed.AreBack, Closed.IsHistory}
 use Rattle.snap_restart.proofs.{LifeStarts.StartsAfter, LifeStarts.recovered_on, Placed.same_file, Lives.life_fits}
-use Rattle.snap_restart.proofs.{LifeCrash.cut_recovers, LifeCrash.moment_recovers, Removals.get_map}
+use Rattle.snap_restart.proofs.{LifeCrash.cut_recovers, LifeCrash.moment_recovers, Removals.get_map, Pairs.partner_of}
 use Rattle.snap_disk.specs.declared.disk.Disk as Disk
 
 pub unmap : {A B : Type 0} (f : A → B) (xs : List A) (i : ℕ) (y : B)
@@ -53,10 +53,7 @@ module _ {D : Type 0} (disk : Disk.Ghosts D) where
       → (i : ℕ) (w : WriterState D) → slice_get writers i ≡ Some w
       → (d : D) × (slice_get devices i ≡ Some d) × IsOpened disk (length devices) i d w.segment
   opened_on devices writers were i w at =
-      let within = slice_get_within writers i w at in
-      let size = were.size in
-      let d = element devices i (omega (arith, within, size, length-map writers its_segment)) in
-      (d.0, d.1, were.each i d.0 w.segment d.1 (get_map its_segment writers i w at))
+      partner_of _ devices (map its_segment writers) i w.segment were (get_map its_segment writers i w at)
 
   -- the writer starts with what the files hold
   starts_with : (devices : List D) (writers : List (WriterState D))
@@ -104,22 +101,16 @@ module _ {D : Type 0} (disk : Disk.Ghosts D) where
       let seat = back.writers_are i w at in
       let none = (fresh.writers_are i w at).0 in
       let number : number_of w ≡ number_after (starts back.plan) [] i =
-      (λ t. number_after (starts (seat.plan_is t)) (none t) (seat.low_is t)) in
+      λ t. number_after (starts (seat.plan_is t)) (none t) (seat.low_is t) in
       let value : value_of w ≡ value_after (starts back.plan) [] i =
-      (λ t. value_after (starts (seat.plan_is t)) (none t) (seat.low_is t)) in
-      let paired_number = pair.number_is in
-      (omega (arith, number, paired_number), pair.value_is ∙ value)) in
+      λ t. value_after (starts (seat.plan_is t)) (none t) (seat.low_is t) in
+      (omega (arith, number, pair.number_is), pair.value_is ∙ value)) in
       let any_moment : AnyMoment disk back.plan writers =
       λ s kept places files count each left.
-      moment_recovers disk back.plan (length writers) s kept
-      places files count
-      (λ i p at. (
+      moment_recovers disk back.plan (length writers) s kept places files count (λ i p at.
       let e = each i p at in
-      let x = e.0 in (
-        (life_fits disk back.plan (length writers) i x.0
-            x.1 x.2 p (all_are i x.0 x.3) x.4 x.5).0,
-        e.1,
-      )))
+      let x = e.0 in
+      ((life_fits disk back.plan (length writers) i x.0 x.1 x.2 p (all_are i x.0 x.3) x.4 x.5).0, e.1))
       left in
       record {
         plan = back.plan;
@@ -128,21 +119,19 @@ module _ {D : Type 0} (disk : Disk.Ghosts D) where
         writers_are = all_are;
         starts_are = starts_are;
         any_moment = any_moment;
-        again = λ start h crashed r hon. (
+        again = λ start h crashed r hon.
             let with = starts_with devices writers were start h (Begun crashed) r hon in
             let after = starts_after writers back.plan start (h ++ r.begun_too) starts_are with in
             record {
               more = r.begun_too;
-              were_begun = λ j u e. (
-                  let b = r.were_begun j u e in
-                  let low = b.0 in (omega (arith, low, size), b.1));
+              were_begun = λ j u e. let b = r.were_begun j u e in (omega (arith, b.0, size), b.1);
               once = r.once;
               starts_are = with;
               any_moment = λ s kept places files count each left.
                   recovered_on (length writers) start (h ++ r.begun_too) (starts back.plan) after
                   (updates kept.history) (Begun places) files
                   (any_moment s kept places files count each left).1;
-            });
+            };
       }
 
   -- ---- a crash during an opening
@@ -152,10 +141,10 @@ module _ {D : Type 0} (disk : Disk.Ghosts D) where
       → StayKept disk olds news
   stay_kept olds news back n start h crashed files kept size left = kept files (record {
     size = size;
-    each = λ i d b ed eb. (
+    each = λ i d b ed eb.
         let e = partner _ olds news i d back ed in
         let was = left i d e.0 b ed e.1 eb in
-        (e.2.any_time was.0).each b was.1);
+        (e.2.any_time was.0).each b was.1;
   })
 
   pub backs_opened : (devices : List D) (writers : List (WriterState D))
@@ -163,10 +152,9 @@ module _ {D : Type 0} (disk : Disk.Ghosts D) where
       → Pairs (λ _. IsBack disk) devices (map its_device writers)
   backs_opened devices writers were = record {
     size = were.size ∙ length-map writers its_segment ∙ sym (length-map writers its_device);
-    each = λ i d e ed ee. (
+    each = λ i d e ed ee.
         let w = unmap its_device writers i e ee in
-        subst (λ (x : D). IsBack disk d x) w.2
-        (were.each i d w.0.segment ed (get_map its_segment writers i w.0 w.1)).back);
+        rw w.2 at (were.each i d w.0.segment ed (get_map its_segment writers i w.0 w.1)).back;
   }
 
   pub backs_stopped : (olds news : List D) (why : Refusal) (k : ℕ)
@@ -180,20 +168,12 @@ module _ {D : Type 0} (disk : Disk.Ghosts D) where
       → AreBack writers scanners → IsHistory h writers scanners
       → AnyCut disk h writers scanners
   any_cut h writers scanners back history plan places saw files size lived seen consistent left =
-      let some = back.some in
       cut_recovers disk plan h places saw files
-      (omega (arith, some, size))
-      (λ i p e. (
-      let x = lived i p e in (
-        x.0,
-        x.1,
-        x.2,
-        subst (λ (n : ℕ). IsWriterOf disk plan n i x.0) (sym size) x.4,
-        x.5,
-        x.6,
-        (history.writers_saw i x.1 x.3).0,
-      )))
-      (λ k l e. (
+      (omega (arith, back.some, size))
+      (λ i p e.
+      let x = lived i p e in
+      (x.0, x.1, x.2, rw size x.4, x.5, x.6, (history.writers_saw i x.1 x.3).0))
+      (λ k l e.
       let x = seen k l e in
-      beginning-trans l x.1.seen h x.3 (history.scanners_saw x.0 x.1 x.2)))
+      beginning-trans l x.1.seen h x.3 (history.scanners_saw x.0 x.1 x.2))
       consistent left

@@ -7,7 +7,6 @@ use Rattle.snap_disk.specs.declared.disk.Disk as Disk
 
 pub stay_stored : {D : Type 0} (disk : Disk.Ghosts D) → OnlyNow disk → (devices : List D)
     (writers : List (WriterState D)) → AreOpened disk devices writers → AllStays disk writers
-stay_stored disk only_now devices writers opened i w a z before life at first lived hon =
-    stays disk opened.plan (length writers) i a life z only_now
+stay_stored disk only_now devices writers opened i w a z before life at first =
+    stays disk opened.plan (length writers) i only_now a z life
     (lived_is disk opened.plan (length writers) i w a before (opened.writers_are i w at) first)
-    lived hon

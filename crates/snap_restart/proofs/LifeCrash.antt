@@ -1,21 +1,21 @@
 -- A crash of all devices: at a consistent cut, and at a moment of the registers.
-use Rattle.std.proofs.Common.{◌≡◌, ◌⊎◌, ⊎_elim, ℕ, zero, suc, ◌+◌, ◌<◌, ◌≤◌, inl, inr, List, [], ◌∷◌, length, map, Some}
-use Rattle.std.proofs.Common.{slice_get, refl, ap, sym, subst, ◌∙◌, arith}
-use Rattle.std.proofs.lemmas.{List.length-append, List.length-map, Option.same_Some, Option.slice_get_within}
+use Rattle.std.proofs.Common.{◌≡◌, ◌⊎◌, ⊎_elim, ℕ, zero, suc, ◌+◌, ◌<◌, ◌≤◌, inl, inr, List, [], ◌∷◌, length, Some}
+use Rattle.std.proofs.Common.{slice_get, refl, ap, sym, ◌∙◌, arith}
+use Rattle.std.proofs.lemmas.{List.length-append, List.length-map, Option.same_Some}
 use Rattle.snap_register.specs.History.{starts, updates, only}
 use Rattle.snap_register.proofs.Updates.{updates_count, beginning_is}
 use Rattle.snap_register.specs.{Registers.Moment, declared.plan.Plan.Plan, declared.plan.SeatView.SeatView, Rule.Kept}
 use Rattle.snap_slot.specs.Layout.{IsFileOf}
 use Rattle.snap_history.specs.History.{Update, IsBeginning, updates_of, number_after, value_after}
 use Rattle.snap_history.proofs.Beginnings.{beginning-self, beginning-trans, number-beginning}
-use Rattle.snap_history.{specs.Pairs.Pairs, proofs.Pairs.element}
+use Rattle.snap_history.{specs.Pairs.Pairs, proofs.Pairs.element, proofs.Pairs.partner}
 use Rattle.snap_memory.proofs.ScanAnswer.{same_value}
 use Rattle.snap_writer.specs.Writer.{number_of, value_of}
 use Rattle.snap_writer.specs.Life.{Place, HasBegun, seen_at, CrashLeaves, IsPlaceOf}
 use Rattle.snap_restart.specs.LifeCrash.{all_seen, Begun, IsRecovered}
 use Rattle.snap_restart.specs.LifeLaws.{CutLaw, ConsistentLaw, IsSeatOf, IsSeenIn}
-use Rattle.snap_restart.proofs.{LifeOrder.longest, LifeOrder.has_early, Merge.Found, Merge.merge, Placed.crash_leaves}
-use Rattle.snap_restart.proofs.Lives.{life_fits}
+use Rattle.snap_restart.proofs.{LifeOrder.longest, LifeOrder.has_early, Merge.FileAt, Merge.all_found}
+use Rattle.snap_restart.proofs.{Placed.same_file, Placed.crash_leaves, Lives.life_fits}
 use mathlib.Core.Option.{some}
 use lib.ListN.{get_elem?}
 use Rattle.snap_disk.specs.declared.disk.Disk as Disk
@@ -38,7 +38,7 @@ module _ {D : Type 0} where
       → (j : ℕ) (x : List Update) → slice_get (all_seen writers scanners) j ≡ Some x → P x
   each_seen P [] scanners theirs others j x e = others j x e
   each_seen P (w ∷ ws) scanners theirs others zero x e =
-      subst P (same_Some (seen_at w) x e) (theirs 0 w refl)
+      rw (same_Some (seen_at w) x e) at (theirs 0 w refl)
   each_seen P (w ∷ ws) scanners theirs others (suc j) x e =
       each_seen P ws scanners (λ i p at. theirs (suc i) p at) others j x e
 
@@ -50,9 +50,7 @@ seat_saw plan s kept j v at = beginning_is v.seen kept.history (kept.each_seat j
 
 pub seen_saw : (plan : Plan) (s : Moment) (kept : Kept plan s) (seen : List Update)
     → IsSeenIn s.views seen → IsBeginning seen (updates kept.history)
-seen_saw plan s kept seen (j, v, at, is) =
-    subst (λ (y : List Update). IsBeginning y (updates kept.history)) (sym is)
-    (seat_saw plan s kept j v at)
+seen_saw plan s kept seen (j, v, at, is) = rw is (seat_saw plan s kept j v at)
 
 -- a writer that has shown all its updates in the history
 pub record Agrees {D : Type 0} (plan : Plan) (h : List Update) (i : ℕ) (p : Place D)
@@ -62,22 +60,12 @@ pub record Agrees {D : Type 0} (plan : Plan) (h : List Update) (i : ℕ) (p : Pl
 
 seat_agrees : {D : Type 0} (plan : Plan) (s : Moment) (kept : Kept plan s)
     (i : ℕ) (p : Place D) → IsSeatOf s.views i p → Agrees plan (updates kept.history) i p
-seat_agrees plan s kept i p seat =
-    let h = updates kept.history in
-    let v = seat.1 in
-    let low : v.low ≡ i = seat.3.0 in
-    let high : v.high ≡ i + 1 = seat.3.1 in
-    let end : v.seen_end ≡ i + 1 = seat.3.2 in
-    let writes = (kept.each_seat seat.0 v seat.2).role i (omega arith, omega arith) in
-    let all : only i v.seen ≡ only i kept.history = writes.all (omega arith) in
-    let counted : length (only i v.seen) ≡ length (only i kept.history) = ap length all in
-    let same : updates_of i h ≡ updates_of i (seen_at p) = updates_count i kept.history
-    ∙ sym counted ∙ sym (updates_count i v.seen)
-    ∙ ap (λ (y : List Update). updates_of i y) (sym seat.4) in
-    record {
-      saw = seen_saw plan s kept (seen_at p) (seat.0, v, seat.2, seat.4);
-      whole = omega (arith, same);
-    }
+seat_agrees plan s kept i p (j, v, at, writes, is) =
+    let all : only i v.seen ≡ only i kept.history =
+    ((kept.each_seat j v at).role i (omega arith, omega arith)).all (omega arith) in
+    let same : updates_of i (seen_at p) ≡ updates_of i (updates kept.history) =
+    rw (is, updates_count, updates_count, all) in
+    record { saw = seen_saw plan s kept (seen_at p) (j, v, at, is); whole = omega (arith, same) }
 
 pub moment_consistent : {D : Type 0} → ConsistentLaw D
 moment_consistent plan s kept writers scanners seats seen j x e i p at =
@@ -98,23 +86,16 @@ module _ {D : Type 0} (disk : Disk.Ghosts D) where
       → (IsFileOf i n (number_after (starts plan) h i) (value_after (starts plan) h i) b)
       ⊎ ((v : List ℕ) × HasBegun p v × IsFileOf i n (number_after (starts plan) h i + 1) v b)
   agreed plan h n i p b is a left =
-      let w = p.writer in
       let of = is.writer_is in
-      let number : number_of w ≡ number_after (starts plan) (seen_at p) i =
-      (λ t. number_after (starts (of.plan_is t)) (seen_at p) (of.low_is t)) in
-      let value : value_of w ≡ value_after (starts plan) (seen_at p) i =
-      (λ t. value_after (starts (of.plan_is t)) (seen_at p) (of.low_is t)) in
-      let rises = number-beginning (starts plan) (seen_at p) h i a.saw in
-      let whole = a.whole in
+      let number : number_of p.writer ≡ number_after (starts plan) (seen_at p) i =
+      λ t. number_after (starts (of.plan_is t)) (seen_at p) (of.low_is t) in
+      let value : value_of p.writer ≡ value_after (starts plan) (seen_at p) i =
+      λ t. value_after (starts (of.plan_is t)) (seen_at p) (of.low_is t) in
       let same : number_after (starts plan) (seen_at p) i ≡ number_after (starts plan) h i =
-      omega (arith, rises, whole) in
-      let now : number_of w ≡ number_after (starts plan) h i = number ∙ same in
-      let value_now : value_of w ≡ value_after (starts plan) h i =
-      value ∙ same_value (starts plan) h (seen_at p) h i a.saw (beginning-self h) same in
-      ⊎_elim
-      (λ old. inl (subst (λ (y : ℕ × List ℕ). IsFileOf i n y.0 y.1 b)
-      (λ t. (now t, value_now t)) old))
-      (λ new. inr (new.0, new.1, subst (λ (k : ℕ). IsFileOf i n (k + 1) new.0 b) now new.2))
+      omega (arith, number-beginning (starts plan) (seen_at p) h i a.saw, a.whole) in
+      let still = same_value (starts plan) h (seen_at p) h i a.saw (beginning-self h) same in
+      ⊎_elim (λ old. inl (same_file refl refl (number ∙ same) (value ∙ still) old))
+      (λ new. inr (new.0, new.1, rw (number ∙ same) at new.2))
       (crash_leaves disk plan n i p is b left)
 
   recovered : (plan : Plan) (n : ℕ) (h : List Update) (writers : List (Place D))
@@ -124,29 +105,14 @@ module _ {D : Type 0} (disk : Disk.Ghosts D) where
       → Pairs (λ _. CrashLeaves disk) writers files
       → IsRecovered n (starts plan) h (Begun writers) files
   recovered plan n h writers files count each left =
-      let size = left.size in
-      let Kind : ℕ → ℕ → List ℕ → Type 0 =
-      λ i k v. (b : List ℕ) → slice_get files i ≡ Some b → IsFileOf i n k v b in
-      let found : (i : ℕ) → i < n → Found (starts plan) h (Begun writers) Kind i = λ i low. (
-      let p = element writers i (omega (arith, low, count)) in
-      let f = element files i (omega (arith, low, count, size)) in
+      all_found n (starts plan) h (Begun writers) files (sym left.size ∙ count) (λ i low.
+      let p = element writers i (omega arith) in
+      let f = partner _ writers files i p.0 left p.1 in
       let is = each i p.0 p.1 in
-      let all : (k : ℕ) (v : List ℕ) → IsFileOf i n k v f.0 → Kind i k v = λ k v x b e.
-      subst (λ (y : List ℕ). IsFileOf i n k v y) (same_Some f.0 b (sym f.1 ∙ e)) x in
-      ⊎_elim
-      (λ old. inl (all _ _ old))
-      (λ new. inr (new.0, (p.0, p.1, new.1), all _ _ new.2))
-      (agreed plan h n i p.0 f.0 is.0 is.1 (left.each i p.0 f.0 p.1 f.1))) in
-      let m = merge (starts plan) h (Begun writers) Kind n found in
-      record {
-        begun_too = m.more;
-        were_begun = m.were_begun;
-        once = m.once;
-        size = sym size ∙ count;
-        holds = λ i b e. (
-            let within = slice_get_within files i b e in
-            m.holds i (omega (arith, within, size, count)) b e);
-      }
+      let all : (k : ℕ) (v : List ℕ) → IsFileOf i n k v f.0 → FileAt n files i k v =
+      λ k v x b e. rw (same_Some f.0 b (sym f.1 ∙ e)) at x in
+      ⊎_elim (λ old. inl (all _ _ old)) (λ new. inr (new.0, (p.0, p.1, new.1), all _ _ new.2))
+      (agreed plan h n i p.0 f.0 is.0 is.1 f.2))
 
   -- ---- a consistent cut
 
@@ -162,13 +128,7 @@ module _ {D : Type 0} (disk : Disk.Ghosts D) where
       (f.0, beginning-trans (seen_at p) x.1.seat.seen h f.2 x.6)) in
       let begins = each_seen (λ (y : List Update). IsBeginning y h) writers scanners
       (λ i p e. (fits i p e).1) saw in
-      let long : 0 < length (all_seen writers scanners) =
-      omega (
-        arith,
-        least,
-        length-append (map seen_at writers) scanners,
-        length-map writers seen_at,
-      ) in
+      let long : 0 < length (all_seen writers scanners) = simp (length-append, length-map) (omega arith) in
       let l = longest (all_seen writers scanners) h long begins in
       let within : IsBeginning l.it h = begins l.place l.it l.there in
       record {
@@ -180,14 +140,9 @@ module _ {D : Type 0} (disk : Disk.Ghosts D) where
             let more = number-beginning start (seen_at p) l.it i
             (l.whole i (seen_at p) (seen_there writers scanners i p e)) in
             has_early start l.it h i k v within has (omega (arith, low, more)));
-        recovered = recovered plan n l.it writers files refl
-            (λ i p e. (
-              (fits i p e).0,
-              record {
-                saw = l.whole i (seen_at p) (seen_there writers scanners i p e);
-                whole = consistent l.place l.it l.there i p e;
-              },
-            )) left;
+        recovered = recovered plan n l.it writers files refl (λ i p e. let saw = l.whole i (seen_at p)
+            (seen_there writers scanners i p e) in
+            ((fits i p e).0, record { saw = saw; whole = consistent l.place l.it l.there i p e })) left;
       }
 
   -- ---- a moment of the registers

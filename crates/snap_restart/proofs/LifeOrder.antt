@@ -1,6 +1,6 @@
 -- Of two beginnings of one history the shorter is a beginning of the longer.
-use Rattle.std.proofs.Common.{◌≡◌, ℕ, zero, suc, ◌<◌, ◌≤◌, inl, inr, List, [], ◌∷◌, ◌++◌, length, take, drop, Some}
-use Rattle.std.proofs.Common.{slice_get, refl, ap, sym, subst, ◌∙◌, arith}
+use Rattle.std.proofs.Common.{◌≡◌, ℕ, zero, suc, ◌<◌, ◌≤◌, inl, inr, List, [], ◌∷◌, ◌++◌, length, drop, Some}
+use Rattle.std.proofs.Common.{slice_get, refl, ap, sym, ◌∙◌, arith}
 use Rattle.std.proofs.lemmas.{Bool.cases_lt, List.take-append-drop, Option.same_Some}
 use Rattle.snap_history.specs.History.{Update, Start, IsBeginning, number_after}
 use Rattle.snap_history.proofs.Beginnings.{beginning-self, beginning-trans, take-beginning, number-beginning}
@@ -9,12 +9,11 @@ use Rattle.snap_restart.specs.LifeCrash.{Has}
 
 pub shorter : (a b h : List Update) → IsBeginning a h → IsBeginning b h → length a ≤ length b
     → IsBeginning a b
-shorter a b h pa pb l =
-    let is : take (length a) b ≡ a = sym (take-beginning b h (length a) pb l)
-    ∙ beginning-take a h pa in (
-      drop (length a) b,
-      sym (take-append-drop (length a) b) ∙ ap (λ (x : List Update). x ++ drop (length a) b) is,
-    )
+shorter a b h pa pb l = (
+  drop (length a) b,
+  sym (take-append-drop (length a) b) ∙ ap (λ (x : List Update). x ++ drop (length a) b)
+      (sym (take-beginning b h (length a) pb l) ∙ beginning-take a h pa),
+)
 
 -- the longest of some beginnings of one history; the others are beginnings of it
 pub record Longest (all : List (List Update)) : Type 0 where
@@ -26,22 +25,19 @@ pub record Longest (all : List (List Update)) : Type 0 where
 one_more_whole : (x : List Update) (xs : List (List Update)) (it : List Update) → IsBeginning x it
     → ((j : ℕ) (y : List Update) → slice_get xs j ≡ Some y → IsBeginning y it)
     → (j : ℕ) (y : List Update) → slice_get (x ∷ xs) j ≡ Some y → IsBeginning y it
-one_more_whole x xs it first rest zero y e =
-    subst (λ (z : List Update). IsBeginning z it) (same_Some x y e) first
+one_more_whole x xs it first rest zero y e = rw (same_Some x y e) at first
 one_more_whole x xs it first rest (suc j) y e = rest j y e
 
 one_more : (x : List Update) (xs : List (List Update)) (h : List Update) → IsBeginning x h
     → (r : Longest xs) → IsBeginning r.it h → Longest (x ∷ xs)
 one_more x xs h bx r br = elim (cases_lt (length r.it) (length x)) [
-  | inl more ↦ (
-      let below : IsBeginning r.it x = shorter r.it x h br bx (omega arith) in
-      record {
-        it = x;
-        place = 0;
-        there = refl;
-        whole = one_more_whole x xs x (beginning-self x)
-            (λ j y e. beginning-trans y r.it x (r.whole j y e) below);
-      })
+  | inl more ↦ record {
+    it = x;
+    place = 0;
+    there = refl;
+    whole = one_more_whole x xs x (beginning-self x)
+        (λ j y e. beginning-trans y r.it x (r.whole j y e) (shorter r.it x h br bx (omega arith)));
+  }
   | inr le ↦ record {
     it = r.it;
     place = suc r.place;
@@ -66,19 +62,10 @@ longest (x ∷ y ∷ all) h some each =
 -- an update of the history is in each beginning whose number is high enough
 pub has_early : (start : Start) (p h : List Update) (i k : ℕ) (v : List ℕ) → IsBeginning p h
     → Has start h i k v → k ≤ number_after start p i → Has start p i k v
-has_early start p h i k v bp has low =
-    let q = has.0 in
-    elim (cases_lt (length p) (length q)) [
-      | inl lt ↦ (
-          let under : IsBeginning p q = shorter p q h bp has.1 (omega arith) in
-          let le : number_after start p i ≤ number_after start q i =
-          number-beginning start p q i under in
-          let k_is : k ≡ number_after start q i = has.2 in
-          let same : number_after start p i ≡ number_after start q i = omega arith in (
-            p,
-            beginning-self p,
-            has.2 ∙ sym same,
-            has.3 ∙ same_value start h q p i has.1 bp (sym same),
-          ))
-      | inr ge ↦ (q, shorter q p h has.1 bp ge, has.2, has.3)
-    ]
+has_early start p h i k v bp (q, bq, k_is, v_is) low = elim (cases_lt (length p) (length q)) [
+  | inl lt ↦ (
+      let under = number-beginning start p q i (shorter p q h bp bq (omega arith)) in
+      let same : number_after start q i ≡ number_after start p i = omega arith in
+      (p, beginning-self p, k_is ∙ same, v_is ∙ same_value start h q p i bq bp same))
+  | inr ge ↦ (q, shorter q p h bq bp ge, k_is, v_is)
+]

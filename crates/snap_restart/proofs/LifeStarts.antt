@@ -1,12 +1,11 @@
 -- One history across a crash and the start after it.
-use Rattle.std.proofs.Common.{◌≡◌, ℕ, ◌<◌, List, ◌++◌, map, refl, ap, sym, subst, ◌∙◌, arith, append_assoc}
-use Rattle.std.proofs.lemmas.Option.{same_Some, slice_get_within, slice_get-map}
-use Rattle.std.{specs.Prelude.option_map, proofs.lemmas.List.length-map}
+use Rattle.std.proofs.Common.{◌≡◌, ℕ, ◌<◌, List, ◌++◌, map, refl, ap, sym, ◌∙◌, arith, append_assoc}
+use Rattle.std.proofs.lemmas.{List.length-map, Option.same_Some, Option.slice_get_within}
 use Rattle.snap_disk.specs.Device.{MayLeave}
-use Rattle.snap_slot.specs.Layout.{IsFileOf}
 use Rattle.snap_history.specs.History.{Update, Start, last_value, number_after, value_after}
 use Rattle.snap_history.{specs.Pairs.Pairs, proofs.Moments.updates-append, proofs.Moments.last-append}
-use Rattle.snap_restart.specs.LifeCrash.{IsRecovered, KeepMemory}
+use Rattle.snap_restart.{specs.LifeCrash.IsRecovered, specs.LifeCrash.KeepMemory, proofs.Placed.same_file}
+use Rattle.snap_restart.proofs.Removals.{get_map}
 use Rattle.snap_disk.specs.declared.disk.Disk as Disk
 
 -- `next` starts with the memory of n segments after the base
@@ -34,18 +33,9 @@ module _ (n : ℕ) (start : Start) (base : List Update) (next : Start)
     were_begun = r.were_begun;
     once = r.once;
     size = r.size;
-    holds = λ i b e. (
-        let size = r.size in
-        let within = slice_get_within files i b e in
-        let low : i < n = omega (arith, within, size) in
-        let all = sym (append_assoc base h r.begun_too) in
-        subst (λ (y : ℕ × List ℕ). IsFileOf i n y.0 y.1 b)
-        (λ t. (
-          (number_on (h ++ r.begun_too) i low
-              ∙ ap (λ (x : List Update). number_after start x i) all) t,
-          (value_on (h ++ r.begun_too) i low
-              ∙ ap (λ (x : List Update). value_after start x i) all) t,
-        ))
+    holds = λ i b e.
+        let low : i < n = omega (arith, r.size, slice_get_within files i b e) in
+        rw append_assoc (same_file refl refl (number_on (h ++ r.begun_too) i low) (value_on (h ++ r.begun_too) i low)
         (r.holds i b e));
   }
 
@@ -57,10 +47,8 @@ module _ {D : Type 0} (disk : Disk.Ghosts D) where
   bytes_left devices = record {
     size = sym (length-map devices (λ (x : D). (disk.device x).bytes));
     each = λ i d b ed eb.
-        let f = λ (x : D). (disk.device x).bytes in
-        subst (λ (y : List ℕ). MayLeave (disk.device d) y)
-        (same_Some (f d) b (sym (slice_get-map f devices i ∙ ap (option_map f) ed) ∙ eb))
-        (record { size = refl; elsewhere = λ p _. refl });
+        let same = same_Some (disk.device d).bytes b (sym (get_map (λ (x : D). (disk.device x).bytes) devices i d ed) ∙ eb)
+        in rw (← same) (record { size = refl; elsewhere = λ p _. refl });
   }
 
   pub kept_now : (n : ℕ) (start : Start) (h : List Update) (begun : ℕ → List ℕ → Type 0)

@@ -1,16 +1,15 @@
 -- At each place in a writer's life its device and its seat agree.
-use Rattle.std.proofs.Common.{◌≡◌, ◌⊎◌, ⊎_elim, ℕ, ◌+◌, inl, inr, List, [], ◌∷◌, ◌++◌, Some, None, refl, ap, sym, subst}
-use Rattle.std.proofs.Common.{◌∙◌}
+use Rattle.std.proofs.Common.{◌≡◌, ◌⊎◌, ⊎_elim, ℕ, ◌+◌, inl, inr, List, [], ◌∷◌, ◌++◌, None, refl, ap, sym}
+use Rattle.std.proofs.Common.{◌∙◌, arith}
 use Rattle.std.proofs.lemmas.List.{append_assoc}
-use Rattle.snap_disk.specs.Device.{MayLeave}
 use Rattle.snap_segment.specs.Segment.{SegmentState}
 use Rattle.snap_history.{specs.History.IsBeginning, proofs.Beginnings.beginning-self, proofs.Beginnings.beginning-trans}
 use Rattle.snap_register.specs.{declared.plan.Plan.Plan, Seat.Known, Seat.own_of}
 use Rattle.snap_writer.specs.Writer.{WriterState, number_of, value_of}
 use Rattle.snap_writer.specs.Update.{IsSameSeat, EndsWith}
 use Rattle.snap_writer.proofs.Shown.{same_grown, number_grown, value_grown, number_shown, value_shown}
-use Rattle.snap_writer.specs.Life.{Place, seen_at, IsShown, HoldsOf, Rests, Sees, Stores, Shows, Does, Lived, IsAt}
-use Rattle.snap_writer.specs.Life.{IsInStore, IsIn, IsWriterOf, IsMidStore, IsPlaceOf}
+use Rattle.snap_writer.specs.Life.{Place, seen_at, Rests, Sees, Stores, Shows, Does, Lived, IsAt}
+use Rattle.snap_writer.specs.Life.{IsInStore, IsIn, IsWriterOf, IsPlaceOf}
 use Rattle.snap_disk.specs.declared.disk.Disk as Disk
 
 -- an update that a seat shows comes after all that it had seen
@@ -21,18 +20,10 @@ shown_later a b v e = (
 )
 
 module _ {D : Type 0} (disk : Disk.Ghosts D) where
-  -- a property of a segment at rest carries over to an equal segment
-  rests_same : (a b : WriterState D) → b.segment ≡ a.segment
-      → Rests disk a → Rests disk b
-  rests_same a b same r = subst (λ (s : SegmentState D). disk.is_honest s.device → (x : List ℕ)
-      → MayLeave (disk.device s.device) x → HoldsOf s x) (sym same) r
-
   step_later : (a b : WriterState D) → Does disk a b
       → IsBeginning a.seat.seen b.seat.seen
   step_later a b (inl sees) = sees.grows.later
-  step_later a b (inr (inl stores)) =
-      subst (λ (k : Known). IsBeginning a.seat.seen k.seen) (sym stores.1.seat_is)
-      (beginning-self a.seat.seen)
+  step_later a b (inr (inl stores)) = rw stores.1.seat_is (beginning-self a.seat.seen)
   step_later a b (inr (inr shows)) = shown_later a.seat b.seat a.segment.value shows.shown
 
   module _ (plan : Plan) (n i : ℕ) where
@@ -51,10 +42,9 @@ module _ {D : Type 0} (disk : Disk.Ghosts D) where
       plan_is = seat.plan ∙ is.plan_is;
       low_is = seat.low ∙ is.low_is;
       high_is = seat.high ∙ is.high_is;
-      index_is = ap (λ (s : SegmentState D). s.index) same ∙ index;
-      count_is = ap (λ (s : SegmentState D). s.count) same ∙ count;
-      stored = subst (λ (s : SegmentState D). HasStored s (number_of b) (value_of b)) (sym same)
-          stored;
+      index_is = rw same index;
+      count_is = rw same count;
+      stored = rw same stored;
       rests = rests;
     }
 
@@ -62,28 +52,20 @@ module _ {D : Type 0} (disk : Disk.Ghosts D) where
     seen_still : (P : ℕ → List ℕ → Type 0) (a b : WriterState D) → Is a → Sees disk a b
         → P (number_of a) (value_of a) → P (number_of b) (value_of b)
     seen_still P a b is s shown =
-        let alone : a.seat.high ≡ a.seat.low + 1 =
-        is.high_is ∙ ap (λ (k : ℕ). k + 1) (sym is.low_is) in
-        subst (λ (y : ℕ × List ℕ). P y.0 y.1)
-        (λ t. (
-          sym (number_grown a.seat b.seat s.grows alone) t,
-          sym (value_grown a.seat b.seat s.grows alone) t,
-        ))
-        shown
+        let alone : a.seat.high ≡ a.seat.low + 1 = omega (arith, is.high_is, is.low_is) in
+        rw (number_grown a.seat b.seat s.grows alone, value_grown a.seat b.seat s.grows alone) shown
 
     sees_is : (a b : WriterState D) → Is a → Sees disk a b → Is b
     sees_is a b is s = same_writer a b a.segment is (same_grown a.seat b.seat s.grows) s.segment_is
         is.index_is is.count_is (seen_still (HasStored a.segment) a b is s is.stored)
-        (rests_same a b s.segment_is is.rests)
+        (rw s.segment_is is.rests)
 
     stores_is : (v : List ℕ) (a b : WriterState D) → Is a
         → Stores disk v a b → Is b
     stores_is v a b is s =
-        let seat : IsSameSeat a.seat b.seat = subst (λ (k : Known). IsSameSeat a.seat k)
-        (sym s.seat_is) (record { table = refl; plan = refl; low = refl; high = refl }) in
-        let shown : (a.segment.number ≡ number_of b) × (a.segment.value ≡ value_of b) =
-        subst (λ (k : Known). IsShown {D = D} (record { segment = a.segment; seat = k }))
-        (sym s.seat_is) s.shown in
+        let seat : IsSameSeat a.seat b.seat =
+        rw s.seat_is (record { table = refl; plan = refl; low = refl; high = refl }) in
+        let shown : (a.segment.number ≡ number_of b) × (a.segment.value ≡ value_of b) = rw s.seat_is s.shown in
         ⊎_elim
         (λ done. same_writer a b _ is seat done is.index_is is.count_is
         (inr (ap (λ (k : ℕ). k + 1) shown.0, s.unfenced)) s.rests)
@@ -96,7 +78,7 @@ module _ {D : Type 0} (disk : Disk.Ghosts D) where
           s.stored.0 ∙ sym (number_shown a.seat b.seat a.segment.value s.same_seat s.shown),
           sym (value_shown a.seat b.seat a.segment.value s.same_seat s.shown),
         ))
-        (rests_same a b s.segment_is is.rests)
+        (rw s.segment_is is.rests)
 
     pub does_is : (a b : WriterState D) → Is a → Does disk a b → Is b
     does_is a b is (inl sees) = sees_is a b is sees
@@ -109,33 +91,25 @@ module _ {D : Type 0} (disk : Disk.Ghosts D) where
 
     at_rest : (a z : WriterState D) (p : Place D) → Is a
         → IsAt disk z a p → Fits a z p
-    at_rest a z p is at = subst (λ (q : Place D). Fits a z q) (sym at.3) (
-      record { writer_is = sees_is a at.0 is at.1; storing_is = record {} },
-      at.1.grows.later,
-      at.2,
+    at_rest a z p is (m, sees, seen, at) = rw at (
+      record { writer_is = sees_is a m is sees; storing_is = record {} },
+      sees.grows.later,
+      seen,
     )
 
     mid_store : (a b z : WriterState D) (p : Place D) → Is a
         → IsInStore disk z a b p → Fits a z p
-    mid_store a b z p is at =
-        let m = at.0 in
-        let v = at.1 in
-        let sees = at.2 in
-        let s = at.4 in
-        subst (λ (q : Place D). Fits a z q) (sym at.5) (
-          record {
-            writer_is = sees_is a m is sees;
-            storing_is = subst (λ (t : SegmentState D). IsMidStore disk
-                (record { segment = t; seat = m.seat }) (Some (v, b.segment.device)))
-                (sym sees.segment_is) (
-                  seen_still (λ k u. (a.segment.number ≡ k) × (a.segment.value ≡ u)) a m is sees
-                      s.shown,
-                  λ hon x left. (s.any_time hon).each x left,
-                );
-          },
-          sees.grows.later,
-          at.3,
-        )
+    mid_store a b z p is (m, v, sees, seen, s, at) = rw at (
+      record {
+        writer_is = sees_is a m is sees;
+        storing_is = rw sees.segment_is (
+          seen_still (λ k u. (a.segment.number ≡ k) × (a.segment.value ≡ u)) a m is sees s.shown,
+          λ hon. (s.any_time hon).each,
+        );
+      },
+      sees.grows.later,
+      seen,
+    )
 
     pub life_fits : (a z : WriterState D) (life : List (WriterState D)) (p : Place D) → Is a
         → Lived disk a life z

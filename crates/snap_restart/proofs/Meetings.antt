@@ -1,18 +1,17 @@
 -- The knowledge of a scanner that has met all writers twice, and the contents of their devices then.
-use Rattle.std.proofs.Common.{◌≡◌, ℕ, ◌+◌, ◌<◌, ◌≤◌, List, length, slice_get, slice_set, Some, refl, ap, sym, subst}
+use Rattle.std.proofs.Common.{◌≡◌, ℕ, ◌+◌, ◌<◌, List, slice_get, slice_set, Some, refl, ap, sym, subst}
 use Rattle.std.proofs.Common.{◌∙◌, arith}
-use Rattle.std.proofs.lemmas.Option.{slice_get_within}
 use Rattle.snap_segment.specs.Segment.{SegmentState, IsKept}
-use Rattle.snap_history.specs.History.{Update, IsBeginning, updates_of}
+use Rattle.snap_history.specs.History.{Update, IsBeginning}
 use Rattle.snap_history.proofs.Beginnings.{beginning-self, beginning-trans, number-beginning}
-use Rattle.snap_history.{specs.Pairs.Pairs, proofs.Pairs.partner, proofs.Pairs.element}
+use Rattle.snap_history.{specs.Pairs.Pairs, proofs.Pairs.partner}
 use Rattle.snap_register.specs.History.{starts}
 use Rattle.snap_register.specs.Seat.{Known, Grows, AreTogether, number_in, value_in}
 use Rattle.snap_memory.proofs.{Collects.grows_self, Collects.grows_more, ScanAnswer.same_value}
 use Rattle.snap_writer.specs.Writer.{WriterState, number_of, value_of}
 use Rattle.snap_writer.proofs.Shown.{number_grown, value_grown}
 use Rattle.snap_restart.specs.Closed.{AreBack, IsHistory, HoldsAfter, HasMet, IsTold, Rests}
-use Rattle.snap_restart.proofs.Pairs.{pairs_self, pairs_moved}
+use Rattle.snap_restart.proofs.Pairs.{partner_of, pairs_self, pairs_moved}
 use mathlib.Core.Logic.{dite}
 use native.Mathlib.Decide.{ℕ_discrete}
 use Rattle.snap_disk.specs.declared.disk.Disk as Disk
@@ -41,21 +40,21 @@ pub heard_step : (olds : List Known) (k : ℕ) (b met seat grown : Known) → sl
 heard_step olds k b met seat grown there before g more is =
     one_more (λ (x : Known). IsBeginning x.seen grown.seen) olds k b there
     (λ i x at low. beginning-trans x.seen seat.seen grown.seen (before i x at low) more.later)
-    (subst (IsBeginning b.seen) is g.later)
+    (rw is at g.later)
 
 -- the scanner has just met this writer
 pub told_now : (start scanner met a grown : Known) → Grows start scanner → Grows scanner met
     → Grows a grown → met.seen ≡ grown.seen → IsTold a start met
 told_now start scanner met a grown first more g is = record {
-  heard = subst (IsBeginning a.seen) (sym is) g.later;
-  no_more = λ j l h. (
-      let own : number_in a grown.seen j ≡ number_in a a.seen j = g.own j l h in
+  heard = rw is g.later;
+  no_more = λ j l h.
       let later = beginning-trans start.seen scanner.seen met.seen first.later more.later in
-      let rises : number_in a start.seen j ≤ number_in a met.seen j =
-      number-beginning (starts a.plan) start.seen met.seen j later in
-      let same : number_in a met.seen j ≡ number_in a grown.seen j =
-      ap (λ (h : List Update). number_in a h j) is in
-      omega arith);
+      omega (
+        arith,
+        g.own j l h,
+        number-beginning (starts a.plan) start.seen met.seen j later,
+        ap (λ (h : List Update). number_in a h j) is,
+      );
 }
 
 module _ {D : Type 0} where
@@ -87,14 +86,12 @@ module _ {D : Type 0} where
       → AreBack w0 scanners → slice_get scanners 0 ≡ Some b → Pairs (λ _. HasMet) w0 w1 → Grows b s
       → (i : ℕ) (w : WriterState D) → slice_get w1 i ≡ Some w → AreTogether s w.seat
   together_after w0 w1 scanners b s back at_b p g i w at =
-      let size : length w0 ≡ length w1 = p.size in
-      let inside : i < length w1 = slice_get_within w1 i w at in
-      let x = element w0 i (omega arith) in
-      let met = p.each i x.0 w x.1 at in
+      let x = partner_of (λ _. HasMet) w0 w1 i w p at in
       let a = back.writers_are i x.0 x.1 in
       let r = back.scanners_are 0 b at_b in
       together_grown b x.0.seat s w.seat
-      (record { table = a.table_is ∙ sym r.table_is; plan = a.plan_is ∙ sym r.plan_is }) g met.grows
+      (record { table = a.table_is ∙ sym r.table_is; plan = a.plan_is ∙ sym r.plan_is }) g
+      x.2.grows
 
   -- only the first writer took part
   pub first_met : (w0 : List (WriterState D)) (x y : WriterState D) → slice_get w0 0 ≡ Some x
@@ -114,25 +111,16 @@ module _ {D : Type 0} where
   history_told w0 w1 w2 scanners first s1 s2 s3 back p q t u at_first heard = (
     s2.seen,
     record {
-      writers_saw = λ i w at. (
+      writers_saw = λ i w at.
           let a = back.writers_are i w at in
           let x = partner (λ _. HasMet) w0 w1 i w p at in
           let y = partner (λ _. HasMet) w1 w2 i x.0 q x.1 in
-          let met = met_more w x.0 y.0 x.2 y.2 in
-          let saw : IsBeginning w.seat.seen s2.seen =
-          beginning-trans w.seat.seen x.0.seat.seen s2.seen x.2.grows.later (t i x.0 x.1).heard in
-          let low : w.seat.low ≡ i = a.low_is in
-          let high : w.seat.high ≡ i + 1 = a.high_is in
-          let low' : y.0.seat.low ≡ w.seat.low = met.grows.low in
-          let high' : y.0.seat.high ≡ w.seat.high = met.grows.high in
-          let own : number_in w.seat y.0.seat.seen i ≡ number_in w.seat w.seat.seen i =
-          met.grows.own i (omega arith) (omega arith) in
-          let none : number_in y.0.seat s2.seen i ≤ number_in y.0.seat y.0.seat.seen i =
-          (u i y.0 y.1).no_more i (omega arith) (omega arith) in
-          let rises : number_in w.seat w.seat.seen i ≤ number_in w.seat s2.seen i =
-          number-beginning (starts w.seat.plan) w.seat.seen s2.seen i saw in
-          let all : updates_of i s2.seen ≡ updates_of i w.seat.seen = omega arith in
-          (saw, all));
+          let met = (met_more w x.0 y.0 x.2 y.2).grows in
+          let saw = beginning-trans w.seat.seen x.0.seat.seen s2.seen x.2.grows.later (t i x.0 x.1).heard in
+          let rises = number-beginning (starts w.seat.plan) w.seat.seen s2.seen i saw in
+          let own = met.own i (omega arith) (omega arith) in
+          let none = (u i y.0 y.1).no_more i (omega arith) (omega arith) in
+          (saw, omega arith);
       scanners_saw = λ k b at. beginning-trans b.seen first.seat.seen s2.seen (heard k b at)
           (t 0 first at_first).heard;
     },
@@ -146,36 +134,23 @@ module _ {D : Type 0} where
       → (i : ℕ) (w : WriterState D) → slice_get writers i ≡ Some w → HoldsAfter disk h i w
   holds_after disk h writers met scanners back history p rest i w at =
       let x = partner (λ _. HasMet) writers met i w p at in
+      let same = x.2.segment_is in
       let r = rest i x.0 x.1 in
       let a = back.writers_are i w at in
-      let low : w.seat.low ≡ i = a.low_is in
-      let high : w.seat.high ≡ i + 1 = a.high_is in
       let saw = history.writers_saw i w at in
-      let all : updates_of i h ≡ updates_of i w.seat.seen = saw.1 in
-      let same : x.0.segment ≡ w.segment = x.2.segment_is in
-      let now : w.segment.number ≡ number_in w.seat w.seat.seen i =
-      ap (λ (s : SegmentState D). s.number) (sym same) ∙ (r.number_is
-      ∙ (number_grown w.seat x.0.seat x.2.grows (omega arith)
-      ∙ ap (number_in w.seat w.seat.seen) low)) in
-      let value_now : w.segment.value ≡ value_in w.seat w.seat.seen i =
-      ap (λ (s : SegmentState D). s.value) (sym same) ∙ (r.value_is
-      ∙ (value_grown w.seat x.0.seat x.2.grows (omega arith)
-      ∙ ap (value_in w.seat w.seat.seen) low)) in
-      let number_is : w.segment.number ≡ number_in w.seat h i = omega arith in
-      let value_is : w.segment.value ≡ value_in w.seat h i = value_now
-      ∙ same_value (starts w.seat.plan) h w.seat.seen h i saw.0 (beginning-self h) (omega arith) in
-      let kept : disk.is_honest w.segment.device
-      → IsKept w.segment.index w.segment.count w.segment.number
-      w.segment.value w.segment.begun w.segment.spare_open (disk.device w.segment.device) =
-      subst (λ (s : SegmentState D). disk.is_honest s.device
-      → IsKept s.index s.count s.number s.value s.begun
-      s.spare_open (disk.device s.device)) same r.kept in
+      let alone : w.seat.high ≡ w.seat.low + 1 = omega arith in
+      let number : w.segment.number ≡ number_in w.seat w.seat.seen i =
+      rw (same, number_grown w.seat x.0.seat x.2.grows alone, a.low_is) at r.number_is in
+      let value : w.segment.value ≡ value_in w.seat w.seat.seen i =
+      rw (same, value_grown w.seat x.0.seat x.2.grows alone, a.low_is) at r.value_is in
+      let number_is : w.segment.number ≡ number_in w.seat h i = omega (arith, number, saw.1) in
+      let value_is : w.segment.value ≡ value_in w.seat h i = value
+      ∙ same_value (starts w.seat.plan) h w.seat.seen h i saw.0 (beginning-self h) (omega (arith, saw.1)) in
+      let kept = rw same at r.kept in
       record {
         number_is = number_is;
         value_is = value_is;
-        file = λ hon. subst (λ (y : ℕ × List ℕ). IsKept w.segment.index w.segment.count y.0 y.1
-            w.segment.begun w.segment.spare_open (disk.device w.segment.device))
-            (λ t. (number_is t, value_is t)) (kept hon);
+        file = λ hon. rw (← number_is, ← value_is) (kept hon);
       }
 
 -- ---- devices that are returned
@@ -188,15 +163,4 @@ module _ {D : Type 0} (disk : Disk.Ghosts D) where
       (disk.device d))
       → Rests disk w
   rests_moved w t d same is number value kept =
-      let here : disk.is_honest t.device
-      → IsKept t.index t.count t.number t.value t.begun t.spare_open
-      (disk.device t.device) = subst (λ (x : D). disk.is_honest x
-      → IsKept t.index t.count t.number t.value t.begun
-      t.spare_open (disk.device x)) is kept in
-      record {
-        number_is = number;
-        value_is = value;
-        kept = subst (λ (s : SegmentState D). disk.is_honest s.device
-            → IsKept s.index s.count s.number
-            s.value s.begun s.spare_open (disk.device s.device)) same here;
-      }
+      record { number_is = number; value_is = value; kept = rw (is, same) at kept }

@@ -1,9 +1,7 @@
 -- A crash leaves of one writer's device the number and value shown last, or the next number with a value that was
 -- begun.
-use Rattle.std.proofs.Common.{◌≡◌, ◌⊎◌, ⊎_elim, ℕ, ◌+◌, inl, inr, List, Option, Some, None, refl, ap, sym, subst, ◌∙◌}
-use Rattle.snap_disk.specs.Device.{MayLeave}
+use Rattle.std.proofs.Common.{◌≡◌, ◌⊎◌, ⊎_elim, ℕ, ◌+◌, inl, inr, List, Option, Some, None, refl, ap, subst}
 use Rattle.snap_slot.specs.Layout.{IsFileOf}
-use Rattle.snap_segment.specs.Segment.{SegmentState}
 use Rattle.snap_register.specs.declared.plan.Plan.{Plan}
 use Rattle.snap_writer.specs.Writer.{WriterState, number_of, value_of}
 use Rattle.snap_writer.specs.Life.{Place, HasBegun, IsShown, IsAhead, HoldsOf, Leaves, CrashLeaves, IsWriterOf}
@@ -16,54 +14,30 @@ pub same_file : {i j n m k l : ℕ} {v w b : List ℕ} → i ≡ j → n ≡ m �
 same_file {b = b} ei en ek ev is = subst (λ (y : ℕ × ℕ × ℕ × List ℕ). IsFileOf y.0 y.1 y.2 y.3 b)
     (λ t. (ei t, en t, ek t, ev t)) is
 
--- a crash leaves exactly what is stored of a segment that isn't fenced
-unfenced : {D : Type 0} (s : SegmentState D) (b : List ℕ) → s.begun ≡ None → HoldsOf s b
-    → IsFileOf s.index s.count s.number s.value b
-unfenced s b none (inl is) = is
-unfenced s b none (inr failed) =
-    let both : None ≡ Some failed.0 = sym none ∙ failed.1 in
-    absurd (cc both)
-
 module _ {D : Type 0} (disk : Disk.Ghosts D) (plan : Plan) (n i : ℕ) where
   abbrev pub LeftOf : Place D → List ℕ → Type 0
   LeftOf p b = IsFileOf i n (number_of p.writer) (value_of p.writer) b
       ⊎ ((v : List ℕ) × HasBegun p v × IsFileOf i n (number_of p.writer + 1) v b)
 
-  -- the file of the next number
-  next_file : (w : WriterState D) → IsWriterOf disk plan n i w → w.segment.number ≡ number_of w
-      → (v b : List ℕ) → IsFileOf w.segment.index w.segment.count (w.segment.number + 1) v b
-      → IsFileOf i n (number_of w + 1) v b
-  next_file w is shown v b file =
-      same_file is.index_is is.count_is (ap (λ (k : ℕ). k + 1) shown) refl file
-
   -- between two stores
-  resting_leaves : (w : WriterState D) (storing : Option (List ℕ × D))
-      → IsWriterOf disk plan n i w → disk.is_honest w.segment.device
-      → (b : List ℕ) → MayLeave (disk.device w.segment.device) b
+  resting_leaves : (w : WriterState D) (storing : Option (List ℕ × D)) (b : List ℕ)
+      → IsWriterOf disk plan n i w → IsShown w ⊎ IsAhead w → HoldsOf w.segment b
       → LeftOf (record { writer = w; storing = storing }) b
-  resting_leaves w storing is hon b left =
-      let holds = is.rests hon b left in
-      ⊎_elim
-      (λ (shown : IsShown w). ⊎_elim
-      (λ old. inl (same_file is.index_is is.count_is shown.0 shown.1 old))
-      (λ new. inr (new.0, inr (inl new.1), next_file w is shown.0 new.0 b new.2))
-      holds)
-      (λ (ahead : IsAhead w). inr (
-        w.segment.value,
-        inr (inr (ahead, refl)),
-        same_file is.index_is is.count_is ahead.0 refl (unfenced w.segment b ahead.1 holds),
-      ))
-      is.stored
+  resting_leaves w storing b is (inl shown) (inl old) =
+      inl (same_file is.index_is is.count_is shown.0 shown.1 old)
+  resting_leaves w storing b is (inl shown) (inr (v, begun, new)) =
+      inr (v, inr (inl begun), same_file is.index_is is.count_is (ap (λ (k : ℕ). k + 1) shown.0) refl new)
+  resting_leaves w storing b is (inr ahead) (inl old) =
+      inr (w.segment.value, inr (inr (ahead, refl)), same_file is.index_is is.count_is ahead.0 refl old)
+  resting_leaves w storing b is (inr ahead) (inr (v, begun, new)) = absurd (let none = ahead.1 in cc)
 
-  left_at : (w : WriterState D) (storing : Option (List ℕ × D))
-      → IsWriterOf disk plan n i w
-      → IsMidStore disk w storing → (b : List ℕ)
-      → Leaves disk w storing b
+  left_at : (w : WriterState D) (storing : Option (List ℕ × D)) → IsWriterOf disk plan n i w
+      → IsMidStore disk w storing → (b : List ℕ) → Leaves disk w storing b
       → LeftOf (record { writer = w; storing = storing }) b
-  left_at w None is mid b left = resting_leaves w None is left.0 b left.1
+  left_at w None is mid b left = resting_leaves w None b is is.stored (is.rests left.0 b left.1)
   left_at w (Some s) is mid b left = ⊎_elim
       (λ old. inl (same_file is.index_is is.count_is mid.0.0 mid.0.1 old))
-      (λ new. inr (s.0, inl refl, next_file w is mid.0.0 s.0 b new))
+      (λ new. inr (s.0, inl refl, same_file is.index_is is.count_is (ap (λ (k : ℕ). k + 1) mid.0.0) refl new))
       (mid.1 left.0 b left.1)
 
   pub crash_leaves : (p : Place D) → IsPlaceOf disk plan n i p

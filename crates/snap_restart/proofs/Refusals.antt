@@ -1,5 +1,5 @@
 -- The devices after an opening that was refused.
-use Rattle.std.proofs.Common.{◌≡◌, ℕ, ◌<◌, List, ◌∷◌, ◌++◌, length, map, take, drop, refl, ap, sym, subst, ◌∙◌, arith}
+use Rattle.std.proofs.Common.{◌≡◌, ℕ, ◌<◌, List, ◌∷◌, ◌++◌, length, map, take, drop, refl, arith}
 use Rattle.std.proofs.lemmas.List.{length-take-le, take-append-drop}
 use Rattle.snap_disk.specs.{declared.refusal.Refusal.Refusal, declared.refusal.Refusal.TheVariants.NoMemory}
 use Rattle.snap_disk.specs.{Device.MayLeave, Time.LeavesOnly, Laws.started}
@@ -70,14 +70,13 @@ module _ {D : Type 0} (disk : Disk.Ghosts D) where
       let long : length (take k olds) ≡ k = length-take-le k olds (omega arith) in
       let first = Pairs-mapped (IsOpened disk (length olds)) R (λ s. s.device) (take k olds) ss
       (λ i a s l o. returned_opened (length olds) k why i a s (omega arith) o) p in
-      let all = Pairs-spliced R (take k olds) (map (λ s. s.device) ss) d e rest first (subst (λ j. R j d e) (sym long)
-      here) (λ i a l. returned_same (length olds) k why only_now i a (omega arith)) in
-      let whole : take k olds ++ d ∷ rest ≡ olds = ap (λ l. take k olds ++ l) (sym front) ∙ take-append-drop k olds in
+      let all = Pairs-spliced R (take k olds) (map (λ s. s.device) ss) d e rest first (rw long here)
+      (λ i a l. returned_same (length olds) k why only_now i a (omega arith)) in
       record {
         kind = kind;
         within = omega arith;
         refused = λ _. low;
-        returned = subst (λ l. Pairs R l news) whole (subst (λ l. Pairs R (take k olds ++ d ∷ rest) l) (sym is) all);
+        returned = rw is (rw (← front, take-append-drop k olds) at all);
       }
 
   -- memory ran out at once: nothing was touched
@@ -102,9 +101,6 @@ module _ {D : Type 0} (disk : Disk.Ghosts D) where
     kind = tt;
     within = omega arith;
     refused = λ ne. absurd (ne refl);
-    returned = subst (λ l. Pairs (IsReturned disk (length olds) (length olds) NoMemory) olds l)
-        (sym is)
-        (Pairs-mapped (IsOpened disk (length olds)) (IsReturned disk (length olds) (length olds)
-        NoMemory) (λ s. s.device) olds ss
-        (λ i a s l o. returned_opened (length olds) (length olds) NoMemory i a s l o) p);
+    returned = rw is (Pairs-mapped (IsOpened disk (length olds)) (IsReturned disk (length olds) (length olds)
+        NoMemory) (λ s. s.device) olds ss (returned_opened (length olds) (length olds) NoMemory) p);
   }

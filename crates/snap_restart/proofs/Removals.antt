@@ -1,6 +1,6 @@
 -- Lists whose items are removed one after another.
 use Rattle.std.proofs.Common.{◌≡◌, ℕ, zero, suc, ◌+◌, List, ◌∷◌, ◌++◌, length, map, take, Some, slice_get, Option}
-use Rattle.std.proofs.Common.{None, Result, Ok, Err, IfOk, refl, ap, subst, ◌∙◌, arith}
+use Rattle.std.proofs.Common.{[], None, Result, Ok, Err, IfOk, append-nil, refl, ap, sym, subst, ◌∙◌, arith}
 use Rattle.std.specs.Prelude.{◌<◌, All, IsSome, IsErr, option_map}
 use Rattle.std.proofs.lemmas.Option.{get_or_from_slice_get, slice_get-map}
 use Rattle.std.proofs.lemmas.List.{length-append, length-map, length-take-le}
@@ -27,6 +27,18 @@ pub none_comes : {A : Type 0} (next : Option A) (n : ℕ) → (0 < n → IsSome 
 none_comes (Some x) n some none = absurd (none x refl)
 none_comes None zero some none = refl
 none_comes None (suc n) some none = absurd (let is = some (omega arith) in cc)
+
+-- nothing is left to be taken
+pub all_yielded : {A : Type 0} {n : ℕ} (xs left all : List A) → xs ++ left ≡ all → n ≡ length left → n ≡ 0
+    → xs ≡ all
+all_yielded xs [] all whole long none = sym (append-nil xs) ∙ whole
+all_yielded xs (x ∷ left) all whole long none = absurd (omega arith)
+
+-- the item that is taken next
+pub get_next : {A B : Type 0} (f : B → A) (ws : List B) (left rest all : List A) (x : A) → map f ws ++ left ≡ all
+    → left ≡ x ∷ rest → slice_get all (length ws) ≡ Some x
+get_next f [] left rest all x whole next = rw (← whole, next)
+get_next f (w ∷ ws) left rest all x whole next = rw (← whole) (get_next f ws left rest _ x refl next)
 
 -- the length of the list after k of the items were appended
 pub so_far : {A B : Type 0} (f : A → B) (old items : List B) (ss : List A) (k : ℕ)

@@ -1,13 +1,12 @@
 -- Files keep one memory over any number of crashes and starts.
 use Rattle.std.proofs.Common.{◌≡◌, ℕ, List, [], ◌∷◌, ◌++◌, length, map, refl, sym, subst, ◌∙◌, arith, append-nil}
-use Rattle.std.proofs.lemmas.{List.length-map, Option.slice_get_within}
-use Rattle.snap_segment.specs.Layout.{IsFileOf}
-use Rattle.snap_history.specs.History.{Update, Start, number_after}
-use Rattle.snap_history.proofs.Pairs.{element, partner}
+use Rattle.std.proofs.lemmas.List.{length-map}
+use Rattle.snap_history.specs.History.{Update, Start}
+use Rattle.snap_history.proofs.Pairs.{partner}
 use Rattle.snap_register.specs.History.{starts, updates}
 use Rattle.snap_writer.specs.Writer.{WriterState}
 use Rattle.snap_restart.specs.LifeCrash.{Begun, IsRecovered, KeepMemory}
-use Rattle.snap_restart.proofs.LifeStarts.{kept_now}
+use Rattle.snap_restart.proofs.{LifeStarts.kept_now, Placed.same_file, Pairs.partner_of}
 use Rattle.snap_restart.specs.Crash.{AllHonest, GoesOn, AreOpened}
 use Rattle.snap_restart.specs.Restarts.{Restarts, First, Crashed, Interrupted, Spared, Put, PutCutOff, Remade, Last}
 use Rattle.snap_restart.specs.Restarts.{MadeLaw, IsJoined, update, without}
@@ -28,9 +27,7 @@ module _ {D : Type 0} (disk : Disk.Ghosts D) (n : ℕ) (start : Start) where
       pub history_on : (writers : List (WriterState D)) (opened : AreOpened disk devices writers)
           → AllHonest disk writers
           → GoesOn disk opened.plan start l.history l.crashed writers
-      history_on writers opened hon = opened.again start l.history l.crashed
-          (subst (λ (k : ℕ). IsRecovered k start l.history (Begun l.crashed)
-          (map (λ (d : D). (disk.device d).bytes) devices)) (sym all_devices) now) hon
+      history_on writers opened hon = opened.again start l.history l.crashed (rw all_devices now) hon
 
 module _ {D : Type 0} (disk : Disk.Ghosts D) (n : ℕ) where
   unfoldable pub last : (start : Start) (moments : List (List Update)) (devices : List D)
@@ -51,14 +48,12 @@ module _ {D : Type 0} (disk : Disk.Ghosts D) (n : ℕ) where
         history = h;
         crashed = crashed;
         joined = (l.history, on.more, l.joined, on.once, refl);
-        kept = λ files left.
-            subst (λ (k : ℕ). IsRecovered k start h (Begun crashed) files)
+        kept = λ files left. subst (λ (k : ℕ). IsRecovered k start h (Begun crashed) files)
             (opened.one_each ∙ all_devices disk n start moments devices l)
             (on.any_moment s kept crashed files count each (record {
               size = follow.size ∙ left.size;
-              each = λ i p b ep eb. (
-                  let d = partner _ crashed nexts i p follow ep in
-                  d.2 b (left.each i d.0 b d.1 eb));
+              each = λ i p b ep eb.
+                  let d = partner _ crashed nexts i p follow ep in d.2 b (left.each i d.0 b d.1 eb);
             }));
       }
   last start _ _ (Interrupted _ moments devices news nexts past stay follow) =
@@ -68,12 +63,8 @@ module _ {D : Type 0} (disk : Disk.Ghosts D) (n : ℕ) where
         crashed = l.crashed;
         joined = l.joined;
         kept = λ files left.
-            stay n start l.history l.crashed files l.kept (follow.0 ∙ left.size)
-            (λ i d e b ed ee eb. (
-            let size = left.size in
-            let low = slice_get_within files i b eb in
-            let f = element nexts i (omega (arith, size, low)) in
-            follow.1 i d e f.0 b ed ee f.1 (left.each i f.0 b f.1 eb)));
+            stay n start l.history l.crashed files l.kept (follow.0 ∙ left.size) (λ i d e b ed ee eb.
+            let f = partner_of _ nexts files i b left eb in follow.1 i d e f.0 b ed ee f.1 f.2);
       }
   last start _ _ (Spared _ moments devices nexts past same) =
       let l = last start moments devices past in
@@ -83,9 +74,8 @@ module _ {D : Type 0} (disk : Disk.Ghosts D) (n : ℕ) where
         joined = l.joined;
         kept = λ files left. l.kept files (record {
           size = same.size ∙ left.size;
-          each = λ i d b ed eb. (
-              let e = partner _ devices nexts i d same ed in
-              e.2 b (left.each i e.0 b e.1 eb));
+          each = λ i d b ed eb.
+              let e = partner _ devices nexts i d same ed in e.2 b (left.each i e.0 b e.1 eb);
         });
       }
   last start (_ ∷ _) _ (Put _ moments devices nexts i k u v past held works) =
@@ -124,13 +114,9 @@ module _ {D : Type 0} (disk : Disk.Ghosts D) where
     were_begun = λ j u e. absurd (cc e);
     once = λ i. omega arith;
     size = sym left.size;
-    holds = λ i b e. (
-        let size = left.size in
-        let low = slice_get_within files i b e in
-        let d = element devices i (omega (arith, size, low)) in
-        let is = fresh i d.0 b d.1 (left.each i d.0 b d.1 e) in
-        let number : (start i).0 ≡ number_after start [] i = omega arith in
-        subst (λ (k : ℕ). IsFileOf i (length devices) k (start i).1 b) number is);
+    holds = λ i b e.
+        let d = partner_of _ devices files i b left e in
+        same_file refl refl (omega arith) refl (fresh i d.0 b d.1 d.2);
   })
 
   pub first : (devices : List D) (writers : List (WriterState D))
@@ -140,8 +126,7 @@ module _ {D : Type 0} (disk : Disk.Ghosts D) where
     more = [];
     were_begun = λ j u e. absurd (cc e);
     once = λ i. omega arith;
-    starts_are = λ i w at. (
-        let is = opened.starts_are i w at in let number = is.0 in (omega (arith, number), is.1));
+    starts_are = λ i w at. let is = opened.starts_are i w at in (omega (arith, is.0), is.1);
     any_moment = λ s kept places files count each left.
         (opened.any_moment s kept places files count each left).1;
   }

@@ -2,10 +2,7 @@ use Rattle.snap_restart.proofs.{Lives.life_fits, LifeDurability.stays}
 use Rattle.snap_restart.proofs.crashes.life_laws.Goals as goal
 
 pub returns-clause-lives : goal.returns-clause-lives
-returns-clause-lives g c =
-    life_fits g.D.Disk
+returns-clause-lives g c = life_fits g.D.Disk
 
 pub returns-clause-stays : goal.returns-clause-stays
-returns-clause-stays g c plan n i a z life is lived honest =
-    stays g.D.Disk plan n i a life
-    z g.met.D.Disk.only_now is lived honest
+returns-clause-stays g c plan n i = stays g.D.Disk plan n i g.met.D.Disk.only_now

@@ -1,11 +1,8 @@
-use Rattle.std.proofs.Common.{rules, ◌≡◌, ℕ, ◌+◌, ◌∷◌, ◌++◌, ◌<◌, ◌-◌, ◌^◌, List, [], length, take, drop, subst, ap}
-use Rattle.std.proofs.Common.{sym, ◌∙◌, arith}
+use Rattle.std.proofs.Common.{rules, ◌≡◌, ℕ, ◌+◌, ◌<◌, ◌-◌, ◌^◌, List, length, take, ap, sym, ◌∙◌, arith}
 use Rattle.std.proofs.lemmas.List.{length_push, length-take-le, length-drop}
 use Rattle.snap_history.proofs.Removals.{Taken, taken, all_taken}
-use Rattle.snap_segment.specs.Segment.{SegmentState}
-use Rattle.snap_history.specs.Pairs.{Pairs}
 use Rattle.snap_register.proofs.Pairs.{Pairs-push}
-use Rattle.snap_restart.specs.Opened.{IsOpened, IsReturned}
+use Rattle.snap_restart.specs.Opened.{IsOpened}
 use Rattle.snap_restart.proofs.Removals.{one_fewer, all_dropped, none_comes}
 use Rattle.snap_restart.proofs.Refusals.{back_later, returned_here, stopped_at}
 use Rattle.snap_restart.proofs.files.open_segments.Goals as goal
@@ -43,19 +40,15 @@ opening-preserved g c =
       back = back_later g.D.Disk g.met.D.Disk.counts_now d s.device o.honest_ok o.any_time_ok;
     } in
     let long : length (take k ds) ≡ k = length-take-le k ds inv.within in
-    let placed : Opened (length ds) (length (take k ds)) d s = subst (λ (p : ℕ
-    × ℕ). Opened p.0 p.1 d s) (λ i. (inv.count i, (index ∙ sym long) i)) here in
-    let more = Pairs-push (Opened (length ds)) (take k ds) ss d s inv.opened placed in
+    let more = Pairs-push (Opened (length ds)) (take k ds) ss d s inv.opened (rw (long, ← index, ← inv.count) here) in
     let count : length c.keep.new.items.items ≡ k + 1 = ap length c.keep.ensures.items ∙ length_push ss s in
     record {
       rest = next.left _ count;
       long = one_fewer inv.long c.in-Some.ensures.cases.0 c.in-Some.ensures.cases.1;
-      opened = subst (λ (l : List (SegmentState _)). Pairs (Opened (length ds)) (take (length c.keep.new.items.items)
-          ds) l) (sym c.keep.ensures.items)
-          (subst (λ l. Pairs (Opened (length ds)) l (ss ++ s ∷ [])) (sym (next.front _ count)) more);
+      opened = rw (next.front _ count, c.keep.ensures.items) more;
       within = omega arith;
       count = inv.count;
-      room = (let r = c.keep.ensures.room in let was = inv.room in omega arith);
+      room = omega (arith, inv.room, c.keep.ensures.room);
       emptied = inv.emptied;
       space = inv.space;
     }
@@ -73,17 +66,12 @@ returns-in-Err-clause-stopped g c =
     let next = taken k ds d _ _ inv.rest c.in-Some.ensures.cases.0 in
     let low = next.inside in
     let index : c.len-index.result ≡ k = search rules in
-    let Returned = IsReturned g.D.Disk in
     let back = back_later g.D.Disk g.met.D.Disk.counts_now d e o.honest_err o.any_time_err in
     let here = returned_here g.D.Disk c.len-count.result c.len-index.result why d e back
     o.count_err o.refused in
-    let placed : Returned (length ds) c.len-index.result why c.len-index.result d e = subst (λ (n : ℕ). Returned n
-    c.len-index.result why c.len-index.result d e) inv.count here in
-    stopped_at g.D.Disk g.met.D.Disk.only_now why ds c.returned.result.items ss d e _
-    c.len-index.result
-    index (ap (λ (n : ℕ). drop n ds) index ∙ next.head) (omega arith)
-    (subst (λ (n : ℕ). Pairs (IsOpened g.D.Disk (length ds)) (take n ds) ss) (sym index) inv.opened)
-    o.refusals placed c.returned.ensures
+    stopped_at g.D.Disk g.met.D.Disk.only_now why ds c.returned.result.items ss d e _ c.len-index.result
+    index (rw index next.head) (omega arith) (rw index inv.opened) o.refusals (rw (← inv.count) here)
+    c.returned.ensures
 
 pub open-requires-clause-below : goal.open-requires-clause-below
 open-requires-clause-below g c =
@@ -91,25 +79,22 @@ open-requires-clause-below g c =
     (taken _ c.args.devices.items _ _ _ c.opening.invariant.rest c.in-Some.ensures.cases.0).inside
 
 pub keep-requires : goal.keep-requires
-keep-requires g c =
-    let low = (taken _ c.args.devices.items _ _ _ c.opening.invariant.rest
-    c.in-Some.ensures.cases.0).inside in
-    let room = c.opening.invariant.room in omega arith
+keep-requires g c = omega (
+  arith,
+  c.opening.invariant.room,
+  (taken _ c.args.devices.items _ _ _
+      c.opening.invariant.rest c.in-Some.ensures.cases.0).inside,
+)
 
 pub returned-requires-clause-room : goal.returned-requires-clause-room
 returned-requires-clause-room g c =
     let inv = c.opening.invariant in
     let all = left_over (length c.opening.segments.items) c.args.devices.items _ _
     (taken _ _ _ _ _ inv.rest c.in-Some.ensures.cases.0) in
-    let gone = c.in-Some.ensures.cases.1 in
-    let long = inv.long in
-    let short = ap length c.in-Some.ensures.cases.0 in
-    let space = inv.space in omega arith
+    omega (arith, all, c.in-Some.ensures.cases.1, inv.long, ap length c.in-Some.ensures.cases.0, inv.space)
 
 pub returns-clause-opened : goal.returns-clause-opened
 returns-clause-opened g c =
     let inv = c.opening.invariant in
-    let none = c.in_default-next.not-Some in
-    let empty = none_comes _ _ c.next.ensures.variant.1 none in
-    subst (λ (l : List _). Pairs (IsOpened g.D.Disk (length c.args.devices.items)) l
-    c.opening.segments.items) (all_taken _ c.args.devices.items _ inv.rest (sym inv.long ∙ empty)) inv.opened
+    let empty = none_comes _ _ c.next.ensures.variant.1 c.in_default-next.not-Some in
+    rw (all_taken _ c.args.devices.items _ inv.rest (sym inv.long ∙ empty)) at inv.opened

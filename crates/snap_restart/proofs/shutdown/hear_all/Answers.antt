@@ -1,9 +1,8 @@
 use Rattle.std.proofs.Common.{rules, ◌≡◌, ◌≤◌, length, Some, slice_get, refl, arith}
 use Rattle.std.proofs.lemmas.Option.{slice_get_within, slice_get_read}
-use Rattle.snap_history.proofs.Pairs.{element}
 use Rattle.snap_register.specs.Seat.{Known, Grows}
 use Rattle.snap_memory.proofs.Collects.{grows_more}
-use Rattle.snap_restart.proofs.Pairs.{pairs_moved}
+use Rattle.snap_restart.proofs.Pairs.{partner_of, pairs_moved}
 use Rattle.snap_restart.proofs.Meetings.{together_grown, heard_step, met_more}
 use Rattle.snap_restart.proofs.shutdown.hear_all.Goals as goal
 use Rattle.snap_restart.proofs.shutdown.hear_all.Goals.{After-index_mut}
@@ -16,12 +15,7 @@ at g c = slice_get_read c.loop-k.scanners.items (length c.loop-k.scanners.items)
 -- the scanner to be met next: at first, and now
 next : (g : _) (c : After-index_mut g) → (b : Known)
     × (slice_get c.args.scanners.now.items c.loop-k.k ≡ Some b) × Grows b c.index_mut.result.now
-next g c =
-    let inv = c.loop-k.invariant in
-    let long = inv.scanners.size in
-    let inside = slice_get_within c.loop-k.scanners.items c.loop-k.k c.index_mut.result.now (at g c) in
-    let old = element c.args.scanners.now.items c.loop-k.k (omega arith) in
-    (old.0, old.1, inv.scanners.each c.loop-k.k old.0 c.index_mut.result.now old.1 (at g c))
+next g c = partner_of (λ _. Grows) _ _ _ _ c.loop-k.invariant.scanners (at g c)
 
 pub meet-requires : goal.meet-requires
 meet-requires g c =

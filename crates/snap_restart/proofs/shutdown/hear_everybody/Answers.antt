@@ -1,10 +1,10 @@
 use Rattle.std.proofs.Common.{◌≡◌, length, Some, slice_get, slice_set, refl, arith}
 use Rattle.std.proofs.lemmas.Option.{slice_get_read}
-use Rattle.snap_history.{specs.Pairs.Pairs, proofs.Lists.get-set_same, proofs.Pairs.element}
+use Rattle.snap_history.{specs.Pairs.Pairs, proofs.Lists.get-set_same}
 use Rattle.snap_register.specs.Seat.{Known, Grows}
 use Rattle.snap_memory.proofs.Collects.{grows_more}
 use Rattle.snap_restart.proofs.Meetings.{met_more, together_after, first_met, history_told}
-use Rattle.snap_restart.{specs.Closed.HasMet, proofs.Pairs.pairs_more}
+use Rattle.snap_restart.{specs.Closed.HasMet, proofs.Pairs.partner_of, proofs.Pairs.pairs_more}
 use Rattle.snap_restart.proofs.shutdown.hear_everybody.Goals as goal
 use Rattle.snap_restart.proofs.shutdown.hear_everybody.Goals.{After-index_mut-scanner}
 
@@ -22,15 +22,10 @@ scanner : (g : _) (c : After-index_mut-scanner g) → (b : Known)
     × (slice_get c.args.scanners.now.items 0 ≡ Some b) × Grows b c.index_mut-scanner.result.now
 scanner g c =
     let s1 = c.hear_all.new.scanners.items in
-    let now = c.index_mut-scanner.result.now in
-    let some_scanner = c.requires.back.some_scanner in
+    let some = c.requires.back.some_scanner in
     let size = c.hear_all.ensures.scanners.size in
-    let b = element c.args.scanners.now.items 0 some_scanner in (
-      b.0,
-      b.1,
-      c.hear_all.ensures.scanners.each 0 b.0 now b.1
-          (slice_get_read s1 (length s1) 0 now refl (omega arith) c.index_mut-scanner.ensures.value),
-    )
+    partner_of (λ _. Grows) _ s1 0 _ c.hear_all.ensures.scanners
+    (slice_get_read s1 (length s1) 0 c.index_mut-scanner.result.now refl (omega arith) c.index_mut-scanner.ensures.value)
 
 pub meet_all-requires : goal.meet_all-requires
 meet_all-requires g c =

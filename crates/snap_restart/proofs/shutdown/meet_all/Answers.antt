@@ -1,10 +1,9 @@
 use Rattle.std.proofs.Common.{rules, ◌≡◌, ◌≤◌, length, Some, slice_get, refl, arith}
 use Rattle.std.proofs.lemmas.Option.{slice_get_within, slice_get_read}
-use Rattle.snap_history.proofs.Pairs.{element}
 use Rattle.snap_memory.proofs.Collects.{grows_more}
 use Rattle.snap_writer.specs.Writer.{WriterState}
 use Rattle.snap_restart.proofs.Meetings.{together_grown, told_step, met_more}
-use Rattle.snap_restart.{specs.Closed.HasMet, proofs.Pairs.pairs_moved}
+use Rattle.snap_restart.{specs.Closed.HasMet, proofs.Pairs.partner_of, proofs.Pairs.pairs_moved}
 use Rattle.snap_restart.proofs.shutdown.meet_all.Goals as goal
 use Rattle.snap_restart.proofs.shutdown.meet_all.Goals.{After-index_mut}
 
@@ -16,12 +15,7 @@ at g c = slice_get_read c.loop-i.writers.items (length c.loop-i.writers.items) c
 -- the writer to be met next: at first, and now
 next : (g : _) (c : After-index_mut g) → (w : WriterState g.row.D.Denot)
     × (slice_get c.args.writers.now.items c.loop-i.i ≡ Some w) × HasMet w c.index_mut.result.now
-next g c =
-    let inv = c.loop-i.invariant in
-    let long = inv.writers.size in
-    let inside = slice_get_within c.loop-i.writers.items c.loop-i.i c.index_mut.result.now (at g c) in
-    let old = element c.args.writers.now.items c.loop-i.i (omega arith) in
-    (old.0, old.1, inv.writers.each c.loop-i.i old.0 c.index_mut.result.now old.1 (at g c))
+next g c = partner_of (λ _. HasMet) _ _ _ _ c.loop-i.invariant.writers (at g c)
 
 pub meet-requires : goal.meet-requires
 meet-requires g c =

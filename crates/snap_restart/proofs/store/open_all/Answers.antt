@@ -1,12 +1,11 @@
-use Rattle.std.proofs.Common.{rules, ◌≡◌, ℕ, ◌++◌, List, length, map, subst, ap, sym, ◌∙◌, arith}
+use Rattle.std.proofs.Common.{rules, ◌≡◌, ◌++◌, List, length, map, ap, sym, ◌∙◌, arith}
+use Rattle.std.proofs.lemmas.Simd.{map-map}
 use Rattle.snap_disk.specs.declared.refusal.Refusal.TheVariants.{NoMemory}
 use Rattle.snap_segment.specs.Segment.{SegmentState}
-use Rattle.snap_history.specs.Pairs.{Pairs}
-use Rattle.snap_register.specs.Seat.{Known}
-use Rattle.snap_restart.specs.Opened.{AreFresh, IsOpened, IsStopped, recovered}
-use Rattle.snap_restart.proofs.NewSeats.{map_both, starts_are, fresh_are, back_are, paired_are}
+use Rattle.snap_restart.specs.Opened.{recovered}
+use Rattle.snap_restart.proofs.NewSeats.{starts_are, fresh_are, back_are, paired_are}
 use Rattle.snap_restart.proofs.Crash.{opened, stay_kept, backs_opened, backs_stopped}
-use Rattle.snap_restart.{specs.Closed.AreBack, proofs.Refusals.stopped_last, proofs.Durability.stay_stored}
+use Rattle.snap_restart.proofs.{Refusals.stopped_last, Durability.stay_stored}
 use Rattle.snap_restart.proofs.store.open_all.Goals as goal
 
 pub place_writers-requires-clause-starts : goal.place_writers-requires-clause-starts
@@ -16,10 +15,7 @@ place_writers-requires-clause-starts g c =
     had.counts.0
 
 pub returns-in-Ok-take_memory-clause-opened : goal.returns-in-Ok-take_memory-clause-opened
-returns-in-Ok-take_memory-clause-opened g c =
-    subst (λ (l : List (SegmentState _)). Pairs
-    (IsOpened g.D.Disk (length c.args.devices.items)) c.args.devices.items l)
-    (sym c.place_writers.ensures.segments) c.in-Ok.ensures.opened
+returns-in-Ok-take_memory-clause-opened g c = rw c.place_writers.ensures.segments c.in-Ok.ensures.opened
 
 pub returns-in-Ok-take_memory-clause-starts : goal.returns-in-Ok-take_memory-clause-starts
 returns-in-Ok-take_memory-clause-starts g c =
@@ -31,18 +27,14 @@ returns-in-Ok-take_memory-clause-starts g c =
 pub returns-in-Ok-take_memory-clause-fresh : goal.returns-in-Ok-take_memory-clause-fresh
 returns-in-Ok-take_memory-clause-fresh g c =
     let had = c.in-Ok-take_memory.ensures in
-    subst (λ (l : List Known). AreFresh c.place_writers.result.items l) (sym c.place_scanners.ensures)
-    (fresh_are had.seats.0 had.seats.1 c.in-Ok.opened.0.items _ had.seats.2 had.seats.3
+    rw c.place_scanners.ensures (fresh_are had.seats.0 had.seats.1 c.in-Ok.opened.0.items _ had.seats.2 had.seats.3
     had.counts.0 _ c.place_writers.result.items c.place_writers.ensures.seats had.seats.4)
 
 pub returns-in-Ok-take_memory-clause-back : goal.returns-in-Ok-take_memory-clause-back
 returns-in-Ok-take_memory-clause-back g c =
     let had = c.in-Ok-take_memory.ensures in
     let size = c.in-Ok.ensures.opened.size in
-    let few = c.requires.count in
-    let some = c.requires.scanners in
-    subst (λ (l : List Known). AreBack c.place_writers.result.items l) (sym c.place_scanners.ensures)
-    (back_are had.seats.0 had.seats.1 c.in-Ok.opened.0.items _ had.seats.2 had.seats.3
+    rw c.place_scanners.ensures (back_are had.seats.0 had.seats.1 c.in-Ok.opened.0.items _ had.seats.2 had.seats.3
     had.counts.0 _ c.place_writers.result.items c.place_writers.ensures.seats
     (omega arith) (omega arith) (omega (arith, had.counts.1)) had.seats.4)
 
@@ -71,20 +63,16 @@ returns-in-Err-clause-kept_err g c =
 pub returns-in-Ok-take_memory-clause-report : goal.returns-in-Ok-take_memory-clause-report
 returns-in-Ok-take_memory-clause-report g c =
     c.in-Ok-take_memory.ensures.report ∙ (ap (map recovered) (sym c.place_writers.ensures.segments)
-    ∙ map_both recovered (λ w. w.segment) c.place_writers.result.items)
+    ∙ map-map recovered (λ w. w.segment) c.place_writers.result.items)
 
 pub returns-in-Err-take_memory-clause-stopped : goal.returns-in-Err-take_memory-clause-stopped
 returns-in-Err-take_memory-clause-stopped g c =
-    let ds = c.args.devices.items in
     let ss : List (SegmentState _) = c.in-Ok.opened.0.items in
     let opened = c.in-Ok.ensures.opened in
-    let size : length ds ≡ length ss = opened.size in
     let count : c.len-count.result ≡ length ss = search rules in
     let news = c.release.ensures.items
     ∙ ap (λ l. l ++ map (λ (s : SegmentState _). s.device) ss) c.in-Ok.ensures.emptied.0 in
-    subst (λ (n : ℕ). IsStopped g.D.Disk ds c.release.new.devices.items NoMemory n)
-    (size ∙ sym count)
-    (stopped_last g.D.Disk ds c.release.new.devices.items ss opened news)
+    rw (count ∙ sym opened.size) (stopped_last g.D.Disk c.args.devices.items c.release.new.devices.items ss opened news)
 
 pub returns-in-Err-take_memory-clause-kept_err : goal.returns-in-Err-take_memory-clause-kept_err
 returns-in-Err-take_memory-clause-kept_err g c =
@@ -100,10 +88,7 @@ place_scanners-requires-clause-room g c =
 
 pub release-requires : goal.release-requires
 release-requires g c =
-    let size = c.in-Ok.ensures.opened.size in
-    let none = ap length c.in-Ok.ensures.emptied.0 in
-    let space = c.in-Ok.ensures.emptied.1 in
-    let few = c.requires.count.1 in omega arith
+    omega (arith, c.in-Ok.ensures.opened.size, ap length c.in-Ok.ensures.emptied.0, c.in-Ok.ensures.emptied.1)
 
 pub returns-in-Ok-take_memory-clause-scanners : goal.returns-in-Ok-take_memory-clause-scanners
 returns-in-Ok-take_memory-clause-scanners g c =

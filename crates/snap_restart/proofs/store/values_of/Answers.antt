@@ -1,5 +1,5 @@
 use Rattle.std.proofs.Common.{rules, ◌≡◌, ℕ, ◌^◌, ◌<◌, ◌≤◌, ◌∷◌, ◌++◌, List, [], length, map, take, slice_get, Some}
-use Rattle.std.proofs.Common.{Vec, Global, refl, subst, ap, sym, ◌∙◌}
+use Rattle.std.proofs.Common.{Vec, Global, refl, ap, sym, ◌∙◌}
 use Rattle.std.proofs.lemmas.{List.map-append, List.take_all, Option.slice_get_read}
 use Rattle.snap_history.proofs.Lists.{get-push}
 use Rattle.snap_register.proofs.Pairs.{map_next}
@@ -21,18 +21,15 @@ loop-segment-preserved g c =
     let bytes : c.in_ok-value.value.items ≡ s.value = search rules in
     let number : c.number.result ≡ s.number = c.number.ensures.number in
     let x : ℕ × Vec ℕ Global = (c.number.result, c.in_ok-value.value) in
-    let fits : length c.in_ok-value.value.items ≤ 4080 = subst (λ (l : List ℕ). length l ≤ 4080) (c.value.ensures.value
-    ∙ sym bytes) c.value.ensures.size in
+    let fits : length c.in_ok-value.value.items ≤ 4080 = rw (bytes, ← c.value.ensures.value) c.value.ensures.size in
     let pushed : c.push.new.self.items ≡ vs ++ x ∷ [] = search rules in
     let same : contents_of x ≡ contents s = λ i. (number i, bytes i) in
-    record {
-      contents = ap (map (λ x. (x.0, x.1.items))) pushed ∙ (map-append (λ x. (x.0, x.1.items)) vs (x ∷ []) ∙ ((λ i.
-          inv.contents i ++ same i ∷ []) ∙ sym (map_next contents k ss s e)));
-      numbers = λ i y at. get-push (λ z. z.0 < 2 ^ 63) vs x inv.numbers c.number.ensures.low i y (subst (λ l. slice_get
-          l i ≡ Some y) pushed at);
-      sizes = λ i y at. get-push (λ z. length z.1.items ≤ 4080) vs x inv.sizes fits i y (subst (λ l. slice_get l i ≡
-          Some y) pushed at);
-    }
+    rw pushed (record {
+      contents = map-append contents_of vs (x ∷ []) ∙ (λ i. inv.contents i ++ same i ∷ [])
+          ∙ sym (map_next contents k ss s e);
+      numbers = get-push (λ z. z.0 < 2 ^ 63) vs x inv.numbers c.number.ensures.low;
+      sizes = get-push (λ z. length z.1.items ≤ 4080) vs x inv.sizes fits;
+    })
 
 all_of : {A B : Type 0} (f : A → B) (k : ℕ) (items xs : List A) → length items ≤ k → items ≡ xs
     → map f (take k items) ≡ map f xs
