@@ -1,9 +1,9 @@
 -- Commands between two openings, by their contracts.
 use Rattle.std.proofs.Common.{◌≡◌, ℕ, ◌+◌, false, inl, inr, List, [], ◌∷◌, Option, Some, Result, Ok, Err, IfOk, OnOk}
-use Rattle.std.proofs.Common.{slice_get, slice_set, refl, sym, subst, ◌∙◌}
-use Rattle.std.proofs.lemmas.{List.length-set, Option.slice_get_within, Option.same_Some}
+use Rattle.std.proofs.Common.{⊎_elim, slice_get, slice_set, refl, sym, ◌∙◌}
+use Rattle.std.proofs.lemmas.{List.length-set, Option.slice_get_within, Option.same_Some, Bool.cases_eq}
 use Rattle.snap_disk.specs.{Device.Device, Device.MayLeave, Time.LeavesOnly}
-use Rattle.snap_slot.specs.{Layout.Holds, Layout.IsFileOf, States.IsAtRest, States.IsEither}
+use Rattle.snap_slot.specs.{Layout.IsFileOf, States.IsAtRest, States.IsEither}
 use Rattle.snap_slot.proofs.Rest.{at_rest_file, at_rest_leaves}
 use Rattle.snap_segment.specs.{Old.OldHolds, Segment.SegmentState}
 use Rattle.snap_history.proofs.Lists.{get-set_same, get-set_other}
@@ -15,8 +15,6 @@ use Rattle.snap_file_commands.specs.Foundation.{IsBlank, IsDone, EndsFounding}
 use Rattle.snap_file_commands.specs.{declared.fault.CommandFault.CommandFault, Effects.LeavesNoMore}
 use Rattle.snap_file_commands.specs.{declared.migration.MigrationFault.MigrationFault, Migration.EndsMigration}
 use Rattle.snap_laws.specs.Between.{GoesOnWith, PutGoesOn, CutOffGoesOn, BeginsAgain, InitGoesOn}
-use mathlib.Core.Logic.{dite}
-use native.Mathlib.Decide.{ℕ_discrete}
 use Rattle.snap_order.specs.declared.order.FileOrder.TheVariants as order
 use Rattle.snap_disk.specs.declared.disk.Disk as Disk
 
@@ -31,13 +29,9 @@ module _ {D : Type 0} (disk : Disk.Ghosts D) where
         there = there;
         others = record {
           size = sym (length-set devices i new);
-          each = λ j d e ed ee ne b may. (
-              let same : d ≡ e = same_Some d e (sym ed ∙ sym (get-set_other devices i j new ne) ∙ ee) in
-              subst (λ (x : D). MayLeave (disk.device x) b) (sym same) may);
+          each = λ j d e ed ee ne b may. let same : d ≡ e = cc (get-set_other devices i j new ne) in rw same may;
         };
-        own = λ e b ee may. (
-            let same : new ≡ e = same_Some new e (sym (get-set_same devices i new there) ∙ ee) in
-            left b (subst (λ (x : D). MayLeave (disk.device x) b) (sym same) may));
+        own = λ e b ee may. let same : new ≡ e = cc (get-set_same devices i new there) in left b (rw same may);
       }
 
   stored_goes_on : (i n c : ℕ) (v : List ℕ) (old new : D)
@@ -45,8 +39,7 @@ module _ {D : Type 0} (disk : Disk.Ghosts D) where
       → GoesOnWith disk n i ((record { segment = i; value = v } ∷ []) ∷ []) old new
   stored_goes_on i n c v old new is start moments devices at past =
       Put start moments devices (slice_set devices i new) i c is.value v past
-      (λ d ed. subst (λ (x : D). Holds (disk.device x).bytes c is.value)
-      (same_Some old d (sym at ∙ ed)) is.held)
+      (λ d ed. rw (same_Some old d (sym at ∙ ed)) at is.held)
       (works i (IsFileOf i n (c + 1) v) devices old new at is.lasts)
 
   pub cut_off_goes_on : (v : List ℕ) (old new : SegmentState D)
@@ -59,10 +52,8 @@ module _ {D : Type 0} (disk : Disk.Ghosts D) where
   cut_off_goes_on v old new honest_then rests any_time hon cut might start moments devices at past =
       PutCutOff start moments devices (slice_set devices old.index cut) old.index old.number old.value
       v past
-      (λ d ed. subst (λ (x : D). Holds (disk.device x).bytes old.number old.value)
-      (same_Some old.device d (sym at ∙ ed))
-      (at_rest_file old.index old.count old.number old.value old.spare_open (disk.device old.device)
-      (rests (honest_then hon))).holds)
+      (λ d ed. rw (same_Some old.device d (sym at ∙ ed)) at (at_rest_file old.index old.count old.number
+      old.value old.spare_open (disk.device old.device) (rests (honest_then hon))).holds)
       (works old.index (IsEither old.index old.count old.number old.value v) devices old.device cut at
       (λ b left. (any_time hon).each b (might b left)))
 
@@ -82,22 +73,13 @@ module _ {D : Type 0} (disk : Disk.Ghosts D) where
       let only = more hon in
       Spared start moments devices (slice_set devices i new) past (record {
         size = sym (length-set devices i new);
-        each = λ j d e ed ee b may. dite (ℕ_discrete j i)
-            (λ same.
-            let here : slice_get devices i ≡ Some d =
-            subst (λ (k : ℕ). slice_get devices k ≡ Some d) same ed in
-            let there : slice_get (slice_set devices i new) i ≡ Some e =
-            subst (λ (k : ℕ). slice_get (slice_set devices i new) k ≡ Some e) same ee in
-            let was : old ≡ d = same_Some old d (sym at ∙ here) in
-            let is : new ≡ e = same_Some new e
-            (sym (get-set_same devices i new (slice_get_within devices i old at)) ∙ there) in
-            subst (λ (x : D). MayLeave (disk.device x) b) was
-            (only.each b (counts_now new (disk.clock old) b hon only.later
-            (subst (λ (x : D). MayLeave (disk.device x) b) (sym is) may))))
-            (λ other.
-            let same : d ≡ e = same_Some d e
-            (sym ed ∙ sym (get-set_other devices i j new other) ∙ ee) in
-            subst (λ (x : D). MayLeave (disk.device x) b) (sym same) may);
+        each = λ j d e ed ee b may. ⊎_elim
+            (λ (same : j ≡ i).
+            let was : d ≡ old = cc in
+            let is : new ≡ e = cc (get-set_same devices i new (slice_get_within devices i old at)) in
+            rw was (only.each b (counts_now new (disk.clock old) b hon only.later (rw is may))))
+            (λ other. let same : d ≡ e = cc (get-set_other devices i j new other) in rw same may)
+            (cases_eq j i);
       })
 
   pub begins_again : (i n k : ℕ) (v : List ℕ) (blank new : D)

@@ -1,6 +1,6 @@
 -- A client's calls over an honest connection.
 use Rattle.std.proofs.Common.{◌≡◌, ◌⊎◌, ℕ, ◌≤◌, inl, inr, List, [], ◌∷◌, ◌++◌, length, map, All, Option, Some, None}
-use Rattle.std.proofs.Common.{refl, ap, sym, subst, ◌∙◌, arith, append_assoc, append-nil, length-append}
+use Rattle.std.proofs.Common.{refl, ap, sym, ◌∙◌, arith, append_assoc, append-nil, length-append}
 use Rattle.std.{proofs.lemmas.List.Elements.All-tail, specs.List.concat, specs.Int.w32, specs.Int.to_be_bytes}
 use Rattle.snap_disk.specs.declared.refusal.Refusal.{Refusal}
 use Rattle.snap_history.specs.History.{Update, Start}
@@ -34,9 +34,6 @@ module _ {R W : Type 0} (remaining : R → Option (List ℕ)) (contents : W → 
     pub cut : old.held ++ read ≡ frames payloads ++ new.held
     pub said : Spoken qs rs payloads
 
-  silent_still : (old : ClientState R W) → Spoke [] [] [] old old
-  silent_still old = record { payloads = []; cut = append-nil old.held; said = tt }
-
   spoke_on : (q : Request) (r : Reply) (qs : List Request) (rs : List Reply) (read more : List ℕ)
       (old mid new : ClientState R W) → Returned remaining contents q r read old mid
       → Spoke qs rs more mid new → Spoke (q ∷ qs) (r ∷ rs) (read ++ more) old new
@@ -55,8 +52,7 @@ module _ {R W : Type 0} (remaining : R → Option (List ℕ)) (contents : W → 
 
   pub spoke : (qs : List Request) (rs : List Reply) (reads : List (List ℕ)) (old new : ClientState R W)
       → Converses remaining contents qs rs reads old new → Spoke qs rs (concat reads) old new
-  spoke [] [] [] old new same =
-      subst (λ (z : ClientState R W). Spoke [] [] [] old z) (sym same) (silent_still old)
+  spoke [] [] [] old new same = rw same (record { payloads = []; cut = append-nil old.held; said = tt })
   spoke (q ∷ qs) (r ∷ rs) (read ∷ reads) old new talk =
       spoke_on q r qs rs read (concat reads) old talk.0 new talk.1
       (spoke qs rs reads talk.0 new talk.2)

@@ -8,7 +8,6 @@ use Rattle.snap_history.proofs.{Beginnings.beginning-self, Beginnings.beginning-
 use Rattle.snap_frame.specs.declared.{request.Request.Request, reply.Reply.Reply}
 use Rattle.snap_writer.specs.{Writer.WriterState, Life.Place}
 use Rattle.snap_restart.specs.Restarts.{Restarts, First, Crashed, Interrupted, Spared, Put, PutCutOff, Remade, update}
-use Rattle.snap_restart.specs.Restarts.{without}
 use Rattle.snap_restart.proofs.Starts.{all_devices, history_on, last}
 use Rattle.snap_restart.{proofs.LifeCrash.seen_saw, proofs.LifeStarts.StartsAfter, specs.Crash.AreOpened}
 use Rattle.snap_restart.{specs.Crash.GoesOn, proofs.Commands.stored, proofs.Commands.cut_off, proofs.Crash.starts_after}
@@ -49,8 +48,7 @@ module _ {D : Type 0} (disk : Disk.Ghosts D) (devices : List D)
     stood : (q : Request) (r : Reply) → Stands (segments b.plan) (starts b.plan) now q r
         → Stands n start (base ++ now) q r
     stood q r is = stands_earlier n start base (starts opened.plan) after now q r
-        (subst (λ (k : ℕ). Stands k (starts opened.plan) now q r) (sym opened.all)
-        (subst (λ (p : Plan). Stands (segments p) (starts p) now q r) same is))
+        (rw opened.all (rw same at is))
 
     pub session_stands : (t : SessionUpTo b) → SessionTold t n start (base ++ now)
     session_stands t = beside_map
@@ -99,14 +97,12 @@ module _ {D R W : Type 0} (disk : Disk.Ghosts D) (remaining : R → Option (List
       let l = last disk n start moments devices past in
       let on = history_on disk n start moments devices l writers opened hon in
       let h = (l.history ++ on.more) ++ updates kept.history in
-      let all : length writers ≡ n =
-      opened.one_each ∙ all_devices disk n start moments devices l in
+      let all : length writers ≡ n = opened.one_each ∙ all_devices disk n start moments devices l in
       subst (λ (k : ℕ). Stands k start h q r) all (⊎_elim
       (λ t. told_stands disk devices writers opened start l.history l.crashed on s kept remaining
       contents q r t)
       (λ t. before_stands disk devices writers opened start l.history l.crashed on s kept q r
-      (subst (λ (k : ℕ). Stands k start l.history q r) (sym all)
-      (stands_ever n start moments devices past q r t)))
+      (rw all (stands_ever n start moments devices past q r t)))
       told)
   stands_ever n start _ _ (Interrupted _ moments devices news nexts past stay follow) q r told =
       stands_ever n start moments devices past q r told
@@ -117,12 +113,9 @@ module _ {D R W : Type 0} (disk : Disk.Ghosts D) (remaining : R → Option (List
       let is = stored disk n start l.history l.crashed devices nexts l.kept i k u v held works in
       let before = l.history ++ is.more in
       let h = before ++ update i v ∷ [] in
-      let low : i < n =
-      let there = works.there in
-      let all = all_devices disk n start moments devices l in
-      omega (arith, there, all) in
+      let low : i < n = omega (arith, works.there, all_devices disk n start moments devices l) in
       ⊎_elim
-      (λ t. subst (λ (x : Request × Reply). Stands n start h x.0 x.1) (λ s. (sym t.0 s, sym t.1 s)) (
+      (λ t. rw (t.0, t.1) (
         low,
         refl,
         (h, beginning-self h, sym is.number_is, sym (value-push start before (update i v))),
@@ -138,9 +131,7 @@ module _ {D R W : Type 0} (disk : Disk.Ghosts D) (remaining : R → Option (List
       (stands_ever n start moments devices past q r told)
   stands_ever n next rest _ (Remade start _ moments _ devices nexts i k v past works from rest_is) q r
       told =
-      let l = last disk n start moments devices past in
-      subst (λ (s : Start). Stands n s (without i l.history) q r) (sym from)
-      (stands_without n start i k v l.history q r told.0
+      rw from (stands_without n start i k v (last disk n start moments devices past).history q r told.0
       (stands_ever n start moments devices past q r told.1))
 
   pub ever : EverLaw disk remaining contents

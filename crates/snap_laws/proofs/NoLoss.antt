@@ -1,5 +1,5 @@
 -- One life continues another, and loses nothing that was stored.
-use Rattle.std.proofs.Common.{◌≡◌, List, [], ◌∷◌, ◌++◌, length, Option, Some, refl, sym, subst}
+use Rattle.std.proofs.Common.{◌≡◌, List, [], ◌∷◌, ◌++◌, length, Option, Some, refl, sym}
 use Rattle.std.specs.Option.{option_to_list}
 use Rattle.snap_memory.proofs.Popped.{last_has}
 use Rattle.snap_writer.specs.Writer.{WriterState}
@@ -14,10 +14,8 @@ module _ {D : Type 0} (disk : Disk.Ghosts D) where
       → Lived disk a first m
       → Lived disk m second z
       → Lived disk a (first ++ second) z
-  lived_on a m z [] second one other =
-      subst (λ (w : WriterState D). Lived disk w second z) one other
-  lived_on a m z (b ∷ first) second one other =
-      (one.0, lived_on b m z first second one.1 other)
+  lived_on a m z [] second one other = rw one at other
+  lived_on a m z (b ∷ first) second one other = (one.0, lived_on b m z first second one.1 other)
 
   pub loses_nothing : (a m z : WriterState D) → StaysLaw disk → IsAWriter disk a
       → HasLived disk a m

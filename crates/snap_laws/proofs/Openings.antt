@@ -1,15 +1,14 @@
 -- The premises of the law of a cut if all writers are at rest and all are back, and what follows
 -- for any number of starts.
-use Rattle.std.proofs.Common.{◌≡◌, ℕ, List, [], length, map, refl, ap, sym, subst, ◌∙◌, arith}
+use Rattle.std.proofs.Common.{ℕ, List, [], length, map, refl, sym, subst, ◌∙◌, arith}
 use Rattle.std.proofs.lemmas.{List.length-map, Option.same_Some, Option.slice_get_within}
-use Rattle.snap_disk.specs.Device.{MayLeave}
 use Rattle.snap_slot.proofs.Rest.{at_rest_leaves}
-use Rattle.snap_history.specs.History.{Update, IsBeginning, updates_of, number_after}
+use Rattle.snap_history.specs.History.{Update, IsBeginning}
 use Rattle.snap_history.specs.Pairs.{Pairs}
 use Rattle.snap_history.proofs.{Beginnings.beginning-self, Beginnings.number-beginning, Pairs.element}
 use Rattle.snap_memory.proofs.Collects.{grows_self}
 use Rattle.snap_register.specs.{declared.plan.Plan.Plan, History.starts, Seat.Known}
-use Rattle.snap_writer.specs.Life.{Place, resting, seen_at, Sees, CrashLeaves}
+use Rattle.snap_writer.specs.Life.{resting, Sees}
 use Rattle.snap_writer.{specs.Writer.WriterState, proofs.Crashes.CountsNow}
 use Rattle.snap_restart.specs.Crash.{AreOpened, StayKept, AnyCut}
 use Rattle.snap_restart.proofs.Crash.{its_segment, its_device, opened_on, unmap}
@@ -38,44 +37,24 @@ module _ {D : Type 0} (disk : Disk.Ghosts D) where
       let start = starts plan in
       let below = each_seen (λ (x : List Update). IsBeginning x h) (map resting writers)
       (map seen_of scanners)
-      (λ i p e. (
-      let w = unmap resting writers i p e in
-      subst (λ (q : Place D). IsBeginning (seen_at q) h) w.2 (history.writers_saw i w.0 w.1).0))
-      (λ k x e. (
-      let s = unmap seen_of scanners k x e in
-      subst (λ (y : List Update). IsBeginning y h) s.2 (history.scanners_saw k s.0 s.1))) in
+      (λ i p e. let w = unmap resting writers i p e in rw (← w.2) (history.writers_saw i w.0 w.1).0)
+      (λ k x e. let s = unmap seen_of scanners k x e in rw (← s.2) (history.scanners_saw k s.0 s.1)) in
       cut plan (map resting writers) (map seen_of scanners) files (length-map writers resting)
-      (λ i p e. (
-      let w = unmap resting writers i p e in (
-        w.0,
-        w.0,
-        [],
-        w.1,
-        are i w.0 w.1,
-        refl,
-        (w.0, sees_itself w.0, beginning-self w.0.seat.seen, sym w.2),
-      )))
-      (λ k x e. (
-      let s = unmap seen_of scanners k x e in (
-        k,
-        s.0,
-        s.1,
-        subst (λ (y : List Update). IsBeginning y s.0.seen) s.2 (beginning-self s.0.seen),
-      )))
-      (λ j x e i p at. (
+      (λ i p e.
+      let w = unmap resting writers i p e in
+      (w.0, w.0, [], w.1, are i w.0 w.1, refl, (w.0, sees_itself w.0, beginning-self w.0.seat.seen, sym w.2)))
+      (λ k x e.
+      let s = unmap seen_of scanners k x e in
+      (k, s.0, s.1, subst (λ (y : List Update). IsBeginning y s.0.seen) s.2 (beginning-self s.0.seen)))
+      (λ j x e i p at.
       let w = unmap resting writers i p at in
       let rises = number-beginning start x h i (below j x e) in
-      let all : updates_of i h ≡ updates_of i w.0.seat.seen =
-      (history.writers_saw i w.0 w.1).1 in
-      let same : updates_of i (seen_at p) ≡ updates_of i w.0.seat.seen =
-      ap (λ (q : Place D). updates_of i (seen_at q)) (sym w.2) in
-      omega (arith, rises, all, same)))
+      rw (← w.2) (omega (arith, rises, (history.writers_saw i w.0 w.1).1)))
       (record {
         size = length-map writers resting ∙ sym (length-map writers its_device) ∙ left.size;
-        each = λ i p b ep eb. (
+        each = λ i p b ep eb.
             let w = unmap resting writers i p ep in
-            subst (λ (q : Place D). CrashLeaves disk q b) w.2
-            (left.each i w.0.segment.device b (get_map its_device writers i w.0 w.1) eb));
+            rw (← w.2) (left.each i w.0.segment.device b (get_map its_device writers i w.0 w.1) eb);
       })
 
   pub now : (h : List Update) (writers : List (WriterState D)) (scanners : List Known)
@@ -97,7 +76,6 @@ module _ {D : Type 0} (disk : Disk.Ghosts D) where
   keep_a_start olds writers were opened hon =
       let devices = map its_device writers in
       let size = length-map writers its_device in
-      let each = opened.one_each in
       let start = starts opened.plan in (
         start,
         First start devices (λ files left. record {
@@ -105,20 +83,16 @@ module _ {D : Type 0} (disk : Disk.Ghosts D) where
           were_begun = λ j u e. absurd (cc e);
           once = λ i. omega arith;
           size = sym left.size;
-          holds = λ i b eb. (
-              let sizes = left.size in
-              let low = slice_get_within files i b eb in
-              let w = element writers i (omega (arith, low, sizes, size)) in
+          holds = λ i b eb.
+              let w = element writers i (omega (arith, left.size, slice_get_within files i b eb, size)) in
               let there = get_map its_device writers i w.0 w.1 in
               let is = (opened_on disk olds writers were i w.0 w.1).2 in
               let now = opened.starts_are i w.0 w.1 in
-              let number : w.0.segment.number ≡ number_after start [] i =
-              (let number = now.0 in omega (arith, number)) in
-              same_file refl (sym each ∙ sym size) number now.1
+              same_file refl (sym opened.one_each ∙ sym size) (omega (arith, now.0)) now.1
               (at_rest_leaves i (length olds) w.0.segment.number w.0.segment.value
               w.0.segment.spare_open (disk.device w.0.segment.device)
               (is.rests (hon i w.0.segment.device there)) b
-              (left.each i w.0.segment.device b there eb)));
+              (left.each i w.0.segment.device b there eb));
         }),
       )
 
@@ -127,11 +101,8 @@ module _ {D : Type 0} (disk : Disk.Ghosts D) where
   come_through counts_now olds news stay back hon n start moments past =
       Interrupted start moments olds news news past stay (
         back.size,
-        λ i d e f b ed ee ef left. (
+        λ i d e f b ed ee ef left.
             let is = hon i e ee in
-            let same : f ≡ e = same_Some f e (sym ef ∙ ee) in (
-              is,
-              counts_now e (disk.clock d) b is ((back.each i d e ed ee).any_time is).later
-                  (subst (λ (x : D). MayLeave (disk.device x) b) same left),
-            )),
+            let later = ((back.each i d e ed ee).any_time is).later in
+            (is, counts_now e (disk.clock d) b is later (rw (same_Some f e (sym ef ∙ ee)) at left)),
       )

@@ -1,5 +1,5 @@
 -- A payload can be read as one request or reply only: the one that the service got or gave.
-use Rattle.std.proofs.Common.{◌≡◌, ℕ, ◌<◌, ◌^◌, inl, inr, List, [], ◌∷◌, ◌++◌, drop, get_or, map, ap, sym, subst, ◌∙◌}
+use Rattle.std.proofs.Common.{◌≡◌, ℕ, ◌<◌, ◌^◌, inl, inr, List, [], ◌∷◌, ◌++◌, drop, get_or, ap, sym, ◌∙◌}
 use Rattle.std.proofs.Common.{arith}
 use Rattle.snap_history.specs.History.{Update, IsBeginning}
 use Rattle.snap_register.specs.{History.starts, Rule.segments, Seat.Known}
@@ -8,12 +8,10 @@ use Rattle.snap_frame.specs.Messages.{payload, says, value_bytes, named_bytes, I
 use Rattle.snap_frame.specs.Messages.{IsInLimits}
 use Rattle.snap_frame.proofs.BigEndian.{same_number, same_set}
 use Rattle.snap_frame.proofs.Behind.{values_apart, named_apart, same_entries}
-use Rattle.snap_frame.specs.{declared.named.NamedValue.NamedValue, segment_value.SegmentValue.SegmentValue}
-use Rattle.snap_frame.specs.{declared.request.Request.Request, declared.reply.Reply.Reply, Values.pair_of}
+use Rattle.snap_frame.specs.{declared.request.Request.Request, declared.reply.Reply.Reply}
 use Rattle.snap_session.specs.Talk.{Answer}
 use Rattle.snap_service.specs.Answers.{Answers}
-use Rattle.snap_restart.specs.LifeCrash.{Has}
-use Rattle.snap_laws.specs.Told.{IsMemoryAfter, IsPartAfter, Stands, IsTold}
+use Rattle.snap_laws.specs.Told.{Stands, IsTold}
 use Rattle.snap_laws.proofs.Replies.{stored, replied}
 use Rattle.snap_frame.specs.declared.request.Request.TheVariants as request
 
@@ -46,12 +44,8 @@ reads_stored a b h i k n v (request.Update j l w) (Stored m) fits asked is low l
     let told = stored a b j l m w h is seen in
     let number : m ≡ l = told.1 in
     let same = same_update i j k l v w fits (omega (arith, number, lower)) asked in
-    let numbers : n ≡ m = same_stored n m (omega (arith, low)) (omega (arith, lower)) said in (
-      subst (λ (o : ℕ). o < segments b.plan) (sym same.0) told.0,
-      numbers ∙ number ∙ sym same.1,
-      subst (λ (y : ℕ × ℕ × List ℕ). Has (starts b.plan) h y.0 y.1 y.2)
-          (λ t. (sym same.0 t, sym same.1 t, sym same.2 t)) told.2,
-    )
+    let numbers = same_stored n m (omega (arith, low)) (omega (arith, lower)) said in
+    (rw same.0 told.0, numbers ∙ number ∙ sym same.1, rw (same.0, same.1, same.2) told.2)
 reads_stored a b h i k n v (request.Update j l w) r fits asked is low lower said seen =
     absurd (omega (arith, head_is _ _ _ _ said))
 reads_stored a b h i k n v q r fits asked is low lower said seen =
@@ -66,13 +60,8 @@ reads_scan : (a b : Known) (h : List Update) (values : _) (q : Request) (r : Rep
 reads_scan a b h values request.Scan (Snapshot others) asked is low lower said seen =
     let told = replied a b request.Scan (Snapshot others) h is seen in
     let same = same_entries value_bytes IsValue values.items others.items values_apart low.each
-    lower.each (second_is _ _ _ _ _ _ said) (ap (drop 2) said) in (
-      told.0,
-      told.1,
-      subst (λ (es : List SegmentValue). IsMemoryAfter (segments b.plan) (starts b.plan) told.0 (map pair_of es)) (sym
-          same)
-          told.2,
-    )
+    lower.each (second_is _ _ _ _ _ _ said) (ap (drop 2) said) in
+    (told.0, told.1, rw same told.2)
 reads_scan a b h values request.Scan r asked is low lower said seen =
     absurd (omega (arith, head_is _ _ _ _ said))
 reads_scan a b h values q r asked is low lower said seen =
@@ -89,13 +78,8 @@ reads_part a b h set values (request.Part other) (Part others) may can asked is 
     let told = replied a b (request.Part other) (Part others) h is seen in
     let sets = same_set set.bits other.bits may.1 can.1 (ap (drop 1) asked) in
     let same = same_entries named_bytes IsNamedValue values.items others.items named_apart
-    low.0.each lower.0.each (second_is _ _ _ _ _ _ said) (ap (drop 2) said) in (
-      told.0,
-      told.1,
-      subst (λ (y : ℕ × List NamedValue).
-          IsPartAfter (segments b.plan) (starts b.plan) y.0 told.0 y.1)
-          (λ t. (sym sets t, sym same t)) told.2,
-    )
+    low.0.each lower.0.each (second_is _ _ _ _ _ _ said) (ap (drop 2) said) in
+    (told.0, told.1, rw (sets, same) told.2)
 reads_part a b h set values (request.Part other) r may can asked is low lower said seen =
     absurd (omega (arith, head_is _ _ _ _ said))
 reads_part a b h set values q r may can asked is low lower said seen =

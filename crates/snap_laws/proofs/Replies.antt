@@ -1,15 +1,15 @@
 -- A service has seen what it replies.
-use Rattle.std.proofs.Common.{◌≡◌, ⊎_elim, ℕ, ◌^◌, ◌<◌, List, map, refl, sym, subst, ◌∙◌}
+use Rattle.std.proofs.Common.{◌≡◌, ⊎_elim, inl, inr, ℕ, ◌^◌, ◌<◌, List, map, refl, ◌∙◌}
 use Rattle.snap_disk.specs.declared.refusal.Refusal.{Refusal}
 use Rattle.snap_history.specs.History.{Update, IsBeginning}
 use Rattle.snap_history.proofs.Beginnings.{beginning-self, beginning-trans}
 use Rattle.snap_register.specs.Seat.{Known, Grows, IsMemory}
-use Rattle.snap_register.specs.{declared.plan.Plan.Plan, History.starts, Rule.segments}
+use Rattle.snap_register.specs.{History.starts, Rule.segments}
 use Rattle.snap_scan.proofs.Sets.{at_below}
 use Rattle.snap_memory.specs.{Scans.BeginsFresh, Scans.MayRefuse, Sets.size, Values.pair_of}
 use Rattle.snap_frame.specs.declared.reply.Reply.TheVariants.{Stored, Snapshot, Status, Part, Refused}
 use Rattle.snap_frame.specs.declared.{request.Request.Request, reply.Reply.Reply}
-use Rattle.snap_service.specs.Answers.{Answers, AnswersUpdate, AnswersScan, AnswersPart, AnswersStatus, Outside, Long}
+use Rattle.snap_service.specs.Answers.{Answers, AnswersUpdate, AnswersScan, AnswersPart, Outside, Long}
 use Rattle.snap_service.specs.Answers.{Unseen, Settled}
 use Rattle.snap_restart.specs.LifeCrash.{Has}
 use Rattle.snap_laws.specs.Told.{IsPartAfter, Stands}
@@ -23,7 +23,7 @@ pub sees_self : (a : Known) → Sees a a
 sees_self a = (refl, beginning-self a.seen)
 
 pub sees_same : (a b : Known) → b ≡ a → Sees a b
-sees_same a b same = subst (λ (k : Known). Sees a k) (sym same) (sees_self a)
+sees_same a b same = rw same (sees_self a)
 
 pub sees_then : (a b c : Known) → Sees a b → Sees b c → Sees a c
 sees_then a b c one two = (two.0 ∙ one.0, beginning-trans a.seen b.seen c.seen one.1 two.1)
@@ -33,41 +33,24 @@ sees_grown a b grows = (grows.plan, grows.later)
 
 -- ---- a reply keeps what was seen
 
-updated : (a b : Known) (i k : ℕ) (v : List ℕ) (r : Reply) → AnswersUpdate a i k v r b → Sees a b
-updated a b i k v r (Outside far is same) = sees_same a b same
-updated a b i k v r (Long inside long is same) = sees_same a b same
-updated a b i k v r (Unseen inside short none is same) = sees_same a b same
-updated a b i k v r (Settled inside short is grows) = sees_grown a b grows
-
 scan_refused : (k : ℕ) (a b : Known) (why : Refusal) → MayRefuse k a why b → Sees a b
-scan_refused k a b why is = ⊎_elim
-    (λ m. ⊎_elim (λ same. sees_same a b same) (λ more. sees_grown a b more.0) m.1)
+scan_refused k a b why = ⊎_elim
+    (λ m. ⊎_elim (sees_same a b) (λ more. sees_grown a b more.0) m.1)
     (λ worn. sees_same a b worn.2)
-    is
-
-scanned : (a b : Known) (r : Reply) → AnswersScan a r b → Sees a b
-scanned a b (Snapshot values) is = sees_grown a b is.1.0
-scanned a b (Refused why detail) is = scan_refused (segments a.plan) a b why is.1
-scanned a b r is = absurd is
-
-scanned_part : (a b : Known) (set : ℕ) (r : Reply) → AnswersPart a set r b → Sees a b
-scanned_part a b set (Part values) is = sees_grown a b is.seen
-scanned_part a b set (Refused why detail) is = ⊎_elim
-    (λ far. sees_same a b far.3)
-    (λ may. scan_refused (size set) a b why may.2)
-    is
-scanned_part a b set r is = absurd is
-
-stated : (a b : Known) (r : Reply) → AnswersStatus a r b → Sees a b
-stated a b (Status statuses) is = sees_same a b is.1
-stated a b (Refused why detail) is = sees_same a b is.2
-stated a b r is = absurd is
 
 pub answered : (a b : Known) (q : Request) (r : Reply) → Answers a q r b → Sees a b
-answered a b (request.Update i k v) r is = updated a b i k v r is
-answered a b request.Scan r is = scanned a b r is
-answered a b request.Status r is = stated a b r is
-answered a b (request.Part set) r is = scanned_part a b set.bits r is
+answered a b (request.Update i k v) r (Outside far is same) = sees_same a b same
+answered a b (request.Update i k v) r (Long inside long is same) = sees_same a b same
+answered a b (request.Update i k v) r (Unseen inside short none is same) = sees_same a b same
+answered a b (request.Update i k v) r (Settled inside short is grows) = sees_grown a b grows
+answered a b request.Scan (Snapshot values) is = sees_grown a b is.1.0
+answered a b request.Scan (Refused why detail) is = scan_refused (segments a.plan) a b why is.1
+answered a b request.Status (Status statuses) is = sees_same a b is.1
+answered a b request.Status (Refused why detail) is = sees_same a b is.2
+answered a b (request.Part set) (Part values) is = sees_grown a b is.seen
+answered a b (request.Part set) (Refused why detail) (inl far) = sees_same a b far.3
+answered a b (request.Part set) (Refused why detail) (inr may) = scan_refused (size set.bits) a b why may.2
+answered a b q r is = absurd is
 
 -- ---- what a reply says is in the history
 
@@ -77,11 +60,8 @@ pub stored : (a b : Known) (i k n : ℕ) (v : List ℕ) (h : List Update)
 stored a b i k n v h (Outside far is same) seen = absurd (cc is)
 stored a b i k n v h (Long inside long is same) seen = absurd (cc is)
 stored a b i k n v h (Unseen inside short none is same) seen = absurd (cc is)
-stored a b i k n v h (Settled inside short is grows) seen = (
-  subst (λ (p : Plan). i < segments p) (sym grows.plan) inside,
-  is.0,
-  (b.seen, seen, is.1, is.2),
-)
+stored a b i k n v h (Settled inside short is grows) seen =
+    (rw grows.plan inside, is.0, (b.seen, seen, is.1, is.2))
 
 pub snapshot : (a b : Known) (values : _) (h : List Update) → AnswersScan a (Snapshot values) b
     → IsBeginning b.seen h
@@ -97,7 +77,7 @@ pub snapshot_part : (a b : Known) (set : ℕ) (values : _) (h : List Update)
     × IsPartAfter (segments b.plan) (starts b.plan) set part values.items
 snapshot_part a b set values h is seen =
     let s = is.values in
-    let among = subst (λ (p : Plan). set < 2 ^ segments p) (sym is.seen.plan) is.among in (
+    let among : set < 2 ^ segments b.plan = rw is.seen.plan is.among in (
       s.part,
       s.begins,
       s.fresh,

@@ -1,11 +1,11 @@
 -- Runs of a service: what it replied during a run is in what it has seen after the run.
-use Rattle.std.proofs.Common.{ℕ, inl, inr, List, [], ◌∷◌, ◌++◌, sym, subst}
+use Rattle.std.proofs.Common.{ℕ, inl, inr, List, [], ◌∷◌, ◌++◌}
 use Rattle.snap_history.{specs.History.Update, specs.History.IsBeginning, proofs.Beginnings.beginning-trans}
-use Rattle.snap_register.specs.{declared.plan.Plan.Plan, History.starts, Rule.segments, Seat.Known}
+use Rattle.snap_register.specs.{History.starts, Rule.segments, Seat.Known}
 use Rattle.snap_session.specs.Talk.{Answer, Run, Stays, Moves}
 use Rattle.snap_service.specs.Answers.{Answers}
 use Rattle.snap_laws.proofs.Replies.{Sees, sees_same, sees_then, answered}
-use Rattle.snap_laws.{specs.Told.IsTold, specs.Told.AreTold, specs.Laws.SessionLaw, proofs.Payloads.told}
+use Rattle.snap_laws.{specs.Told.AreTold, specs.Laws.SessionLaw, proofs.Payloads.told}
 
 answer_sees : (a b : Known) (x y : List ℕ) → Answer Answers a x y b → Sees a b
 answer_sees a b x y (fits, inl is) = answered a b is.0 is.1 is.3
@@ -29,9 +29,7 @@ run_told : (a b : Known) (h : List Update) (xs ys : List (List ℕ))
 run_told a b h [] [] run seen = tt
 run_told a b h (x ∷ xs) (y ∷ ys) run seen =
     let later = run_sees (Moves Answers) moves_sees run.1 b xs ys run.4 in (
-      subst (λ (p : Plan). IsTold (segments p) (starts p) h x y) (sym later.0)
-          (told run.0 run.1 h x y run.3
-          (beginning-trans run.1.seen b.seen h later.1 seen)),
+      rw later.0 (told run.0 run.1 h x y run.3 (beginning-trans run.1.seen b.seen h later.1 seen)),
       run_told run.1 b h xs ys run.4 seen,
     )
 run_told a b h xs ys run seen = absurd run

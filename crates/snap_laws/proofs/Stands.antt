@@ -1,5 +1,5 @@
 -- A fact of a history is one of each longer history, and of one that began earlier.
-use Rattle.std.proofs.Common.{◌≡◌, ℕ, zero, suc, ◌<◌, List, [], ◌∷◌, ◌++◌, Some, slice_get, ap, sym, subst, ◌∙◌}
+use Rattle.std.proofs.Common.{◌≡◌, ℕ, zero, suc, ◌<◌, List, [], ◌∷◌, ◌++◌, Some, slice_get, ap, sym, ◌∙◌}
 use Rattle.std.proofs.Common.{append_assoc}
 use Rattle.std.proofs.lemmas.Option.{same_Some}
 use Rattle.snap_history.specs.History.{Update, Start, IsBeginning, number_after, value_after}
@@ -18,10 +18,10 @@ pub stands_on : (n : ℕ) (start : Start) (h whole : List Update) (q : Request) 
     → IsBeginning h whole → Stands n start h q r → Stands n start whole q r
 stands_on n start h whole (request.Update i k v) (Stored m) longer is =
     (is.0, is.1, (is.2.0, beginning-trans is.2.0 h whole is.2.1 longer, is.2.2, is.2.3))
-stands_on n start h whole request.Scan (Snapshot values) longer is =
-    (is.0, beginning-trans is.0 h whole is.1 longer, is.2)
-stands_on n start h whole (request.Part set) (Part values) longer is =
-    (is.0, beginning-trans is.0 h whole is.1 longer, is.2)
+stands_on n start h whole request.Scan (Snapshot values) longer (part, begins, is) =
+    (part, beginning-trans part h whole begins longer, is)
+stands_on n start h whole (request.Part set) (Part values) longer (part, begins, is) =
+    (part, beginning-trans part h whole begins longer, is)
 stands_on n start h whole q r longer is = tt
 
 -- ---- a history from an earlier start on
@@ -33,49 +33,25 @@ memory_at start part i = (number_after start part i, value_after start part i)
 module _ (n : ℕ) (start : Start) (base : List Update) (next : Start)
     (after : StartsAfter n start base next) where
   begins_on : (part h : List Update) → IsBeginning part h → IsBeginning (base ++ part) (base ++ h)
-  begins_on part h b = (
-    b.0,
-    ap (λ (x : List Update). base ++ x) b.1
-        ∙ sym (append_assoc base part b.0),
-  )
+  begins_on part h b = (b.0, ap (λ (x : List Update). base ++ x) b.1 ∙ sym (append_assoc base part b.0))
 
   memory_on : (part : List Update) (i : ℕ) → i < n
       → Some (memory_at next part i) ≡ Some (memory_at start (base ++ part) i)
-  memory_on part i low =
-      ap (λ (y : ℕ × List ℕ). Some y) (λ t. (
-        number_on n start base next after part i low t,
-        value_on n start base next after part i low t,
-      ))
+  memory_on part i low = rw (number_on n start base next after part i low, value_on n start base next after part i low)
 
   pub stands_earlier : (h : List Update) (q : Request) (r : Reply) → Stands n next h q r
       → Stands n start (base ++ h) q r
-  stands_earlier h (request.Update i k v) (Stored m) is =
-      let has = is.2 in (
-        is.0,
-        is.1,
-        (
-          base ++ has.0,
-          begins_on has.0 h has.1,
-          has.2 ∙ number_on n start base next after has.0 i is.0,
-          has.3 ∙ value_on n start base next after has.0 i is.0,
-        ),
-      )
-  stands_earlier h request.Scan (Snapshot values) is = (
-    base ++ is.0,
-    begins_on is.0 h is.1,
-    record {
-      size = is.2.size;
-      each = λ i low. is.2.each i low ∙ memory_on is.0 i low;
-    },
-  )
-  stands_earlier h (request.Part set) (Part values) is = (
-    base ++ is.0,
-    begins_on is.0 h is.1,
-    record {
-      names = is.2.names;
-      each = λ p i at.
-          let e = is.2.each p i at in (e.0, e.1 ∙ memory_on is.0 i e.0);
-    },
+  stands_earlier h (request.Update i k v) (Stored m) (low, is, (part, begins, number, value)) =
+      let on = number ∙ number_on n start base next after part i low in
+      let same = value ∙ value_on n start base next after part i low in
+      (low, is, (base ++ part, begins_on part h begins, on, same))
+  stands_earlier h request.Scan (Snapshot values) (part, begins, is) =
+      let each = λ (i : ℕ) (low : i < n). is.each i low ∙ memory_on part i low in
+      (base ++ part, begins_on part h begins, record { size = is.size; each = each })
+  stands_earlier h (request.Part set) (Part values) (part, begins, is) = (
+    base ++ part,
+    begins_on part h begins,
+    record { names = is.names; each = λ p i at. let e = is.each p i at in (e.0, e.1 ∙ memory_on part i e.0) },
   )
   stands_earlier h q r is = tt
 
@@ -85,16 +61,12 @@ pub stands_without : (n : ℕ) (start : Start) (i k : ℕ) (v : List ℕ) (h : L
     (r : Reply) → UpdatesAnother i q → Stands n start h q r
     → Stands n (from_there start i k v) (without i h) q r
 stands_without n start i k v h (request.Update j l w) (Stored m) other is =
-    let has = is.2 in (
-      is.0,
-      is.1,
-      (
-        without i has.0,
-        (without i has.1.0, ap (without i) has.1.1 ∙ without-append i has.0 has.1.0),
-        has.2 ∙ number_without start i k j v has.0 other,
-        has.3 ∙ value_without start i k j v has.0 other,
-      ),
-    )
+    let part = is.2.0 in
+    let rest = is.2.1.0 in
+    let begins = ap (without i) is.2.1.1 ∙ without-append i part rest in
+    let number = is.2.2 ∙ number_without start i k j v part other in
+    let value = is.2.3 ∙ value_without start i k j v part other in
+    (is.0, is.1, (without i part, (without i rest, begins), number, value))
 stands_without n start i k v h (request.Update j l w) r other is = tt
 stands_without n start i k v h q r other is = absurd other
 
@@ -109,8 +81,7 @@ beside_map P Q f xs ys is = absurd is
 -- the pair at place j
 pub beside_at : {A B : Type 0} (P : A → B → Type 0) (xs : List A) (ys : List B) (j : ℕ) (x : A)
     (y : B) → SideBySide P xs ys → slice_get xs j ≡ Some x → slice_get ys j ≡ Some y → P x y
-beside_at {A} {B} P (a ∷ xs) (b ∷ ys) zero x y is ex ey =
-    subst (λ (z : A × B). P z.0 z.1) (λ t. (same_Some a x ex t, same_Some b y ey t)) is.0
+beside_at P (a ∷ xs) (b ∷ ys) zero x y is ex ey = rw (same_Some a x ex, same_Some b y ey) at is.0
 beside_at P (a ∷ xs) (b ∷ ys) (suc j) x y is ex ey = beside_at P xs ys j x y is.1 ex ey
 beside_at P [] ys j x y is ex ey = absurd (cc ex)
 beside_at P (a ∷ xs) [] j x y is ex ey = absurd is

@@ -1,15 +1,14 @@
 -- The premises of the law of a cut if two writers are at work.
-use Rattle.std.proofs.Common.{◌≡◌, ◌⊎◌, ℕ, zero, suc, ◌+◌, ◌≤◌, inl, inr, List, [], ◌∷◌, ◌++◌, length, Option, Some}
+use Rattle.std.proofs.Common.{◌≡◌, ◌⊎◌, ℕ, zero, suc, ◌+◌, inl, inr, List, [], ◌∷◌, ◌++◌, length, Option, Some}
 use Rattle.std.proofs.Common.{slice_get, refl, ap, sym, subst, ◌∙◌, arith, length-append}
-use Rattle.std.{specs.Option.option_to_list, proofs.lemmas.Bool.cases_lt, proofs.lemmas.Option.same_Some}
+use Rattle.std.{specs.Option.option_to_list, proofs.lemmas.Option.same_Some}
 use Rattle.snap_history.specs.History.{Update, IsBeginning, number_after}
 use Rattle.snap_history.specs.{Limits.IsNumber, Limits.IsShort, declared.limits.TheConstants.LAST_NUMBER}
 use Rattle.snap_history.proofs.Beginnings.{beginning-self}
-use Rattle.snap_scan.specs.Looks.{most_looks}
-use Rattle.snap_register.specs.{declared.plan.Plan.Plan, History.starts, Rule.segments, Seat.Known}
+use Rattle.snap_register.specs.{declared.plan.Plan.Plan, History.starts, Rule.segments}
 use Rattle.snap_segment.specs.Segment.{SegmentState}
 use Rattle.snap_writer.specs.Writer.{WriterState, number_of}
-use Rattle.snap_writer.specs.Life.{Place, in_store, resting, seen_at, Sees, Shows, StoresFirst, IsWriterOf}
+use Rattle.snap_writer.specs.Life.{Place, in_store, seen_at, Sees, Shows, StoresFirst, IsIn, IsWriterOf}
 use Rattle.snap_writer.specs.{Judge.IsJudged, declared.judgement.Judgement.TheVariants.Go}
 use Rattle.snap_restart.specs.LifeLaws.{IsLivedIn}
 use Rattle.snap_restart.proofs.{LifeCrash.each_seen, LifeCrash.cut_recovers, Crash.opened_on}
@@ -28,51 +27,32 @@ module _ {D : Type 0} (disk : Disk.Ghosts D) where
       (is : IsWriterOf disk plan 2 i a) (fresh : a.seat.seen ≡ [])
       (first : StoresFirst disk v a z) where
     none_seen : IsBeginning first.0.seat.seen []
-    none_seen = subst (λ (h : List Update). IsBeginning h []) (sym (ap (λ (k : Known). k.seen)
-        first.1.seat_is ∙ fresh)) (beginning-self [])
+    none_seen = rw (first.1.seat_is, fresh) (beginning-self [])
+
+    lived_at : (p : Place D) → IsIn disk first.0 a (first.0 ∷ []) p → IsLivedIn disk plan 2 [] i p
+    lived_at p there = (a, first.0, first.0 ∷ [], is, (inr (inl (v, first.1)), refl), there, none_seen)
 
     -- inside its store
     lived_inside : IsLivedIn disk plan 2 [] i
         (in_store a v z.segment.device)
-    lived_inside =
-        let b = first.0 in (
-          a,
-          b,
-          b ∷ [],
-          is,
-          (inr (inl (v, first.1)), refl),
-          inr (inl (
-            a,
-            v,
-            sees_itself disk a,
-            subst (λ (k : Known). IsBeginning a.seat.seen k.seen) (sym first.1.seat_is)
-                (beginning-self a.seat.seen),
-            first.1,
-            ap (λ (s : SegmentState D). in_store a v s.device) (same_segment b z first.2),
-          )),
-          none_seen,
-        )
+    lived_inside = lived_at _ (inr (inl (
+      a,
+      v,
+      sees_itself disk a,
+      rw first.1.seat_is (beginning-self a.seat.seen),
+      first.1,
+      ap (λ (s : SegmentState D). in_store a v s.device) (same_segment first.0 z first.2),
+    )))
 
     -- between its store and its show
     lived_between : IsLivedIn disk plan 2 [] i
         (stored_unshown a z)
-    lived_between =
-        let b = first.0 in
-        let segment = same_segment b z first.2 in
-        let seat = first.1.seat_is in (
-          a,
-          b,
-          b ∷ [],
-          is,
-          (inr (inl (v, first.1)), refl),
-          inr (inr (
-            b,
-            sees_itself disk b,
-            beginning-self b.seat.seen,
-            λ t. resting (record { segment = segment t; seat = sym seat t }),
-          )),
-          none_seen,
-        )
+    lived_between = lived_at _ (inr (inr (
+      first.0,
+      sees_itself disk first.0,
+      beginning-self first.0.seat.seen,
+      rw (same_segment first.0 z first.2, first.1.seat_is),
+    )))
 
   module _ (plan : Plan) (p q : Place D)
       (first : IsLivedIn disk plan 2 [] 0 p)
@@ -155,10 +135,7 @@ two_popped all mid (z ∷ zs) r s x y size one er two es =
     ))
 
 pub below_last : (k : ℕ) → IsNumber k → (k ≡ LAST_NUMBER → ⊥) → IsNumber (k + 1)
-below_last k low other = elim (cases_lt k LAST_NUMBER) [
-  | inl less ↦ omega (arith, less)
-  | inr least ↦ absurd (other (omega (arith, least, low)))
-]
+below_last k low other = omega arith
 
 module _ {D : Type 0} (disk : Disk.Ghosts D) (devices : List D)
     (writers : List (WriterState D)) (x y : WriterState D) (are : writers ≡ x ∷ y ∷ [])
@@ -177,9 +154,7 @@ module _ {D : Type 0} (disk : Disk.Ghosts D) (devices : List D)
 
   of_two : (i : ℕ) (w : WriterState D) → slice_get writers i ≡ Some w
       → IsWriterOf disk x.seat.plan 2 i w
-  of_two i w at = subst (λ (z : Plan × ℕ).
-      IsWriterOf disk z.0 z.1 i w)
-      (λ t. (sym same_plan t, two t)) (new.opened.writers_are i w at)
+  of_two i w at = rw (← same_plan, two) at (new.opened.writers_are i w at)
 
   pub are_two : AreTwo disk x y
   are_two = record {
@@ -200,7 +175,7 @@ module _ {D : Type 0} (disk : Disk.Ghosts D) (devices : List D)
         (short, next),
         number,
         is.unfenced,
-        subst (λ (n : ℕ). most_looks n ≤ w.seat.left) (sym count) (omega (arith, left)),
+        rw count (omega (arith, left)),
       )
 
   pub first_goes : (k : ℕ) (v : List ℕ) → IsShort v → k ≡ number_of x + 1 → IsNumber k

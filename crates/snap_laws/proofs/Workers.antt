@@ -1,10 +1,10 @@
 -- Sessions on a service that answers as a scanner does.
-use Rattle.std.proofs.Common.{ℕ, List, ◌++◌, refl, subst}
-use Rattle.snap_register.specs.{History.starts, Rule.segments, Seat.Known}
+use Rattle.std.proofs.Common.{refl}
+use Rattle.snap_register.specs.{Seat.Known}
 use Rattle.snap_frame.specs.declared.{request.Request.Request, reply.Reply.Reply}
 use Rattle.snap_session.{specs.Talk.start, specs.Wrapped.AnswersAs, proofs.Wrapped.shared}
 use Rattle.snap_service.specs.Answers.{Answers}
-use Rattle.snap_laws.{specs.Told.AreTold, specs.Worker.OfScannerLaw, specs.Worker.WorkerLaw, proofs.Runs.session_told}
+use Rattle.snap_laws.{specs.Worker.OfScannerLaw, specs.Worker.WorkerLaw, proofs.Runs.session_told}
 
 module _ {S : Type 0} (gives : S → Request → Reply → S → Type 0) (scanner : S → Known)
     (answers : AnswersAs scanner gives Answers) where
@@ -31,7 +31,4 @@ module _ {S : Type 0} (gives : S → Request → Reply → S → Type 0) (scanne
   pub worker_told : WorkerLaw gives scanner
   worker_told first now r0 r1 w0 w1 talk on h seen =
       let is = of_scanner first now r0 r1 w0 w1 talk on in
-      subst (λ (x : List (List ℕ) × List (List ℕ) × List (List ℕ)).
-      AreTold (segments (scanner now).plan) (starts (scanner now).plan) h x.0 (x.1 ++ x.2))
-      (λ t. (is.requests_are t, is.replies_are t, is.unsaid_are t))
-      (session_told (scanner now) is.served h seen)
+      rw (is.requests_are, is.replies_are, is.unsaid_are) at (session_told (scanner now) is.served h seen)

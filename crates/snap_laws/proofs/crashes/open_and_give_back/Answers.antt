@@ -1,14 +1,12 @@
-use Rattle.std.proofs.Common.{List, sym, subst}
 use Rattle.snap_restart.proofs.Crash.{backs_opened, backs_stopped}
-use Rattle.snap_laws.{specs.Worked.ComeThrough, proofs.Openings.come_through}
+use Rattle.snap_laws.proofs.Openings.{come_through}
 use Rattle.snap_laws.proofs.crashes.open_and_give_back.Goals as goal
 
 pub returns-in-Ok : goal.returns-in-Ok
 returns-in-Ok g c =
     let ds = c.args.devices.items in
     let told = c.in-Ok.ensures in
-    subst (λ (l : List g.row.D.Denot). ComeThrough g.D.Disk ds l) (sym c.close.ensures.devices)
-    (come_through g.D.Disk g.met.D.Disk.counts_now ds _ told.kept_ok
+    rw c.close.ensures.devices (come_through g.D.Disk g.met.D.Disk.counts_now ds _ told.kept_ok
     (backs_opened g.D.Disk ds c.in-Ok.store.writers.items told.opened))
 
 pub returns : goal.returns

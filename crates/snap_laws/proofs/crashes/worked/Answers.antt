@@ -1,5 +1,3 @@
-use Rattle.std.proofs.Common.{List, sym, subst}
-use Rattle.snap_laws.specs.Worked.{IsRecoveredNow, KeepAStart}
 use Rattle.snap_laws.proofs.Openings.{now, keep_a_start}
 use Rattle.snap_laws.proofs.crashes.worked.Goals as goal
 
@@ -9,10 +7,7 @@ returns-in-Ok g c =
     let opened = c.in-Ok.ensures in
     let ds = c.args.devices.items in
     let ws = c.in-Ok.store.writers.items in
-    record {
-      now = subst (λ (l : List g.row.D.Denot). IsRecoveredNow g.D.Disk l)
-          (sym c.close.ensures.devices)
-          (now g.D.Disk told.0 ws c.in-Ok.store.scanners.items ds opened.crash told.1 told.2);
-      start = subst (λ (l : List g.row.D.Denot). KeepAStart g.D.Disk l)
-          (sym c.close.ensures.devices) (keep_a_start g.D.Disk ds ws opened.opened opened.crash);
-    }
+    rw c.close.ensures.devices (record {
+      now = now g.D.Disk told.0 ws c.in-Ok.store.scanners.items ds opened.crash told.1 told.2;
+      start = keep_a_start g.D.Disk ds ws opened.opened opened.crash;
+    })
