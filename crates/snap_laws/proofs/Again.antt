@@ -6,8 +6,7 @@ use Rattle.snap_history.{specs.History.Update, specs.Pairs.Pairs, proofs.Pairs.e
 use Rattle.snap_register.specs.{declared.plan.Plan.Plan, History.starts, Seat.Known}
 use Rattle.snap_writer.specs.{Writer.WriterState, Life.resting}
 use Rattle.snap_restart.proofs.Crash.{its_segment, its_device, opened_on, unmap}
-use Rattle.snap_restart.specs.{Closed.IsHistory, Opened.IsOpened}
-use Rattle.snap_restart.specs.{Crash.AreOpened, Crash.AnyCut}
+use Rattle.snap_restart.specs.{Closed.IsHistory, Opened.IsOpened, Crash.AreOpened, Crash.AnyCut}
 use Rattle.snap_restart.proofs.{LifeStarts.bytes_left, Removals.get_map}
 use Rattle.snap_laws.{specs.Again.AreOfOne, specs.Again.GoOnBehind, proofs.Openings.at_rest_recovers}
 use Rattle.snap_disk.specs.declared.disk.Disk as Disk

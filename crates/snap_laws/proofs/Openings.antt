@@ -3,13 +3,11 @@
 use Rattle.std.proofs.Common.{ℕ, List, [], length, map, refl, sym, subst, ◌∙◌, arith}
 use Rattle.std.proofs.lemmas.{List.length-map, Option.same_Some, Option.slice_get_within}
 use Rattle.snap_slot.proofs.Rest.{at_rest_leaves}
-use Rattle.snap_history.specs.History.{Update, IsBeginning}
-use Rattle.snap_history.specs.Pairs.{Pairs}
+use Rattle.snap_history.specs.{History.Update, History.IsBeginning, Pairs.Pairs}
 use Rattle.snap_history.proofs.{Beginnings.beginning-self, Beginnings.number-beginning, Pairs.element}
 use Rattle.snap_memory.proofs.Collects.{grows_self}
 use Rattle.snap_register.specs.{declared.plan.Plan.Plan, History.starts, Seat.Known}
-use Rattle.snap_writer.specs.Life.{resting, Sees}
-use Rattle.snap_writer.{specs.Writer.WriterState, proofs.Crashes.CountsNow}
+use Rattle.snap_writer.{specs.Life.resting, specs.Life.Sees, specs.Writer.WriterState, proofs.Crashes.CountsNow}
 use Rattle.snap_restart.specs.Crash.{AreOpened, StayKept, AnyCut}
 use Rattle.snap_restart.proofs.Crash.{its_segment, its_device, opened_on, unmap}
 use Rattle.snap_restart.specs.{LifeCrash.Recovers, Closed.IsHistory, Opened.IsBack, Opened.IsOpened, Restarts.First}

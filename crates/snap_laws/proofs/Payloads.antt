@@ -1,6 +1,5 @@
 -- A payload can be read as one request or reply only: the one that the service got or gave.
-use Rattle.std.proofs.Common.{◌≡◌, ℕ, ◌<◌, ◌^◌, inl, inr, List, [], ◌∷◌, ◌++◌, drop, get_or, ap, sym, ◌∙◌}
-use Rattle.std.proofs.Common.{arith}
+use Rattle.std.proofs.Common.{◌≡◌, ℕ, ◌<◌, ◌^◌, inl, inr, List, [], ◌∷◌, ◌++◌, drop, get_or, ap, sym, ◌∙◌, arith}
 use Rattle.snap_history.specs.History.{Update, IsBeginning}
 use Rattle.snap_register.specs.{History.starts, Rule.segments, Seat.Known}
 use Rattle.snap_frame.specs.declared.reply.Reply.TheVariants.{Stored, Snapshot, Part}
@@ -8,11 +7,10 @@ use Rattle.snap_frame.specs.Messages.{payload, says, value_bytes, named_bytes, I
 use Rattle.snap_frame.specs.Messages.{IsInLimits}
 use Rattle.snap_frame.proofs.BigEndian.{same_number, same_set}
 use Rattle.snap_frame.proofs.Behind.{values_apart, named_apart, same_entries}
-use Rattle.snap_frame.specs.{declared.request.Request.Request, declared.reply.Reply.Reply}
+use Rattle.snap_frame.specs.declared.{request.Request.Request, reply.Reply.Reply}
 use Rattle.snap_session.specs.Talk.{Answer}
 use Rattle.snap_service.specs.Answers.{Answers}
-use Rattle.snap_laws.specs.Told.{Stands, IsTold}
-use Rattle.snap_laws.proofs.Replies.{stored, replied}
+use Rattle.snap_laws.{specs.Told.Stands, specs.Told.IsTold, proofs.Replies.stored, proofs.Replies.replied}
 use Rattle.snap_frame.specs.declared.request.Request.TheVariants as request
 
 -- the first elements are equal

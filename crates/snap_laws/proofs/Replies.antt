@@ -9,8 +9,7 @@ use Rattle.snap_scan.proofs.Sets.{at_below}
 use Rattle.snap_memory.specs.{Scans.BeginsFresh, Scans.MayRefuse, Sets.size, Values.pair_of}
 use Rattle.snap_frame.specs.declared.reply.Reply.TheVariants.{Stored, Snapshot, Status, Part, Refused}
 use Rattle.snap_frame.specs.declared.{request.Request.Request, reply.Reply.Reply}
-use Rattle.snap_service.specs.Answers.{Answers, AnswersUpdate, AnswersScan, AnswersPart, Outside, Long}
-use Rattle.snap_service.specs.Answers.{Unseen, Settled}
+use Rattle.snap_service.specs.Answers.{Answers, AnswersUpdate, AnswersScan, AnswersPart, Outside, Long, Unseen, Settled}
 use Rattle.snap_restart.specs.LifeCrash.{Has}
 use Rattle.snap_laws.specs.Told.{IsPartAfter, Stands}
 use Rattle.snap_frame.specs.declared.request.Request.TheVariants as request

@@ -1,6 +1,5 @@
 -- A fact of a history is one of each longer history, and of one that began earlier.
-use Rattle.std.proofs.Common.{◌≡◌, ℕ, zero, suc, ◌<◌, List, [], ◌∷◌, ◌++◌, Some, slice_get, ap, sym, ◌∙◌}
-use Rattle.std.proofs.Common.{append_assoc}
+use Rattle.std.proofs.Common.{◌≡◌, ℕ, zero, suc, ◌<◌, List, [], ◌∷◌, ◌++◌, Some, slice_get, ap, sym, ◌∙◌, append_assoc}
 use Rattle.std.proofs.lemmas.Option.{same_Some}
 use Rattle.snap_history.specs.History.{Update, Start, IsBeginning, number_after, value_after}
 use Rattle.snap_history.proofs.Beginnings.{beginning-trans}

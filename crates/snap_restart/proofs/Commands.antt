@@ -1,25 +1,24 @@
 -- Files on one of which a command worked keep one memory.
-use Rattle.std.proofs.Common.{◌≡◌, ◌≢◌, ◌⊎◌, ⊎_elim, ℕ, zero, suc, ◌+◌, ◌<◌, ◌≤◌, ◌==◌, inl, inr, false}
-use Rattle.std.proofs.Common.{List, [], ◌∷◌, ◌++◌, length, map, replicate, None, Some, slice_get, slice_set, refl, ap, sym}
-use Rattle.std.proofs.Common.{◌∙◌, arith, append-nil}
-use Rattle.std.{specs.Prelude.if◌then◌else◌, proofs.lemmas.Bool.Decides.nat_tests, proofs.lemmas.List.length-set}
-use Rattle.std.proofs.lemmas.{List.length-map, List.length-append, List.length-replicate, Option.same_Some}
-use Rattle.std.proofs.lemmas.{Option.slice_get_within, Bool.cases_eq}
+use Rattle.std.proofs.Common.{◌≡◌, ◌≢◌, ◌⊎◌, ⊎_elim, ℕ, zero, suc, ◌+◌, ◌<◌, ◌≤◌, ◌==◌, inl, inr, false, List, [], ◌∷◌}
+use Rattle.std.proofs.Common.{◌++◌, length, map, replicate, None, Some, slice_get, slice_set, refl, ap, sym, ◌∙◌, arith}
+use Rattle.std.proofs.Common.{append-nil}
+use Rattle.std.proofs.lemmas.List.{length-set, length-map, length-append, length-replicate}
+use Rattle.std.specs.Prelude.{if◌then◌else◌}
+use Rattle.std.proofs.lemmas.{Bool.Decides.nat_tests, Option.same_Some, Option.slice_get_within, Bool.cases_eq}
 use Rattle.snap_disk.specs.Device.{MayLeave}
 use Rattle.snap_segment.specs.{Layout.IsFileOf, States.IsEither}
 use Rattle.snap_slot.proofs.Readings.{holds_same}
 use Rattle.snap_history.specs.History.{Update, Start, updates_of, last_value, number_after, value_after}
 use Rattle.snap_history.proofs.Moments.{updates-append, last-append, last_none, number-push, number-push_other}
 use Rattle.snap_history.proofs.Moments.{value-push, value-push_other}
-use Rattle.snap_history.specs.Pairs.{Pairs}
-use Rattle.snap_history.proofs.{Lists.get-set_same, Lists.get-set_other, Lists.get-append_left, Pairs.element}
-use Rattle.snap_history.proofs.Pairs.{partner}
+use Rattle.snap_history.proofs.Lists.{get-set_same, get-set_other, get-append_left}
+use Rattle.snap_history.{specs.Pairs.Pairs, proofs.Pairs.element, proofs.Pairs.partner}
 use Rattle.snap_register.specs.Registers.{no_registers}
 use Rattle.snap_writer.{specs.Life.Place, specs.Life.in_store, proofs.Shown.number_kept, proofs.Shown.value_kept}
 use Rattle.snap_restart.specs.LifeCrash.{Begun, IsRecovered, KeepMemory}
 use Rattle.snap_restart.specs.Restarts.{Works, Held, update, without, from_there, IsJoined}
-use Rattle.snap_restart.proofs.{Merge.Found, Merge.FileAt, Merge.all_found, LifeStarts.kept_now, Removals.get_map}
-use Rattle.snap_restart.proofs.Placed.{same_file}
+use Rattle.snap_restart.proofs.Merge.{Found, FileAt, all_found}
+use Rattle.snap_restart.proofs.{LifeStarts.kept_now, Removals.get_map, Placed.same_file}
 use Rattle.snap_disk.specs.declared.disk.Disk as Disk
 
 -- ---- updates of one segment

@@ -1,6 +1,5 @@
 -- At each place in a writer's life its device and its seat agree.
-use Rattle.std.proofs.Common.{◌≡◌, ◌⊎◌, ⊎_elim, ℕ, ◌+◌, inl, inr, List, [], ◌∷◌, ◌++◌, None, refl, ap, sym}
-use Rattle.std.proofs.Common.{◌∙◌, arith}
+use Rattle.std.proofs.Common.{◌≡◌, ◌⊎◌, ⊎_elim, ℕ, ◌+◌, inl, inr, List, [], ◌∷◌, ◌++◌, None, refl, ap, sym, ◌∙◌, arith}
 use Rattle.std.proofs.lemmas.List.{append_assoc}
 use Rattle.snap_segment.specs.Segment.{SegmentState}
 use Rattle.snap_history.{specs.History.IsBeginning, proofs.Beginnings.beginning-self, proofs.Beginnings.beginning-trans}
@@ -8,8 +7,8 @@ use Rattle.snap_register.specs.{declared.plan.Plan.Plan, Seat.Known, Seat.own_of
 use Rattle.snap_writer.specs.Writer.{WriterState, number_of, value_of}
 use Rattle.snap_writer.specs.Update.{IsSameSeat, EndsWith}
 use Rattle.snap_writer.proofs.Shown.{same_grown, number_grown, value_grown, number_shown, value_shown}
-use Rattle.snap_writer.specs.Life.{Place, seen_at, Rests, Sees, Stores, Shows, Does, Lived, IsAt}
-use Rattle.snap_writer.specs.Life.{IsInStore, IsIn, IsWriterOf, IsPlaceOf}
+use Rattle.snap_writer.specs.Life.{Place, seen_at, Rests, Sees, Stores, Shows, Does, Lived, IsAt, IsInStore, IsIn}
+use Rattle.snap_writer.specs.Life.{IsWriterOf, IsPlaceOf}
 use Rattle.snap_disk.specs.declared.disk.Disk as Disk
 
 -- an update that a seat shows comes after all that it had seen

@@ -1,10 +1,8 @@
 -- The knowledge of a scanner that has met all writers twice, and the contents of their devices then.
-use Rattle.std.proofs.Common.{◌≡◌, ℕ, ◌+◌, ◌<◌, List, slice_get, slice_set, Some, refl, ap, sym, subst}
-use Rattle.std.proofs.Common.{◌∙◌, arith}
+use Rattle.std.proofs.Common.{◌≡◌, ℕ, ◌+◌, ◌<◌, List, slice_get, slice_set, Some, refl, ap, sym, subst, ◌∙◌, arith}
 use Rattle.snap_segment.specs.Segment.{SegmentState, IsKept}
-use Rattle.snap_history.specs.History.{Update, IsBeginning}
 use Rattle.snap_history.proofs.Beginnings.{beginning-self, beginning-trans, number-beginning}
-use Rattle.snap_history.{specs.Pairs.Pairs, proofs.Pairs.partner}
+use Rattle.snap_history.{specs.History.Update, specs.History.IsBeginning, specs.Pairs.Pairs, proofs.Pairs.partner}
 use Rattle.snap_register.specs.History.{starts}
 use Rattle.snap_register.specs.Seat.{Known, Grows, AreTogether, number_in, value_in}
 use Rattle.snap_memory.proofs.{Collects.grows_self, Collects.grows_more, ScanAnswer.same_value}

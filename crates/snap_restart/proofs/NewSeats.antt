@@ -1,6 +1,5 @@
 -- New registers' seats match the segments that the registers were opened with.
-use Rattle.std.proofs.Common.{◌≡◌, ℕ, ◌<◌, ◌≤◌, List, [], length, map, slice_get, Some, ap, sym, ◌∙◌}
-use Rattle.std.proofs.Common.{arith}
+use Rattle.std.proofs.Common.{◌≡◌, ℕ, ◌<◌, ◌≤◌, List, [], length, map, slice_get, Some, ap, sym, ◌∙◌, arith}
 use Rattle.std.proofs.lemmas.List.{length-map}
 use Rattle.snap_register.specs.Seat.{Known, own_of, number_in, value_in}
 use Rattle.snap_register.specs.Parts.{IsNewSeat, IsOpening, AreWriters, AreReaders}

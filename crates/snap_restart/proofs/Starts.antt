@@ -1,16 +1,15 @@
 -- Files keep one memory over any number of crashes and starts.
 use Rattle.std.proofs.Common.{◌≡◌, ℕ, List, [], ◌∷◌, ◌++◌, length, map, refl, sym, subst, ◌∙◌, arith, append-nil}
 use Rattle.std.proofs.lemmas.List.{length-map}
-use Rattle.snap_history.specs.History.{Update, Start}
-use Rattle.snap_history.proofs.Pairs.{partner}
+use Rattle.snap_history.{specs.History.Update, specs.History.Start, proofs.Pairs.partner}
 use Rattle.snap_register.specs.History.{starts, updates}
 use Rattle.snap_writer.specs.Writer.{WriterState}
 use Rattle.snap_restart.specs.LifeCrash.{Begun, IsRecovered, KeepMemory}
-use Rattle.snap_restart.proofs.{LifeStarts.kept_now, Placed.same_file, Pairs.partner_of}
 use Rattle.snap_restart.specs.Crash.{AllHonest, GoesOn, AreOpened}
 use Rattle.snap_restart.specs.Restarts.{Restarts, First, Crashed, Interrupted, Spared, Put, PutCutOff, Remade, Last}
 use Rattle.snap_restart.specs.Restarts.{MadeLaw, IsJoined, update, without}
 use Rattle.snap_restart.proofs.Commands.{stored, cut_off, remade, joined_without}
+use Rattle.snap_restart.proofs.{LifeStarts.kept_now, Placed.same_file, Pairs.partner_of}
 use Rattle.snap_disk.specs.declared.disk.Disk as Disk
 
 module _ {D : Type 0} (disk : Disk.Ghosts D) (n : ℕ) (start : Start) where

@@ -1,8 +1,7 @@
 use Rattle.std.proofs.Common.{◌≡◌, ap, map, ◌∙◌, arith}
 use Rattle.std.proofs.lemmas.Grind.{common_steps}
 use Rattle.snap_history.proofs.Lists.{get-push}
-use Rattle.snap_restart.specs.Closed.{Rests}
-use Rattle.snap_restart.proofs.{Removals.all_yielded, Meetings.rests_moved}
+use Rattle.snap_restart.{specs.Closed.Rests, proofs.Removals.all_yielded, proofs.Meetings.rests_moved}
 use Rattle.snap_restart.proofs.shutdown.release_all.Goals as goal
 
 pub writers-preserved : goal.writers-preserved

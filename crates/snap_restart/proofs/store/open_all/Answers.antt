@@ -2,10 +2,9 @@ use Rattle.std.proofs.Common.{rules, ◌≡◌, ◌++◌, List, length, map, ap,
 use Rattle.std.proofs.lemmas.Simd.{map-map}
 use Rattle.snap_disk.specs.declared.refusal.Refusal.TheVariants.{NoMemory}
 use Rattle.snap_segment.specs.Segment.{SegmentState}
-use Rattle.snap_restart.specs.Opened.{recovered}
 use Rattle.snap_restart.proofs.NewSeats.{starts_are, fresh_are, back_are, paired_are}
 use Rattle.snap_restart.proofs.Crash.{opened, stay_kept, backs_opened, backs_stopped}
-use Rattle.snap_restart.proofs.{Refusals.stopped_last, Durability.stay_stored}
+use Rattle.snap_restart.{specs.Opened.recovered, proofs.Refusals.stopped_last, proofs.Durability.stay_stored}
 use Rattle.snap_restart.proofs.store.open_all.Goals as goal
 
 pub place_writers-requires-clause-starts : goal.place_writers-requires-clause-starts
