@@ -47,8 +47,8 @@ module _ {D : Type 0} (disk : Disk.Ghosts D) where
   bytes_left devices = record {
     size = sym (length-map devices (λ (x : D). (disk.device x).bytes));
     each = λ i d b ed eb.
-        let same = same_Some (disk.device d).bytes b (sym (get_map (λ (x : D). (disk.device x).bytes) devices i d ed) ∙ eb)
-        in rw (← same) (record { size = refl; elsewhere = λ p _. refl });
+        let at = get_map (λ (x : D). (disk.device x).bytes) devices i d ed in
+        rw (← same_Some (disk.device d).bytes b (sym at ∙ eb)) (record { size = refl; elsewhere = λ p _. refl });
   }
 
   pub kept_now : (n : ℕ) (start : Start) (h : List Update) (begun : ℕ → List ℕ → Type 0)

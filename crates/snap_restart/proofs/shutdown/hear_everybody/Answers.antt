@@ -24,8 +24,9 @@ scanner g c =
     let s1 = c.hear_all.new.scanners.items in
     let some = c.requires.back.some_scanner in
     let size = c.hear_all.ensures.scanners.size in
+    let now = c.index_mut-scanner in
     partner_of (λ _. Grows) _ s1 0 _ c.hear_all.ensures.scanners
-    (slice_get_read s1 (length s1) 0 c.index_mut-scanner.result.now refl (omega arith) c.index_mut-scanner.ensures.value)
+    (slice_get_read s1 (length s1) 0 now.result.now refl (omega arith) now.ensures.value)
 
 pub meet_all-requires : goal.meet_all-requires
 meet_all-requires g c =
