@@ -7,7 +7,6 @@ pub mod NewSeats
 pub mod Refusals
 pub mod Crash
 pub mod Starts
-pub mod Durability
 pub mod Commands
 pub mod LifeOrder
 pub mod Merge

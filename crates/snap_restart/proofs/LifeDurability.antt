@@ -1,11 +1,12 @@
 -- Values that a writer has stored stay, throughout its life.
-use Rattle.std.proofs.Common.{◌≡◌, ⊎_elim, ℕ, suc, ◌+◌, ◌≤◌, inl, inr, List, [], ◌∷◌, refl, ◌∙◌, arith}
+use Rattle.std.proofs.Common.{◌≡◌, ⊎_elim, ℕ, suc, ◌+◌, ◌≤◌, inl, inr, List, [], ◌∷◌, length, refl, ◌∙◌, arith}
 use Rattle.snap_disk.specs.{Device.MayLeave, Time.LeavesOnly, Laws.started, Laws.then, Laws.weaker}
 use Rattle.snap_slot.specs.{Layout.IsFileOf, States.IsEither}
 use Rattle.snap_register.specs.declared.plan.Plan.{Plan}
 use Rattle.snap_writer.specs.Life.{Stores, Does, Lived, IsWriterOf}
 use Rattle.snap_writer.{specs.Writer.WriterState, proofs.Crashes.OnlyNow}
 use Rattle.snap_restart.specs.LifeDurability.{Gave, Once, Keeps, Stays}
+use Rattle.snap_restart.specs.{Crash.AreOpened, Durability.AllStays}
 use Rattle.snap_restart.proofs.{Placed.same_file, Lives.does_is}
 use Rattle.snap_disk.specs.declared.disk.Disk as Disk
 
@@ -129,3 +130,10 @@ module _ {D : Type 0} (disk : Disk.Ghosts D) (plan : Plan) (n i : ℕ) where
             (Keeps n i b life) (Keeps n i a (b ∷ life)) first rest.any_time (λ x kept. kept) on;
         now = λ x left. on x (rest.now x left);
       }
+
+-- what the writers of an opening have stored stays
+pub stay_stored : {D : Type 0} (disk : Disk.Ghosts D) → OnlyNow disk → (devices : List D)
+    (writers : List (WriterState D)) → AreOpened disk devices writers → AllStays disk writers
+stay_stored disk only_now devices writers opened i w a z before life at first =
+    stays disk opened.plan (length writers) i only_now a z life
+    (lived_is disk opened.plan (length writers) i w a before (opened.writers_are i w at) first)

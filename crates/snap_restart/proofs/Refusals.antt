@@ -7,7 +7,7 @@ use Rattle.snap_slot.specs.Findings.{IsNoOpening}
 use Rattle.snap_segment.specs.{Segment.SegmentState, Open.CountsFailed, Refusals.IsOpenRefusal}
 use Rattle.snap_history.specs.Pairs.{Pairs}
 use Rattle.snap_writer.proofs.Crashes.{CountsNow, OnlyNow}
-use Rattle.snap_restart.proofs.Pairs.{pairs_self, Pairs-mapped, Pairs-spliced}
+use Rattle.snap_restart.proofs.Pairs.{Pairs-mapped, Pairs-spliced}
 use Rattle.snap_restart.specs.Opened.{IsBack, IsOpened, IsReturned, IsStopped}
 use Rattle.snap_disk.specs.declared.disk.Disk as Disk
 
@@ -78,20 +78,6 @@ module _ {D : Type 0} (disk : Disk.Ghosts D) where
         refused = λ _. low;
         returned = rw is (rw (← front, take-append-drop k olds) at all);
       }
-
-  -- memory ran out at once: nothing was touched
-  pub stopped_first : OnlyNow disk → (olds : List D) → IsStopped disk olds olds NoMemory 0
-  stopped_first only_now olds = record {
-    kind = tt;
-    within = omega arith;
-    refused = λ ne. absurd (ne refl);
-    returned = pairs_self (IsReturned disk (length olds) 0 NoMemory) (λ i d. record {
-      back = back_same only_now d;
-      before = λ l. absurd (omega arith);
-      here = λ _. (refl, λ ne. absurd (ne refl));
-      behind = λ _. refl;
-    }) olds;
-  }
 
   -- memory ran out after all were opened
   pub stopped_last : (olds news : List D) (ss : List (SegmentState D))

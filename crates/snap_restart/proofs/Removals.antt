@@ -1,9 +1,8 @@
 -- Lists whose items are removed one after another.
-use Rattle.std.proofs.Common.{◌≡◌, ℕ, zero, suc, ◌+◌, List, ◌∷◌, ◌++◌, length, map, take, Some, slice_get, Option}
+use Rattle.std.proofs.Common.{◌≡◌, ℕ, zero, suc, ◌+◌, List, ◌∷◌, ◌++◌, length, map, Some, slice_get, Option}
 use Rattle.std.proofs.Common.{[], None, Result, Ok, Err, IfOk, append-nil, refl, ap, sym, subst, ◌∙◌, arith}
 use Rattle.std.specs.Prelude.{◌<◌, All, IsSome, IsErr, option_map}
 use Rattle.std.proofs.lemmas.Option.{get_or_from_slice_get, slice_get-map}
-use Rattle.std.proofs.lemmas.List.{length-append, length-map, length-take-le}
 use Rattle.snap_history.proofs.Removals.{Taken}
 
 pub get_map : {A B : Type 0} (f : A → B) (ws : List A) (k : ℕ) (x : A) → slice_get ws k ≡ Some x
@@ -39,12 +38,6 @@ pub get_next : {A B : Type 0} (f : B → A) (ws : List B) (left rest all : List 
     → left ≡ x ∷ rest → slice_get all (length ws) ≡ Some x
 get_next f [] left rest all x whole next = rw (← whole, next)
 get_next f (w ∷ ws) left rest all x whole next = rw (← whole) (get_next f ws left rest _ x refl next)
-
--- the length of the list after k of the items were appended
-pub so_far : {A B : Type 0} (f : A → B) (old items : List B) (ss : List A) (k : ℕ)
-    → items ≡ old ++ map f (take k ss) → k < length ss → length items ≡ length old + k
-so_far f old items ss k is low = ap length is ∙ length-append old (map f (take k ss))
-    ∙ ap (λ n. length old + n) (length-map (take k ss) f ∙ length-take-le k ss (omega arith))
 
 pub no_ok : {T E : Type 0} (result : Result T E) (P : T → Type 0) → IsErr result → IfOk result P
 no_ok (Ok x) P is = absurd cc

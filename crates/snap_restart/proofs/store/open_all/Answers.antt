@@ -4,7 +4,7 @@ use Rattle.snap_disk.specs.declared.refusal.Refusal.TheVariants.{NoMemory}
 use Rattle.snap_segment.specs.Segment.{SegmentState}
 use Rattle.snap_restart.proofs.NewSeats.{starts_are, fresh_are, back_are, paired_are}
 use Rattle.snap_restart.proofs.Crash.{opened, stay_kept, backs_opened, backs_stopped}
-use Rattle.snap_restart.{specs.Opened.recovered, proofs.Refusals.stopped_last, proofs.Durability.stay_stored}
+use Rattle.snap_restart.{specs.Opened.recovered, proofs.Refusals.stopped_last, proofs.LifeDurability.stay_stored}
 use Rattle.snap_restart.proofs.store.open_all.Goals as goal
 
 pub place_writers-requires-clause-starts : goal.place_writers-requires-clause-starts
