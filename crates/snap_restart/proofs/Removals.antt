@@ -1,19 +1,12 @@
 -- Lists whose items are removed one after another.
 use Rattle.std.proofs.Common.{◌≡◌, ℕ, zero, suc, ◌+◌, List, ◌∷◌, ◌++◌, length, map, Some, slice_get, Option}
-use Rattle.std.proofs.Common.{[], None, Result, Ok, Err, IfOk, append-nil, refl, ap, sym, subst, ◌∙◌, arith}
-use Rattle.std.specs.Prelude.{◌<◌, All, IsSome, IsErr, option_map}
-use Rattle.std.proofs.lemmas.Option.{get_or_from_slice_get, slice_get-map}
-use Rattle.snap_history.proofs.Removals.{Taken}
+use Rattle.std.proofs.Common.{[], None, Result, Ok, Err, IfOk, append-nil, refl, ap, sym, ◌∙◌, arith}
+use Rattle.std.specs.Prelude.{◌<◌, IsSome, IsErr, option_map}
+use Rattle.std.proofs.lemmas.Option.{slice_get-map}
 
 pub get_map : {A B : Type 0} (f : A → B) (ws : List A) (k : ℕ) (x : A) → slice_get ws k ≡ Some x
     → slice_get (map f ws) k ≡ Some (f x)
 get_map f ws k x e = slice_get-map f ws k ∙ ap (option_map f) e
-
--- a property of all items holds of the next one
-pub all_dropped : {A : Type 0} (P : A → Type 0) (k : ℕ) (ws : List A) (x : A) (rest : List A)
-    → All P ws → Taken k ws x rest → P x
-all_dropped P k ws x rest all next =
-    subst P (get_or_from_slice_get ws k x x next.at) (all k x next.inside)
 
 -- one item more was removed, and the iterator has as many left as it says
 pub one_fewer : {A : Type 0} {x : A} {left rest : List A} {m n : ℕ} → m ≡ length left
