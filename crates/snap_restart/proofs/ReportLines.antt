@@ -10,11 +10,10 @@ use Rattle.snap_slot.specs.Text.{line}
 
 lines_push : (i j : ℕ) (xs : List Recovered) (x : Recovered) → j ≡ i + length xs
     → lines_text i (xs ++ x ∷ []) ≡ lines_text i xs ++ line (recovered_text j x)
-lines_push i j [] x e = let at : i ≡ j = omega arith in append-nil (line (recovered_text i x)) ∙ ap (λ (k : ℕ). line
-    (recovered_text k x)) at
-lines_push i j (y ∷ xs) x e = let at : j ≡ i + 1 + length xs = omega arith in
-    ap (λ l. line (recovered_text i y) ++ l) (lines_push (i + 1) j xs x at) ∙ sym (append_assoc (line (recovered_text i
-    y)) (lines_text (i + 1) xs) (line (recovered_text j x)))
+lines_push i j [] x e = let same : i ≡ j = omega arith in rw (append-nil, same)
+lines_push i j (y ∷ xs) x e =
+    let on : j ≡ i + 1 + length xs = omega arith in
+    rw (lines_push (i + 1) j xs x on, append_assoc (line (recovered_text i y)) (lines_text (i + 1) xs))
 
 -- the first k lines and the next one
 pub lines_next : (xs : List Recovered) (k : ℕ) (x : Recovered) → slice_get xs k ≡ Some x

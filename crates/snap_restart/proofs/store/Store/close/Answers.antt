@@ -1,5 +1,4 @@
 use Rattle.std.proofs.Common.{ap, sym, ◌∙◌}
-use Rattle.snap_segment.specs.Segment.{SegmentState}
 use Rattle.snap_writer.specs.Writer.{WriterState}
 use Rattle.snap_restart.specs.Closed.{HasMet}
 use Rattle.snap_restart.proofs.{Pairs.pairs_mapped, Meetings.holds_after, Crash.any_cut}
@@ -8,7 +7,7 @@ use Rattle.snap_restart.proofs.store.Store.close.Goals as goal
 pub returns-clause-devices : goal.returns-clause-devices
 returns-clause-devices g c = c.release_all.ensures.devices
     ∙ sym (pairs_mapped HasMet (λ (w : WriterState g.row.D.Denot). w.segment.device)
-    (λ a b m. ap (λ (s : SegmentState g.row.D.Denot). s.device) (sym m.segment_is))
+    (λ a b m. rw m.segment_is)
     c.args.self.writers.items c.hear_everybody.new.writers.items c.hear_everybody.ensures.met)
 
 pub returns-clause-history : goal.returns-clause-history
