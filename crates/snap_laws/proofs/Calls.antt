@@ -1,7 +1,7 @@
 -- A client's calls over an honest connection.
 use Rattle.std.proofs.Common.{◌≡◌, ◌⊎◌, ℕ, ◌≤◌, inl, inr, List, [], ◌∷◌, ◌++◌, length, map, All, Option, Some, None}
 use Rattle.std.proofs.Common.{refl, ap, sym, ◌∙◌, arith, append_assoc, append-nil, length-append}
-use Rattle.std.{proofs.lemmas.List.Elements.All-tail, specs.List.concat, specs.Int.w32, specs.Int.to_be_bytes}
+use Rattle.std.{proofs.lemmas.List.Elements.All-tail, specs.List.concat}
 use Rattle.snap_disk.specs.declared.refusal.Refusal.{Refusal}
 use Rattle.snap_history.specs.History.{Update, Start}
 use Rattle.snap_register.specs.Seat.{Known}
@@ -87,12 +87,7 @@ tail_is (Some NoMemory) taken ps rs us rest held tail p = inl p.1
 
 -- no frame is empty
 some_frame : (x rest : List ℕ) → frame x ++ rest ≡ [] → ⊥
-some_frame x rest e = absurd (omega (
-  arith,
-  ap length e,
-  length-append (frame x) rest,
-  length-append (to_be_bytes w32 (length x)) x,
-))
+some_frame x rest e = absurd (omega (arith, simp length-append at (ap length e)))
 
 -- the first frame is unique
 first_same : (x y r s : List ℕ) → length x ≤ max_payload → length y ≤ max_payload

@@ -1,11 +1,11 @@
 -- New registers, after all writers' seats are split off, keep their rule.
 use Rattle.std.proofs.Common.{◌≡◌, ℕ, zero, suc, ◌+◌, ◌-◌, ◌<◌, ◌≤◌, List, [], ◌∷◌, ◌++◌, length, Some, slice_get, refl}
-use Rattle.std.proofs.Common.{ap, sym, subst, ◌∙◌, arith, length-append}
+use Rattle.std.proofs.Common.{sym, subst, ◌∙◌, arith, length-append}
 use Rattle.std.proofs.lemmas.Option.{slice_get_within}
 use Rattle.snap_register.specs.Rule.{segments, seats, size, IsWriter, Kept, first_role, without_first_role}
 use Rattle.snap_register.specs.Setup.{first_view, opening_words, IsReady, IsFirst}
 use Rattle.snap_register.proofs.Opens.{opens, first_is, enough, bare, first_after}
-use Rattle.snap_register.specs.{Registers.Moment, declared.plan.Entry.Entry, declared.plan.Plan.Plan}
+use Rattle.snap_register.specs.{Registers.Moment, declared.plan.Plan.Plan}
 use Rattle.snap_register.specs.{declared.plan.SeatView.SeatView, History.updates, History.only}
 use Rattle.snap_register.proofs.{Joins.gives, Updates.updates_count}
 use Rattle.snap_writer.specs.{Writer.WriterState, Life.Place, Life.seen_at}
@@ -72,7 +72,7 @@ module _ (p : Plan) (ready : IsReady p) where
         left_is = omega arith;
         is_first = first_after (Unit {0}) (size p) (size p) h.left (h.left - 1) (v.low + 1) (v, [])
             (without_first_role v, []) f (omega arith) refl refl;
-        many = length-append h.others (first_role v ∷ []) ∙ (let many = h.many in omega arith);
+        many = omega (arith, h.many, length-append h.others (first_role v ∷ []));
         writers = λ i inside. dite (ℕ_discrete i k)
             (λ same. (
               first_role v,
@@ -118,26 +118,23 @@ module _ (p : Plan) (ready : IsReady p) where
       record {
         state = table (all.first ∷ all.others);
         kept = all.kept;
-        seat = λ i low. (
-            let w = all.writers i low in (suc i, w.0, w.1, w.2, w.3));
+        seat = λ i low. let w = all.writers i low in (suc i, w.0, w.1, w.2, w.3);
       }
 
   -- its history has no update of the n files
   pub none_stands : (m : AtOnce) → HasNone (segments p) (updates m.kept.history)
   none_stands m i low =
       let seat = m.seat i low in
-      let v = seat.1 in
       let is = seat.3 in
-      let own = (m.kept.each_seat seat.0 v seat.2).role i (omega arith, omega arith) in
-      let same : only i v.seen ≡ only i m.kept.history = own.all (omega arith) in
-      updates_count i m.kept.history ∙ ap (λ (l : List Entry). length l) (sym same)
-      ∙ ap (λ (l : List Entry). length (only i l)) seat.4
+      let own = (m.kept.each_seat seat.0 seat.1 seat.2).role i (omega arith, omega arith) in
+      let same : only i seat.1.seen ≡ only i m.kept.history = own.all (omega arith) in
+      rw (updates_count, ← same, seat.4)
 
   pub seat_there : {D : Type 0} (m : AtOnce) (i : ℕ) (place : Place D) → i < segments p
       → seen_at place ≡ [] → IsSeatOf m.state.views i place
   seat_there m i place low none =
       let seat = m.seat i low in
-      (seat.0, seat.1, seat.2, seat.3, none ∙ sym (ap (λ (l : List Entry). updates l) seat.4))
+      (seat.0, seat.1, seat.2, seat.3, rw (none, seat.4))
 
 module _ {D : Type 0} (disk : Disk.Ghosts D) where
   seats_there : (plan : Plan) (ready : IsReady plan) (m : AtOnce plan ready)

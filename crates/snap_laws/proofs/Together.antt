@@ -123,16 +123,7 @@ two_popped all mid [] r s x y size one er two es =
 two_popped all mid (z ∷ zs) r s x y size one er two es =
     let ry = ap (λ (o : Option _). length (option_to_list o)) er in
     let sx = ap (λ (o : Option _). length (option_to_list o)) es in
-    absurd (omega (
-      arith,
-      size,
-      ap length one,
-      ap length two,
-      length-append mid (option_to_list r),
-      length-append (z ∷ zs) (option_to_list s),
-      ry,
-      sx,
-    ))
+    absurd (omega (arith, size, ry, sx, simp length-append at (ap length one), simp length-append at (ap length two)))
 
 pub below_last : (k : ℕ) → IsNumber k → (k ≡ LAST_NUMBER → ⊥) → IsNumber (k + 1)
 below_last k low other = omega arith
