@@ -1,7 +1,7 @@
 -- A file that is being formatted, and the file of a new segment.
 use Rattle.std.proofs.Common.{false, ◌≡◌, ◌≢◌, ◌⊎◌, inl, inr, ⊎_elim, ℕ, ◌+◌, ◌*◌, ◌%◌, ◌<◌, ◌≤◌, List, [], ◌∷◌, ◌++◌}
 use Rattle.std.proofs.Common.{length, slice_index, refl, sym, ◌∙◌, ap, arith, append_assoc, length-append}
-use Rattle.std.proofs.lemmas.{List.append-nil, Bool.cases_eq}
+use Rattle.std.proofs.lemmas.{List.get_or-append_right, Bool.cases_eq}
 use Rattle.snap_disk.specs.Device.{Device, IsSettled, part, opened, MayLeave, DiffersWithin, IsTouched, IsSynced}
 use Rattle.snap_disk.specs.Device.{IsWritten}
 use Rattle.snap_disk.specs.Laws.{part_kept, index-part, settled_opened}
@@ -9,8 +9,8 @@ use Rattle.snap_history.specs.Limits.{IsNumber, IsShort}
 use Rattle.snap_slot.specs.Layout.{slot_of, next_slot, spare_slot, body_at, header_front, slots_of, fresh_file, Open}
 use Rattle.snap_slot.specs.Layout.{IsClosed, Head, IsUnformatted, IsFileOf}
 use Rattle.snap_slot.specs.States.{IsAtRest, IsPrepared}
-use Rattle.snap_slot.proofs.Blocks.{part-between, part-part, length-header_front, slots_gate, slots_body, slots_closed}
-use Rattle.snap_slot.proofs.Blocks.{length-slots_of}
+use Rattle.snap_slot.proofs.Blocks.{part-between, part-end, part-part, length-header_front, slots_gate, slots_body}
+use Rattle.snap_slot.proofs.Blocks.{slots_closed, length-slots_of}
 
 -- a prepared file, of which only the header's gate may still change
 module _ (i n k : ℕ) (v : List ℕ) (below : i < n) (few : n ≤ 16) (small : IsNumber k) (fits : IsShort
@@ -19,16 +19,14 @@ module _ (i n k : ℕ) (v : List ℕ) (below : i < n) (few : n ≤ 16) (small : 
       → part (4096 + at) 4096 b ≡ part at 4096 (slots_of k v)
   block at b same within =
       part_kept (4096 + at) 4096 4095 1 d.bytes b same (inr (omega arith))
-      ∙ sym (part-part 4096 24576 at 4096 d.bytes within)
-      ∙ ap (λ (l : List ℕ). part at 4096 l) is.slots
+      ∙ sym (part-part 4096 24576 at 4096 d.bytes within) ∙ ap (part at 4096) is.slots
 
   its_slot : (b : List ℕ) → DiffersWithin 4095 1 d.bytes b → Open b (slot_of k) k v
   its_slot b same =
       let place : body_at (slot_of k) ≡ 4096 + (8192 * (k % 3) + 4096) = omega arith in
       record {
         gate_open = block (8192 * (k % 3)) b same (omega arith) ∙ slots_gate k v fits;
-        holds = ap (λ (at : ℕ). part at 4096 b) place
-            ∙ block (8192 * (k % 3) + 4096) b same (omega arith) ∙ slots_body k v fits;
+        holds = rw place (block (8192 * (k % 3) + 4096) b same (omega arith) ∙ slots_body k v fits);
         number = small;
         slot = refl;
         fits = fits;
@@ -38,23 +36,13 @@ module _ (i n k : ℕ) (v : List ℕ) (below : i < n) (few : n ≤ 16) (small : 
       → IsClosed b t
   other_slot b t same low other = record {
     gate = 0;
-    closed = λ h. absurd (omega (arith, h));
+    closed = omega arith;
     is = block (8192 * t) b same (omega (arith, low)) ∙ slots_closed k v fits t low other;
   }
 
-  next_closed : (b : List ℕ) → DiffersWithin 4095 1 d.bytes b → IsClosed b (next_slot (slot_of k))
-  next_closed b same = other_slot b (next_slot (slot_of k)) same (omega arith) (λ h.
-      absurd (omega (arith, h)))
-
-  spare_closed : (b : List ℕ) → DiffersWithin 4095 1 d.bytes b
-      → IsClosed b (spare_slot (slot_of k))
-  spare_closed b same = other_slot b (spare_slot (slot_of k)) same (omega arith) (λ h.
-      absurd (omega (arith, h)))
-
   header : (b : List ℕ) → DiffersWithin 4095 1 d.bytes b → slice_index b 4095 ≡ 0xA5 → Head b i n
   header b same opens = record {
-    front = part_kept 0 4095 4095 1 d.bytes b same (inl (omega arith))
-        ∙ is.front;
+    front = part_kept 0 4095 4095 1 d.bytes b same (inl (omega arith)) ∙ is.front;
     gate = opens;
     below = below;
     few = few;
@@ -68,16 +56,15 @@ module _ (i n k : ℕ) (v : List ℕ) (below : i < n) (few : n ≤ 16) (small : 
     head = header b same opens;
     holds = record {
       here = its_slot b same;
-      next = next_closed b same;
-      spare = inl (spare_closed b same);
+      next = other_slot b (next_slot (slot_of k)) same (omega arith) (omega arith);
+      spare = inl (other_slot b (spare_slot (slot_of k)) same (omega arith) (omega arith));
     };
   }
 
   pub unformatted_or_whole : (b : List ℕ) → DiffersWithin 4095 1 d.bytes b → IsUnformatted b
       ⊎ IsFileOf i n k v b
   unformatted_or_whole b same =
-      ⊎_elim (λ opens. inr (whole b same opens)) (λ closes.
-      inl closes) (cases_eq (slice_index b 4095) 0xA5)
+      ⊎_elim (λ opens. inr (whole b same opens)) (λ closes. inl closes) (cases_eq (slice_index b 4095) 0xA5)
 
   -- a crash during the write of the gate leaves an unformatted file or the whole one
   pub gate_leaves : (b : List ℕ) → MayLeave (opened 4095 1 d) b → IsUnformatted b
@@ -91,8 +78,8 @@ module _ (i n k : ℕ) (v : List ℕ) (below : i < n) (few : n ≤ 16) (small : 
     size = same.size ∙ is.size;
     head = header e.bytes same opens;
     here = its_slot e.bytes same;
-    next = next_closed e.bytes same;
-    spare = spare_closed e.bytes same;
+    next = other_slot e.bytes (next_slot (slot_of k)) same (omega arith) (omega arith);
+    spare = other_slot e.bytes (spare_slot (slot_of k)) same (omega arith) (omega arith);
   }
 
   -- after that write and a sync the device is at rest
@@ -108,25 +95,19 @@ pub prepared : (i n k : ℕ) (v front slots : List ℕ) (a b c : Device) → IsS
     → part 0 (length front) a.bytes ≡ front → IsTouched 4096 (length slots) a b
     → part 4096 (length slots) b.bytes ≡ slots → IsSynced b c → IsPrepared i n k v c
 prepared i n k v front slots a b c fits size is_header long is_slots header touched there synced =
-    let all : length slots ≡ 24576 = ap (λ (l : List ℕ). length l) is_slots
-    ∙ length-slots_of k v fits in
+    let all : length slots ≡ 24576 = rw is_slots (length-slots_of k v fits) in
     record {
       settled = synced.settled;
-      size = ap (λ (l : List ℕ). length l) synced.same ∙ size;
-      front =
-          ap (λ (l : List ℕ). part 0 4095 l) synced.same
-          ∙ part_kept 0 4095 4096 (length slots) a.bytes b.bytes touched.bytes_elsewhere
-          (inl (omega arith))
-          ∙ ap (λ (m : ℕ). part 0 m a.bytes) (sym long) ∙ header ∙ is_header;
-      slots = ap (λ (l : List ℕ). part 4096 24576 l) synced.same
-          ∙ ap (λ (m : ℕ). part 4096 m b.bytes) (sym all) ∙ there ∙ is_slots;
+      size = rw synced.same size;
+      front = rw synced.same (part_kept 0 4095 4096 (length slots) a.bytes b.bytes touched.bytes_elsewhere
+          (inl (omega arith)) ∙ (rw long at header) ∙ is_header);
+      slots = rw synced.same ((rw all at there) ∙ is_slots);
     }
 
 -- the header's gate in a block that was read
 pub gate_read : (block bytes : List ℕ) → block ≡ part 0 4096 bytes
     → slice_index block 4095 ≡ slice_index bytes 4095
-gate_read block bytes is = ap (λ (l : List ℕ). slice_index l 4095) is
-    ∙ index-part 0 4096 4095 bytes (omega arith)
+gate_read block bytes is = rw is (index-part 0 4096 4095 bytes (omega arith))
 
 -- The whole file of a new segment:
 
@@ -142,28 +123,18 @@ module _ (i n : ℕ) where
   fresh_header_gate : slice_index (fresh_file i n) 4095 ≡ 0xA5
   unfolding fresh_file
   fresh_header_gate =
-      sym (index-part 4095 1 0 (header_front i n ++ (0xA5 ∷ slots_of 0 [])) (omega arith))
-      ∙ ap (λ (l : List ℕ). slice_index l 0) (part-between 4095 1 (header_front i n) (0xA5
-      ∷ []) (slots_of 0 []) (length-header_front i n) refl)
+      get_or-append_right (header_front i n) (0xA5 ∷ slots_of 0 []) 4095 4095 0 (length-header_front i n) (omega arith)
 
   fresh_behind : part 4096 24576 (fresh_file i n) ≡ slots_of 0 []
   unfolding fresh_file
-  fresh_behind =
-      ap (λ (l : List ℕ). part 4096 24576 l)
-      (sym (append_assoc (header_front i n) (0xA5 ∷ []) (slots_of 0 []))
-      ∙ ap (λ (l : List ℕ). (header_front i n ++ (0xA5 ∷ []))
-      ++ l) (sym (append-nil (slots_of 0 []))))
-      ∙ part-between 4096 24576 (header_front i n
-      ++ (0xA5 ∷ [])) (slots_of 0 []) [] (simp (length-append, length-header_front)) fresh_length
+  fresh_behind = rw (← append_assoc (header_front i n) (0xA5 ∷ []) (slots_of 0 []))
+      (part-end 4096 24576 (header_front i n ++ (0xA5 ∷ [])) (slots_of 0 [])
+      (simp (length-append, length-header_front)) fresh_length)
 
   pub length-fresh_file : length (fresh_file i n) ≡ 28672
   unfolding fresh_file
-  length-fresh_file = omega (
-    arith,
-    length-append (header_front i n) (0xA5 ∷ slots_of 0 []),
-    length-header_front i n,
-    fresh_length,
-  )
+  length-fresh_file =
+      omega (arith, length-append (header_front i n) (0xA5 ∷ slots_of 0 []), length-header_front i n, fresh_length)
 
 -- a settled device that holds the file of a new segment is at rest
 pub fresh_rests : (i n : ℕ) → i < n → n ≤ 16 → (d : Device) → IsSettled d → d.bytes ≡ fresh_file i n
@@ -171,10 +142,10 @@ pub fresh_rests : (i n : ℕ) → i < n → n ≤ 16 → (d : Device) → IsSett
 fresh_rests i n below few d settled same =
     let is : IsPrepared i n 0 [] d = record {
       settled = settled;
-      size = ap (λ (l : List ℕ). length l) same ∙ length-fresh_file i n;
-      front = ap (λ (l : List ℕ). part 0 4095 l) same ∙ fresh_front i n;
-      slots = ap (λ (l : List ℕ). part 4096 24576 l) same ∙ fresh_behind i n;
+      size = rw same (length-fresh_file i n);
+      front = rw same (fresh_front i n);
+      slots = rw same (fresh_behind i n);
     } in
     at_rest i n 0 [] below few (omega arith) (omega arith) d is d settled
     (record { size = refl; elsewhere = λ p out. refl })
-    (ap (λ (l : List ℕ). slice_index l 4095) same ∙ fresh_header_gate i n)
+    (rw same (fresh_header_gate i n))
