@@ -1,8 +1,7 @@
 -- The slots of an old file that holds a number.
 use Rattle.std.proofs.Common.{◌≡◌, ◌⊎◌, inl, inr, ⊎_elim, ℕ, ◌-◌, ◌<◌, List, length, arith}
 use Rattle.std.proofs.lemmas.Bool.{cases_eq}
-use Rattle.snap_slot.specs.Layout.{IsClosed}
-use Rattle.snap_slot.specs.declared.slot.Slot.TheVariants.{Closed, Open}
+use Rattle.snap_slot.specs.{Layout.IsClosed, declared.slot.Slot.TheVariants.Closed, declared.slot.Slot.TheVariants.Open}
 use Rattle.snap_slot.specs.{Old.OldOpen, Old.OldHolds, OldFound.IsOldSlotOf, declared.slot.Slot.Slot}
 use Rattle.snap_slot.proofs.Readings.{closed_at, open_at}
 

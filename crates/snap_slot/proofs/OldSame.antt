@@ -1,13 +1,12 @@
 -- An old file can be read in one way only.
-use Rattle.std.proofs.Common.{◌≡◌, ◌⊎◌, ⊎_elim, ℕ, ◌-◌, List, length, Option, Some, None, MatchOption, IfOk}
-use Rattle.std.proofs.Common.{IfErr, refl, arith}
+use Rattle.std.proofs.Common.{◌≡◌, ◌⊎◌, ⊎_elim, ℕ, ◌-◌, List, length, Option, Some, None, MatchOption, IfOk, IfErr}
+use Rattle.std.proofs.Common.{refl, arith}
 use Rattle.std.{specs.Option.ok_or, proofs.lemmas.Bool.cases_eq}
 use Rattle.snap_disk.specs.declared.refusal.Refusal.TheVariants.{Damaged}
-use Rattle.snap_slot.specs.Layout.{IsClosed}
 use Rattle.snap_slot.proofs.Readings.{open_same, not_open_and_closed}
 use Rattle.snap_slot.specs.Old.{OldOpen, OldHolds, OldHead}
 use Rattle.snap_slot.specs.OldFound.{IsOldHeld, IsOldFound, IsNoOldOpening}
-use Rattle.snap_slot.specs.{Findings.IsOfBytes, declared.old_recovery.OldFound.OldFound}
+use Rattle.snap_slot.specs.{Layout.IsClosed, Findings.IsOfBytes, declared.old_recovery.OldFound.OldFound}
 
 -- the two slots of a file can't both hold the newest number
 not_both : (b : List ℕ) (s t k l : ℕ) (v w : List ℕ) → t ≡ 1 - s → s ≡ 1 - t → OldOpen b s k v
