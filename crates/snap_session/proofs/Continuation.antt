@@ -1,6 +1,6 @@
 -- Joining the steps of a session.
-use Rattle.std.proofs.Common.{◌≡◌, ◌+◌, ℕ, List, [], ◌++◌, length, length-append, arith, Option, Some, None, refl, sym}
-use Rattle.std.proofs.Common.{◌∙◌, ap, subst, append-nil, append_assoc}
+use Rattle.std.proofs.Common.{◌≡◌, ◌+◌, ℕ, List, [], ◌++◌, length, length-append, arith, Option, Some, None, refl}
+use Rattle.std.proofs.Common.{◌∙◌, ap, append-nil, append_assoc}
 use Rattle.snap_frame.specs.declared.frame_buffer.Failure.TheVariants.{TooLarge, NoMemory}
 use Rattle.snap_frame.specs.declared.{request.Request.Request, reply.Reply.Reply, frame_buffer.Failure.Failure}
 use Rattle.snap_session.specs.Talk.{Talk, Goes, GoesBy, Stays, Moves, Run, Phase, frames, came}
@@ -31,19 +31,6 @@ was_going : (o : Option Failure) (taken : List ℕ) (ps rs us : List (List ℕ))
 was_going None taken ps rs us rest held tail p = (refl, p.0, p.1, p.2)
 was_going (Some a) taken ps rs us rest held tail p = let wrong : None ≡ Some a = p.0 in absurd cc
 
-joined_cut : (h0 a b h1 p q rest : List ℕ) (fs : List ℕ) → h0 ++ a ≡ p ++ h1 → h1 ++ b ≡ q ++ rest
-    → fs ≡ p ++ q → h0 ++ (a ++ b) ≡ fs ++ rest
-joined_cut h0 a b h1 p q rest fs one two same =
-    sym (append_assoc h0 a b) ∙ ap (λ zs. zs ++ b) one ∙ append_assoc p h1 b
-    ∙ ap (λ zs. p ++ zs) two ∙ sym (append_assoc p q rest) ∙ ap (λ zs. zs ++ rest) (sym same)
-
-joined_said : (g h o0 o1 o2 r q tail fs : List ℕ) → g ++ o1 ≡ o0 ++ r → h ++ o2 ≡ o1 ++ (q ++ tail)
-    → fs ≡ r ++ q → (g ++ h) ++ o2 ≡ o0 ++ (fs ++ tail)
-joined_said g h o0 o1 o2 r q tail fs one two same =
-    append_assoc g h o2 ∙ ap (λ zs. g ++ zs) two ∙ sym (append_assoc g o1 (q ++ tail))
-    ∙ ap (λ zs. zs ++ (q ++ tail)) one ∙ append_assoc o0 r (q ++ tail)
-    ∙ ap (λ zs. o0 ++ zs) (sym (append_assoc r q tail) ∙ ap (λ zs. zs ++ tail) (sym same))
-
 module _ {S : Type 0} (between : S → S → Type 0) (joins : Joins between)
     (gives : S → Request → Reply → S → Type 0) (s t u : S) (t0 t1 t2 : Talk)
     (a b g h : List ℕ) where
@@ -53,7 +40,6 @@ module _ {S : Type 0} (between : S → S → Type 0) (joins : Joins between)
   goes_going going one two =
       let was = was_going t0.over a one.payloads one.replies one.unsaid one.rest
       (came t1) one.tail (rw going at one.phase) in
-      let more = a ++ b in
       let ps = one.payloads ++ two.payloads in
       let rs = one.replies ++ two.replies in (
         record {
@@ -62,33 +48,30 @@ module _ {S : Type 0} (between : S → S → Type 0) (joins : Joins between)
           unsaid = two.unsaid;
           rest = two.rest;
           tail = two.tail;
-          run =
-              subst (λ (zs : List (List ℕ)). Run between gives s ps zs u)
-              (ap (λ (us : List (List ℕ)). (one.replies ++ us) ++ (two.replies ++ two.unsaid)) was.1
-              ∙ ap (λ (zs : List (List ℕ)). zs ++ (two.replies ++ two.unsaid))
-              (append-nil one.replies)
-              ∙ sym (append_assoc one.replies two.replies two.unsaid))
-              (run_on between joins gives s t u one.payloads (one.replies
-              ++ one.unsaid) two.payloads (two.replies ++ two.unsaid) one.run two.run);
-          cut =
-              joined_cut (came t0) a b (came t1) (frames one.payloads) (frames two.payloads)
-              two.rest
-              (frames ps)
-              (one.cut ∙ ap (λ zs. frames one.payloads ++ zs) (sym was.3))
-              two.cut
-              (frames-append one.payloads two.payloads);
-          said =
-              joined_said g h t0.owed t1.owed t2.owed (frames one.replies) (frames two.replies)
-              two.tail
-              (frames rs)
-              (one.said ∙ ap (λ zs. t0.owed ++ (frames one.replies ++ zs)) was.2
-              ∙ ap (λ zs. t0.owed ++ zs) (append-nil (frames one.replies)))
-              two.said
-              (frames-append one.replies two.replies);
-          phase =
-              subst (λ (o : Option Failure).
-              Phase o t2.over more ps rs two.unsaid two.rest (came t2) two.tail) (sym was.0)
-              (phase_any t2.over b more two.payloads ps two.replies rs two.unsaid two.rest
+          run = rw (was.1, append-nil one.replies, ← append_assoc one.replies two.replies two.unsaid)
+              at (run_on between joins gives s t u one.payloads (one.replies ++ one.unsaid) two.payloads
+              (two.replies ++ two.unsaid) one.run two.run);
+          cut = rw (
+            ← append_assoc (came t0) a b,
+            one.cut,
+            ← was.3,
+            append_assoc (frames one.payloads) (came t1) b,
+            two.cut,
+            frames-append,
+            append_assoc,
+          );
+          said = rw (
+            append_assoc g h t2.owed,
+            two.said,
+            ← append_assoc g t1.owed,
+            one.said,
+            was.2,
+            append-nil (frames one.replies),
+            append_assoc t0.owed,
+            frames-append,
+            append_assoc,
+          );
+          phase = rw was.0 (phase_any t2.over b (a ++ b) two.payloads ps two.replies rs two.unsaid two.rest
               (came t2) two.tail (rw going at two.phase));
         },
         omega (arith, length-append one.payloads two.payloads),
@@ -107,31 +90,13 @@ module _ {S : Type 0} (between : S → S → Type 0) (joins : Joins between)
           unsaid = one.unsaid;
           rest = one.rest;
           tail = one.tail;
-          run =
-              subst (λ (zs : List (List ℕ)). Run between gives s zs answers u)
-              (append-nil one.payloads)
-              (subst (λ (zs : List (List ℕ)). Run between gives s (one.payloads ++ []) zs u)
-              (append-nil answers)
-              (run_on between joins gives s t u one.payloads answers [] [] one.run
-              (subst (λ (zs : List (List ℕ)). Run between gives t zs [] u) after.2
-              (subst (λ (zs : List (List ℕ)). Run between gives t two.payloads zs u)
-              (ap (λ (zs : List (List ℕ)). zs ++ two.unsaid) after.3 ∙ after.4) two.run))));
-          cut = ap (λ zs. came t0 ++ zs) same ∙ one.cut;
-          said =
-              append_assoc g h t2.owed
-              ∙ ap (λ zs. g ++ zs) (two.said
-              ∙ ap (λ (zs : List (List ℕ)). t1.owed ++ (frames zs ++ two.tail)) after.3
-              ∙ ap (λ zs. t1.owed ++ zs) after.5 ∙ append-nil t1.owed)
-              ∙ one.said;
-          phase =
-              subst (λ (zs : List ℕ).
-              Phase t0.over t2.over zs one.payloads one.replies one.unsaid one.rest
-              (came t2) one.tail) (sym same)
-              (subst (λ (o : Option Failure).
-              Phase t0.over o a one.payloads one.replies one.unsaid one.rest (came t2) one.tail)
-              (sym after.0)
-              (phase_over t0.over w a one.payloads one.replies one.unsaid one.rest (came t1)
-              (came t2) one.tail (rw over at one.phase)));
+          run = rw (after.2, after.3, after.4, append-nil one.payloads, append-nil answers)
+              at (run_on between joins gives s t u one.payloads answers two.payloads
+              (two.replies ++ two.unsaid) one.run two.run);
+          cut = rw same one.cut;
+          said = rw (append_assoc g h t2.owed, two.said, after.3, after.5, append-nil t1.owed) one.said;
+          phase = rw (same, after.0) (phase_over t0.over w a one.payloads one.replies one.unsaid one.rest (came t1)
+              (came t2) one.tail (rw over at one.phase));
         },
         omega arith,
       )
@@ -153,18 +118,17 @@ pub by_run : {S : Type 0} (before between : S → S → Type 0) (gives : S → R
     (one : Goes before gives s t old taken given new)
     → Run between gives s one.payloads (one.replies ++ one.unsaid) u
     → Goes between gives s u old taken given new
-by_run before between gives s t u old taken given new one run =
-    record {
-      payloads = one.payloads;
-      replies = one.replies;
-      unsaid = one.unsaid;
-      rest = one.rest;
-      tail = one.tail;
-      run = run;
-      cut = one.cut;
-      said = one.said;
-      phase = one.phase;
-    }
+by_run before between gives s t u old taken given new one run = record {
+  payloads = one.payloads;
+  replies = one.replies;
+  unsaid = one.unsaid;
+  rest = one.rest;
+  tail = one.tail;
+  run = run;
+  cut = one.cut;
+  said = one.said;
+  phase = one.phase;
+}
 
 module _ {S : Type 0} (gives : S → Request → Reply → S → Type 0) where
   -- two steps with nothing read or written are one, with the frames that both answer

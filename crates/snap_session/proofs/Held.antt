@@ -1,6 +1,6 @@
 -- How many bytes are held.
-use Rattle.std.proofs.Common.{◌≡◌, ℕ, ◌+◌, ◌<◌, ◌≤◌, List, ◌++◌, length, get_or, Option, Some, None, Bool, true, false}
-use Rattle.std.proofs.Common.{is_some, inl, inr, refl, sym, ◌∙◌, ap, subst, arith, length-append}
+use Rattle.std.proofs.Common.{◌≡◌, ℕ, ◌+◌, ◌<◌, ◌≤◌, List, ◌++◌, length, Option, Some, None, Bool, true, false}
+use Rattle.std.proofs.Common.{is_some, inl, inr, refl, sym, ◌∙◌, ap, arith, length-append}
 use Rattle.std.proofs.lemmas.List.{get_or-append-add}
 use Rattle.snap_frame.specs.{Messages.frame, Stream.HasFrame, Stream.IsBytes, declared.frame_buffer.Failure.Failure}
 use Rattle.snap_frame.specs.declared.frame_buffer.Failure.TheVariants.{NoMemory}
@@ -14,9 +14,7 @@ bytes_append = bytes-append
 -- the bytes after a frame
 pub bytes_behind : (xs x rest : List ℕ) → IsBytes xs → HasFrame xs x rest → IsBytes rest
 bytes_behind xs x rest bytes has i =
-    rw (sym (get_or-append-add (frame x) rest i 0))
-    (subst (λ zs. get_or zs (length (frame x) + i) 0 < 256) has.split
-    (bytes (length (frame x) + i)))
+    rw (← get_or-append-add (frame x) rest i 0) (rw has.split at (bytes (length (frame x) + i)))
 
 pub shorter_behind : (xs x rest : List ℕ) → HasFrame xs x rest → length rest ≤ length xs
 shorter_behind xs x rest has = omega (arith, ap length has.split, length-append (frame x) rest)
@@ -25,7 +23,7 @@ shorter_behind xs x rest has = omega (arith, ap length has.split, length-append 
 pub holds_sent : (more : ℕ) (old mid : Talk) (w0 w1 : _) → Sends old mid w0 w1
     → HoldsFrameAnd more old → HoldsFrameAnd more mid
 holds_sent more old mid w0 w1 sent holds going =
-    subst (λ zs. length zs ≤ longest_frame + more) (sym sent.held) (holds (sym sent.over ∙ going))
+    rw sent.held (holds (sym sent.over ∙ going))
 
 pub holds_answered : (more : ℕ) (old new : Talk) → old.over ≡ None
     → (new.over ≡ None → length new.held ≤ length old.held) → HoldsFrameAnd more old

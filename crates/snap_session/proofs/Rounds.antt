@@ -10,19 +10,7 @@ abbrev pub scene : {S : Type 0} → S → Talk → Option (List ℕ) → Option 
 scene s t left written = record { service = s; talk = t; left = left; written = written }
 
 module _ {S : Type 0} (gives : S → Request → Reply → S → Type 0) (most : ℕ) where
-  -- bytes that are owed are written, and nothing else is done
-  pub only_sends : (s : S) (old new : Talk) (r w0 w1 : Option (List ℕ)) → Sends old new w0 w1
-      → Round gives most (scene s old r w0) (scene s new r w1)
-  only_sends s old new r w0 w1 sends = record {
-    sent = new;
-    answered = new;
-    piece = [];
-    sends = sends;
-    answers = by_more gives s s new [] [] new 0 most_answers (omega arith) (rests gives s new);
-    reads = (consumes_none r, inl (refl, refl));
-  }
-
-  -- then frames are answered, and a read returns nothing
+  -- bytes that are owed are written, then frames are answered, and a read returns nothing
   pub reads_nothing : (s t : S) (old mid new : Talk) (r0 r1 w0 w1 : Option (List ℕ))
       → Sends old mid w0 w1 → GoesBy most_answers Stays gives s t mid [] [] new
       → Consumes r0 r1 [] → Round gives most (scene s old r0 w0) (scene t new r1 w1)
@@ -35,20 +23,20 @@ module _ {S : Type 0} (gives : S → Request → Reply → S → Type 0) (most :
     reads = (read, inl (refl, refl));
   }
 
+  -- nothing is done but to write
+  pub only_sends : (s : S) (old new : Talk) (r w0 w1 : Option (List ℕ)) → Sends old new w0 w1
+      → Round gives most (scene s old r w0) (scene s new r w1)
+  only_sends s old new r w0 w1 sends = reads_nothing s s old new new r r w0 w1 sends
+      (by_more gives s s new [] [] new 0 most_answers (omega arith) (rests gives s new)) (consumes_none r)
+
   -- something new is owed, or the session is over
   pub answers_some : (s t : S) (old mid new : Talk) (r w0 w1 : Option (List ℕ))
       → Sends old mid w0 w1 → GoesBy most_answers Stays gives s t mid [] [] new → mid.owed ≡ []
       → (new.over ≡ None → new.owed ≡ [] → ⊥)
       → WholeRound gives most (scene s old r w0) (scene t new r w1)
+  unfolding reads_nothing
   answers_some s t old mid new r w0 w1 sends answers all some = record {
-    round = record {
-      sent = mid;
-      answered = new;
-      piece = [];
-      sends = sends;
-      answers = answers;
-      reads = (consumes_none r, inl (refl, refl));
-    };
+    round = reads_nothing s t old mid new r r w0 w1 sends answers (consumes_none r);
     all = all;
     gets_on = λ going none _. some going none;
   }

@@ -22,27 +22,22 @@ module _ {S : Type 0} (between : S → S → Type 0) (joins : Joins between)
   pub run_after : (a b c : S) (xs ys : List (List ℕ)) → between a b → Run between gives b xs ys c
       → Run between gives a xs ys c
   run_after a b c [] [] one two = joins a b c one two
-  run_after a b c [] (y ∷ ys) one two = absurd two
-  run_after a b c (x ∷ xs) [] one two = absurd two
-  run_after a b c (x ∷ xs) (y ∷ ys) one two =
-      (two.0, two.1, joins a b two.0 one two.2, two.3, two.4)
+  run_after a b c (x ∷ xs) (y ∷ ys) one two = (two.0, two.1, joins a b two.0 one two.2, two.3, two.4)
+  run_after a b c xs ys one two = absurd two
 
   -- a change by `between` after a run joins it
   pub run_then : (a b c : S) (xs ys : List (List ℕ)) → Run between gives a xs ys b → between b c
       → Run between gives a xs ys c
   run_then a b c [] [] one two = joins a b c one two
-  run_then a b c [] (y ∷ ys) one two = absurd one
-  run_then a b c (x ∷ xs) [] one two = absurd one
-  run_then a b c (x ∷ xs) (y ∷ ys) one two =
-      (one.0, one.1, one.2, one.3, run_then one.1 b c xs ys one.4 two)
+  run_then a b c (x ∷ xs) (y ∷ ys) one two = (one.0, one.1, one.2, one.3, run_then one.1 b c xs ys one.4 two)
+  run_then a b c xs ys one two = absurd one
 
   pub run_on : (a b c : S) (xs ys vs ws : List (List ℕ)) → Run between gives a xs ys b
       → Run between gives b vs ws c → Run between gives a (xs ++ vs) (ys ++ ws) c
   run_on a b c [] [] vs ws one two = run_after a b c vs ws one two
-  run_on a b c [] (y ∷ ys) vs ws one two = absurd one
-  run_on a b c (x ∷ xs) [] vs ws one two = absurd one
   run_on a b c (x ∷ xs) (y ∷ ys) vs ws one two =
       (one.0, one.1, one.2, one.3, run_on one.1 b c xs ys vs ws one.4 two)
+  run_on a b c xs ys vs ws one two = absurd one
 
 pub moves_joins : {S : Type 0} (gives : S → Request → Reply → S → Type 0) (a b c : S)
     → Moves gives a b → Moves gives b c → Moves gives a c
@@ -57,7 +52,6 @@ pub loosen : {S : Type 0} (gives : S → Request → Reply → S
     → Type 0) (a b : S) (xs ys : List (List ℕ)) → Run Stays gives a xs ys b
     → Run (Moves gives) gives a xs ys b
 loosen gives a b [] [] one = ([], [], one)
-loosen gives a b [] (y ∷ ys) one = absurd one
-loosen gives a b (x ∷ xs) [] one = absurd one
 loosen gives a b (x ∷ xs) (y ∷ ys) one =
     (one.0, one.1, ([], [], one.2), one.3, loosen gives one.1 b xs ys one.4)
+loosen gives a b xs ys one = absurd one

@@ -1,31 +1,20 @@
 -- Several sessions on one service.
 use Rattle.std.proofs.Common.{ℕ, List, Option}
 use Rattle.snap_frame.specs.declared.{request.Request.Request, reply.Reply.Reply}
-use Rattle.snap_session.specs.Talk.{Talk, Goes, Stays, Moves}
+use Rattle.snap_session.specs.Talk.{Talk, Stays, Moves}
 use Rattle.snap_session.specs.Turns.{Turns}
 use Rattle.snap_session.proofs.{Runs.moves_joins, Continuation.loosen, TurnRuns.turns_on, TurnRuns.begins}
-
--- another `Goes` between the two states, with equal reads and writes, gives `Turns` too
-by_talk : {S : Type 0} (before between : S → S → Type 0) (gives : S → Request → Reply → S
-    → Type 0) (s t u : S) (old : Talk) (r0 r1 w0 w1 : Option (List ℕ)) (new : Talk)
-    (one : Turns before gives s t old r0 r1 w0 w1 new)
-    → Goes between gives s u old one.taken one.given new
-    → Turns between gives s u old r0 r1 w0 w1 new
-by_talk before between gives s t u old r0 r1 w0 w1 new one goes =
-    record {
-      taken = one.taken;
-      given = one.given;
-      read = one.read;
-      writes = one.writes;
-      goes = goes;
-    }
 
 module _ {S : Type 0} (gives : S → Request → Reply → S → Type 0) where
   pub turns_loosen : (s t : S) (old : Talk) (r0 r1 w0 w1 : Option (List ℕ)) (new : Talk)
       → Turns Stays gives s t old r0 r1 w0 w1 new → Turns (Moves gives) gives s t old r0 r1 w0 w1 new
-  turns_loosen s t old r0 r1 w0 w1 new one =
-      by_talk Stays (Moves gives) gives s t t old r0 r1 w0 w1 new one
-      (loosen gives s t old one.taken one.given new one.goes)
+  turns_loosen s t old r0 r1 w0 w1 new one = record {
+    taken = one.taken;
+    given = one.given;
+    read = one.read;
+    writes = one.writes;
+    goes = loosen gives s t old one.taken one.given new one.goes;
+  }
 
   -- a session begins on a shared service
   pub shares : (s : S) (t : Talk) (r w : Option (List ℕ)) → Turns (Moves gives) gives s s t r r w w t

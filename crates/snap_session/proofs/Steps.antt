@@ -1,12 +1,11 @@
 -- The steps of a session.
-use Rattle.std.proofs.Common.{◌≡◌, ◌≢◌, inl, inr, ℕ, ◌≤◌, List, [], ◌∷◌, ◌++◌, length, Option, Some, None, Bool, true}
-use Rattle.std.proofs.Common.{false, refl, sym, ◌∙◌, ap, arith, append-nil, append_assoc, subst, length-append}
-use Rattle.std.specs.Int.{w32, to_be_bytes}
+use Rattle.std.proofs.Common.{◌≡◌, inl, inr, ℕ, ◌≤◌, List, [], ◌∷◌, ◌++◌, length, Option, Some, None, Bool, true}
+use Rattle.std.proofs.Common.{false, refl, sym, ◌∙◌, ap, arith, append-nil, append_assoc, length-append}
 use Rattle.snap_frame.specs.Messages.{max_payload, frame, payload, says, IsAskable, IsInLimits}
 use Rattle.snap_frame.specs.Stream.{HasFrame, HasLongLength}
 use Rattle.snap_frame.specs.declared.frame_buffer.Failure.TheVariants.{TooLarge, NoMemory}
 use Rattle.snap_frame.specs.declared.{request.Request.Request, reply.Reply.Reply, frame_buffer.Failure.Failure}
-use Rattle.snap_session.specs.Talk.{refused_too_large, Talk, Goes, GoesBy, Stays, Run, Answer, Phase, HasTaken, Owes}
+use Rattle.snap_session.specs.Talk.{refused_too_large, Talk, Goes, GoesBy, Stays, Answer, Phase, HasTaken, Owes}
 use Rattle.snap_session.specs.Talk.{frames, came, asked_bytes}
 
 abbrev pub owed_of : Talk → List ℕ
@@ -51,14 +50,13 @@ taken_owed old piece new (inl is) = ap owed_of is
 taken_owed old piece new (inr none) = ap owed_of none
 
 pub came_free : (t : Talk) → t.asked ≡ None → came t ≡ t.held
-came_free t free = ap (λ (q : Option Request). asked_bytes q ++ t.held) free
+came_free t free = rw free
 
 pub came_asked : (t : Talk) (q : Request) → t.asked ≡ Some q → came t ≡ frame (payload q) ++ t.held
-came_asked t q is = ap (λ (o : Option Request). asked_bytes o ++ t.held) is
+came_asked t q is = rw is
 
 said_one : (owed y : List ℕ) → owed ++ frame y ≡ owed ++ (frames (y ∷ []) ++ [])
-said_one owed y =
-    ap (λ zs. owed ++ zs) (sym (append-nil (frame y)) ∙ sym (append-nil (frames (y ∷ []))))
+said_one owed y = simp append-nil
 
 -- the first frame that is held is the first one that arrived
 pub found_first : (old mid : Talk) (x : List ℕ) → old.asked ≡ None → HasFrame old.held x mid.held
@@ -75,12 +73,7 @@ owes_free old y new false owes free = ap asked_of owes ∙ free
 owes_some : (old : Talk) (y : List ℕ) (new : Talk) (ok : Bool) → Owes old y new ok
     → new.over ≡ None → new.owed ≡ [] → ⊥
 owes_some old y new true owes going none =
-    absurd (omega (
-      arith,
-      ap length (sym (ap owed_of owes) ∙ none),
-      length-append old.owed (frame y),
-      length-append (to_be_bytes w32 (length y)) y,
-    ))
+    absurd (omega (arith, simp length-append at (ap length (sym (ap owed_of owes) ∙ none))))
 owes_some old y new false owes going none =
     let wrong : Some NoMemory ≡ None = sym (ap over_of owes) ∙ going in absurd cc
 
@@ -121,9 +114,7 @@ module _ {S : Type 0} (gives : S → Request → Reply → S → Type 0) where
       → came new ≡ came old → new.over ≡ old.over → GoesBy 0 Stays gives s s old [] given new
   sends s old given new owed same over =
       unanswered s old [] given new (sym owed)
-      (subst (λ (o : Option Failure). Phase old.over o [] [] [] [] (came old ++ []) (came new) [])
-      (sym over) (phase_same old.over (came old ++ []) (came new)
-      (same ∙ sym (append-nil (came old)))))
+      (rw over (phase_same old.over (came old ++ []) (came new) (same ∙ sym (append-nil (came old)))))
 
   -- nothing happens
   pub rests : (s : S) (t : Talk)
@@ -162,7 +153,7 @@ module _ {S : Type 0} (gives : S → Request → Reply → S → Type 0) where
       unsaid = us;
       rest = came mid;
       tail = [];
-      run = subst (λ zs. Run Stays gives s (x ∷ []) zs t) (sym one) (s, t, refl, answer, refl);
+      run = rw one (s, t, refl, answer, refl);
       cut = append-nil (came old) ∙ found
           ∙ ap (λ zs. zs ++ came mid) (sym (append-nil (frame x)));
       said = said;
@@ -235,10 +226,7 @@ module _ {S : Type 0} (gives : S → Request → Reply → S → Type 0) where
   -- no request is handed over, so the outcome is dropped
   pub nobody : (s : S) (t : Talk)
       → t.asked ≡ None → Goes Stays gives s s t [] [] (record t { asked = None })
-  nobody s t free = (sends s t [] (record t {
-    asked =
-        None;
-  }) refl (sym (came_free t free)) refl).0
+  nobody s t free = (sends s t [] (record t { asked = None }) refl (sym (came_free t free)) refl).0
 
   -- the bound of answered frames may be raised
   pub by_more : (s t : S) (old : Talk) (taken given : List ℕ) (new : Talk) (m n : ℕ) → m ≤ n

@@ -1,12 +1,13 @@
 -- Turns one after another.
-use Rattle.std.proofs.Common.{◌≡◌, ℕ, List, [], ◌++◌, Option, None, OnSome, Some, refl, sym, ◌∙◌, ap, subst, append-nil}
+use Rattle.std.proofs.Common.{◌≡◌, ℕ, List, [], ◌++◌, Option, None, OnSome, Some, refl, sym, ◌∙◌, ap, append-nil}
 use Rattle.std.proofs.Common.{append_assoc, take, drop, length, length-append, arith, ◌≤◌, ◌∷◌, Bool, true, false}
 use Rattle.std.proofs.Common.{eqb-true}
+use Rattle.std.proofs.lemmas.Bool.Decides.{nat_tests}
 use Rattle.std.specs.{Bool.◌==◌, Io.KnownBytes.Appends, Io.KnownBytes.Consumes}
 use Rattle.std.proofs.{KnownBytes.Appends-trans, KnownBytes.Consumes-trans, lemmas.List.take-append-drop}
 use Rattle.snap_frame.specs.declared.{request.Request.Request, reply.Reply.Reply}
 use Rattle.snap_session.specs.declared.turns.Sent.TheVariants.{All, Blocked, Failed}
-use Rattle.snap_session.specs.Talk.{Talk, Goes, Stays, HasTaken, came, asked_bytes, start, most_owed, HoldsFrameAnd}
+use Rattle.snap_session.specs.Talk.{Talk, Goes, Stays, HasTaken, came, start, most_owed, HoldsFrameAnd}
 use Rattle.snap_session.specs.Turns.{Turns, Sends, Serves, EndsAt}
 use Rattle.snap_session.proofs.Steps.{rests, takes, sends}
 use Rattle.snap_session.proofs.Known.{appends_none, consumes_none, consumes_more}
@@ -17,38 +18,29 @@ pub turns_on : {S : Type 0} (between : S → S → Type 0) (joins : Joins betwee
     → Reply → S → Type 0) (s t u : S) (t0 t1 t2 : Talk) (r0 r1 r2 w0 w1 w2 : Option (List ℕ))
     → Turns between gives s t t0 r0 r1 w0 w1 t1 → Turns between gives t u t1 r1 r2 w1 w2 t2
     → Turns between gives s u t0 r0 r2 w0 w2 t2
-turns_on between joins gives s t u t0 t1 t2 r0 r1 r2 w0 w1 w2 one two =
-    record {
-      taken = one.taken ++ two.taken;
-      given = one.given ++ two.given;
-      read = Consumes-trans r0 r1 r2 one.taken two.taken one.read two.read;
-      writes = Appends-trans w0 w1 w2 one.given two.given one.writes two.writes;
-      goes = goes_on between joins gives s t u t0 t1 t2 one.taken two.taken one.given two.given
-          one.goes two.goes;
-    }
+turns_on between joins gives s t u t0 t1 t2 r0 r1 r2 w0 w1 w2 one two = record {
+  taken = one.taken ++ two.taken;
+  given = one.given ++ two.given;
+  read = Consumes-trans r0 r1 r2 one.taken two.taken one.read two.read;
+  writes = Appends-trans w0 w1 w2 one.given two.given one.writes two.writes;
+  goes = goes_on between joins gives s t u t0 t1 t2 one.taken two.taken one.given two.given one.goes two.goes;
+}
 
 same_came : (a b : Talk) → b.asked ≡ a.asked → b.held ≡ a.held → came b ≡ came a
-same_came a b one two =
-    ap (λ (q : Option Request). asked_bytes q ++ b.held) one
-    ∙ ap (λ zs. asked_bytes a.asked ++ zs) two
+same_came a b one two = rw (one, two)
 
 -- one more write
 pub sends_more : (old mid new : Talk) (w0 w1 w2 : Option (List ℕ)) (n : ℕ) (buf : List ℕ)
     → Sends old mid w0 w1 → buf ≡ mid.owed → Appends w1 w2 (take n buf)
     → new ≡ record mid { owed = drop n mid.owed } → Sends old new w0 w2
-sends_more old mid new w0 w1 w2 n buf one same wrote is =
-    record {
-      given = one.given ++ take n mid.owed;
-      owed =
-          one.owed ∙ ap (λ zs. one.given ++ zs) (sym (take-append-drop n mid.owed))
-          ∙ sym (append_assoc one.given (take n mid.owed) (drop n mid.owed))
-          ∙ ap (λ zs. (one.given ++ take n mid.owed) ++ zs) (sym (ap (λ (z : Talk). z.owed) is));
-      asked = ap (λ (z : Talk). z.asked) is ∙ one.asked;
-      held = ap (λ (z : Talk). z.held) is ∙ one.held;
-      over = ap (λ (z : Talk). z.over) is ∙ one.over;
-      writes = Appends-trans w0 w1 w2 one.given (take n mid.owed) one.writes
-          (subst (λ zs. Appends w1 w2 (take n zs)) same wrote);
-    }
+sends_more old mid new w0 w1 w2 n buf one same wrote is = rw is (record {
+  given = one.given ++ take n mid.owed;
+  owed = rw (append_assoc one.given (take n mid.owed) (drop n mid.owed), take-append-drop n mid.owed) one.owed;
+  asked = one.asked;
+  held = one.held;
+  over = one.over;
+  writes = Appends-trans w0 w1 w2 one.given (take n mid.owed) one.writes (rw same at wrote);
+})
 
 pub few_left : (old given new : List ℕ) → old ≡ given ++ new → length old ≤ most_owed
     → length new ≤ most_owed
@@ -70,7 +62,7 @@ or_new None P before now = now refl
 or_new (Some q) P before now = before
 
 pub still_under : (a b : Option Request) (P : Type 0) → b ≡ a → OnSome a P → OnSome b P
-still_under a b P same on = subst (λ z. OnSome z P) (sym same) on
+still_under a b P same on = rw same on
 
 -- ---- the result of a turn
 
@@ -78,15 +70,12 @@ still_under a b P same on = subst (λ z. OnSome z P) (sym same) on
 pub none_owed : (is_empty : Bool) (seen owed : List ℕ) → is_empty ≡ true
     → is_empty ≡ (length seen == 0) → seen ≡ owed → owed ≡ []
 none_owed is_empty [] owed so by same = sym same
-none_owed is_empty (x ∷ xs) owed so by same =
-    absurd (omega (arith, eqb-true (length (x ∷ xs)) 0 (sym by ∙ so)))
+none_owed is_empty (x ∷ xs) owed so by same = absurd (omega (arith, eqb-true (length (x ∷ xs)) 0 (sym by ∙ so)))
 
 -- something is owed
 pub some_owed : (is_empty : Bool) (seen owed : List ℕ) → is_empty ≡ false
     → is_empty ≡ (length seen == 0) → seen ≡ owed → owed ≡ [] → ⊥
-some_owed is_empty [] owed so by same none = let wrong : true ≡ false = sym by ∙ so in absurd cc
-some_owed is_empty (x ∷ xs) owed so by same none =
-    let wrong : x ∷ xs ≡ [] = same ∙ none in absurd cc
+some_owed is_empty seen owed so by same none = absurd (let e = ap length (same ∙ none) in grind (arith, nat_tests))
 
 pub blocked_apart : Blocked ≡ All → ⊥
 blocked_apart wrong = absurd cc
@@ -102,8 +91,7 @@ module _ {S : Type 0} (gives : S → Request → Reply → S → Type 0) where
         given = [];
         read = consumes_none r;
         writes = appends_none w;
-        goes =
-            (rests gives s t).0;
+        goes = (rests gives s t).0;
       }
 
   pub then_turns : (s t u : S) (t0 t1 t2 : Talk) (r0 r1 r2 w0 w1 w2 : Option (List ℕ))
@@ -123,8 +111,7 @@ module _ {S : Type 0} (gives : S → Request → Reply → S → Type 0) where
         given = two.given;
         read = consumes_none r1;
         writes = two.writes;
-        goes =
-            (sends gives t t1 two.given t2 two.owed (same_came t1 t2 two.asked two.held) two.over).0;
+        goes = (sends gives t t1 two.given t2 two.owed (same_came t1 t2 two.asked two.held) two.over).0;
       })
 
   -- then frames are answered
@@ -138,8 +125,7 @@ module _ {S : Type 0} (gives : S → Request → Reply → S → Type 0) where
         given = [];
         read = consumes_none r1;
         writes = appends_none w1;
-        goes =
-            two;
+        goes = two;
       })
 
   -- a round: bytes that are owed are written, and frames are answered
@@ -161,8 +147,7 @@ module _ {S : Type 0} (gives : S → Request → Reply → S → Type 0) where
         given = [];
         read = read;
         writes = appends_none w1;
-        goes =
-            (takes gives t t1 piece t2 going taken).0;
+        goes = (takes gives t t1 piece t2 going taken).0;
       })
 
   -- then a read returns nothing
@@ -173,8 +158,7 @@ module _ {S : Type 0} (gives : S → Request → Reply → S → Type 0) where
       record {
         taken = one.taken;
         given = one.given;
-        read = consumes_more r0 r1 r2 one.taken [] one.taken one.read read
-            (sym (append-nil one.taken));
+        read = consumes_more r0 r1 r2 one.taken [] one.taken one.read read (sym (append-nil one.taken));
         writes = one.writes;
         goes = one.goes;
       }

@@ -15,8 +15,6 @@ module _ {S T : Type 0} (outer : S → Request → Reply → S → Type 0)
       → (a b : S) (xs ys : List (List ℕ)) → Run before outer a xs ys b
       → Run between gives (inner a) xs ys (inner b)
   run_as before between maps a b [] [] run = maps a b run
-  run_as before between maps a b [] (y ∷ ys) run = absurd run
-  run_as before between maps a b (x ∷ xs) [] run = absurd run
   run_as before between maps a b (x ∷ xs) (y ∷ ys) run = (
     inner run.0,
     inner run.1,
@@ -24,16 +22,10 @@ module _ {S T : Type 0} (outer : S → Request → Reply → S → Type 0)
     answer_as run.0 run.1 x y run.3,
     run_as before between maps run.1 b xs ys run.4,
   )
-
-  stays_as : (a b : S) → Stays a b → Stays (inner a) (inner b)
-  stays_as a b same = ap inner same
+  run_as before between maps a b xs ys run = absurd run
 
   pub moves_as : (a b : S) → Moves outer a b → Moves gives (inner a) (inner b)
-  moves_as a b moves = (
-    moves.0,
-    moves.1,
-    run_as Stays Stays stays_as a b moves.0 moves.1 moves.2,
-  )
+  moves_as a b (xs, ys, run) = (xs, ys, run_as Stays Stays (λ _ _ same. ap inner same) a b xs ys run)
 
   turns_as : (before : S → S → Type 0) (between : T → T → Type 0)
       → ((a b : S) → before a b → between (inner a) (inner b))
@@ -65,7 +57,7 @@ module _ {S T : Type 0} (outer : S → Request → Reply → S → Type 0)
   pub alone : (s t : S) (old new : Talk) (r0 r1 w0 w1 : Option (List ℕ))
       → (a : Turns Stays outer s t old r0 r1 w0 w1 new)
       → (b : Turns Stays gives (inner s) (inner t) old r0 r1 w0 w1 new) × IsSameTalk a b
-  alone = turns_as Stays Stays stays_as
+  alone = turns_as Stays Stays (λ _ _ same. ap inner same)
 
   pub shared : (s t : S) (old new : Talk) (r0 r1 w0 w1 : Option (List ℕ))
       → (a : Turns (Moves outer) outer s t old r0 r1 w0 w1 new)

@@ -49,7 +49,7 @@ ends {new = new} {r1 = r1} stood turn rounds stands = record {
   stands = stands;
   bounded = stood.bounded;
   free = stood.free;
-  outcome = λ no at same. (subst (λ z. StandsAt z new r1) same stands).2 (stood.free no at);
+  outcome = λ no at same. (rw same at stands).2 (stood.free no at);
   under = stood.under;
   held = stood.held;
   rounds = rounds;
@@ -195,9 +195,7 @@ loop-preserved g c =
             c.in-Ok.ensures.bytes.0 c.take_in.ensures;
         free = λ no at. free;
         under = λ none. on_none _ _ free;
-        bounded = λ few. subst (λ zs. length zs ≤ most_owed)
-            (sym (taken_owed _ _ _ c.take_in.ensures))
-            (answered.bounded few);
+        bounded = λ few. rw (taken_owed c.answer.new.self _ _ c.take_in.ensures) (answered.bounded few);
         held = λ small. holds_taken _ _ _ _ c.in-Bytes.ensures.wants.3 few c.take_in.ensures;
       };
       rounds = one_more g.S.Service.gives _ c.loop.counter _ _ _ c.loop.invariant.rounds
@@ -258,8 +256,7 @@ returns-in-Ok-eq0 g c =
       said.1,
       said.2,
       (c.is_between.ensures.0 c.if-is_between.true).1,
-      read.1 c.in-Ok-eq0.field-0-test (subst (λ n. 0 < n)
-          (sym (c.read.auto.buf ∙ c.loop.auto.piece)) c.requires.room),
+      read.1 c.in-Ok-eq0.field-0-test (rw (c.read.auto.buf ∙ c.loop.auto.piece) c.requires.room),
     )
 
 pub returns-in-Ok-eq0-2 : goal.returns-in-Ok-eq0-2
@@ -276,7 +273,7 @@ returns-in-Ok-eq0-2 g c =
       said,
       λ empty. true≢false (sym (c.is_between.ensures.1 (said.0, empty))
           ∙ c.if-is_between.false),
-      read.1 zero (subst (λ n. 0 < n) (sym (c.read.auto.buf ∙ c.loop.auto.piece)) c.requires.room),
+      read.1 zero (rw (c.read.auto.buf ∙ c.loop.auto.piece) c.requires.room),
     )
 
 pub returns-in-Err : goal.returns-in-Err
@@ -298,12 +295,7 @@ returns-in-Err-2 g c =
 pub returns : goal.returns
 returns g c =
     let all : c.loop.counter ≡ most_rounds = omega arith in
-    ends c.loop.invariant.stood Again
-    (subst (λ (n : ℕ). WholeRounds g.S.Service.gives (length c.args.piece.now) n
-    (scene c.args.service.now c.args.session.now (g.R.Read.remaining c.args.reader.now)
-    (g.W.Write.contents c.args.writer.now))
-    (scene c.loop.service c.loop.session (g.R.Read.remaining c.loop.reader)
-    (g.W.Write.contents c.loop.writer))) all c.loop.invariant.rounds) tt
+    ends c.loop.invariant.stood Again (rw all at c.loop.invariant.rounds) tt
 
 pub answer-requires-clause-asked : goal.answer-requires-clause-asked
 answer-requires-clause-asked g c = asked_anyway g.S.Service.asked _ c.requires.asked

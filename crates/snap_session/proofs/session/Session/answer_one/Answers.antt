@@ -1,6 +1,6 @@
 use Rattle.std.proofs.Common.{◌≡◌, [], length, refl, ap, subst, sym, inl, inr, ◌∙◌, Some, None, arith}
-use Rattle.snap_frame.specs.{declared.frame_buffer.Failure.TheVariants.NoMemory, Messages.says, Stream.HasLongLength}
-use Rattle.snap_session.specs.Talk.{Talk, refused_malformed, refused_too_large}
+use Rattle.snap_frame.specs.{declared.frame_buffer.Failure.TheVariants.NoMemory, Messages.says}
+use Rattle.snap_session.specs.Talk.{refused_malformed, refused_too_large}
 use Rattle.snap_session.proofs.Steps.{rests, by_more, gives_up, answers, refuses, found_first, hands, came_free}
 use Rattle.snap_session.proofs.Steps.{owes_turn, asked_of}
 use Rattle.snap_session.{specs.Asked.AreAsked, proofs.Asked.asked_behind, proofs.Asked.owes_held}
@@ -58,8 +58,7 @@ returns-in-TooLarge-clause-goes g c =
     by_more g.S.Service.gives _ _ _ _ _ _ 0 1 (omega arith)
     (refuses g.S.Service.gives _ c.args.self.now c.hear.new.self c.owe-in-TooLarge.new.self
     c.owe-in-TooLarge.result c.requires.going
-    (subst HasLongLength (sym (came_free c.args.self.now c.requires.free)) h.0) h.1
-    c.owe-in-TooLarge.ensures.owes)
+    (rw (came_free c.args.self.now c.requires.free) h.0) h.1 c.owe-in-TooLarge.ensures.owes)
 
 pub returns-in-NoMemory-clause-goes : goal.returns-in-NoMemory-clause-goes
 returns-in-NoMemory-clause-goes g c =
@@ -104,8 +103,7 @@ returns-in-Some-clause-asked g c going =
 pub returns-in-None-clause-asked : goal.returns-in-None-clause-asked
 returns-in-None-clause-asked g c going =
     let h = c.in-Asked.ensures in
-    subst (AreAsked g.S.Service.asked) (sym (ap (λ (z : Talk). z.held) c.keep.ensures))
-    (asked_behind g.S.Service.asked _ h.0 _ h.1 c.requires.asked)
+    rw c.keep.ensures (asked_behind g.S.Service.asked _ h.0 _ h.1 c.requires.asked)
 
 pub returns-in-Malformed-clause-asked : goal.returns-in-Malformed-clause-asked
 returns-in-Malformed-clause-asked g c going =
