@@ -1,23 +1,16 @@
 -- How many bytes are held.
-use Rattle.std.proofs.Common.{◌≡◌, ℕ, ◌+◌, ◌<◌, ◌≤◌, List, ◌++◌, length, Option, Some, None, Bool, true, false}
+use Rattle.std.proofs.Common.{◌≡◌, ℕ, ◌+◌, ◌<◌, ◌≤◌, List, length, Option, Some, None, Bool, true, false}
 use Rattle.std.proofs.Common.{is_some, inl, inr, refl, sym, ◌∙◌, ap, arith, length-append}
 use Rattle.std.proofs.lemmas.List.{get_or-append-add}
 use Rattle.snap_frame.specs.{Messages.frame, Stream.HasFrame, Stream.IsBytes, declared.frame_buffer.Failure.Failure}
 use Rattle.snap_frame.specs.declared.frame_buffer.Failure.TheVariants.{NoMemory}
-use Rattle.snap_frame.proofs.Decode.{bytes-append}
 use Rattle.snap_session.specs.Talk.{Talk, HasTaken, longest_frame, HoldsFrameAnd}
 use Rattle.snap_session.specs.Turns.{Sends}
-
-pub bytes_append : (xs ys : List ℕ) → IsBytes xs → IsBytes ys → IsBytes (xs ++ ys)
-bytes_append = bytes-append
 
 -- the bytes after a frame
 pub bytes_behind : (xs x rest : List ℕ) → IsBytes xs → HasFrame xs x rest → IsBytes rest
 bytes_behind xs x rest bytes has i =
     rw (← get_or-append-add (frame x) rest i 0) (rw has.split at (bytes (length (frame x) + i)))
-
-pub shorter_behind : (xs x rest : List ℕ) → HasFrame xs x rest → length rest ≤ length xs
-shorter_behind xs x rest has = omega (arith, ap length has.split, length-append (frame x) rest)
 
 -- no more bytes are held after bytes were written and frames answered
 pub holds_sent : (more : ℕ) (old mid : Talk) (w0 w1 : _) → Sends old mid w0 w1

@@ -1,10 +1,10 @@
 -- The rounds of a turn.
 use Rattle.std.proofs.Common.{◌≡◌, ℕ, ◌+◌, ◌<◌, ◌≤◌, List, [], length, Option, None, inl, inr, refl, ap, add-one, arith}
-use Rattle.std.specs.Io.KnownBytes.{Consumes}
+use Rattle.std.{specs.Io.KnownBytes.Consumes, proofs.KnownBytes.Consumes-nil}
 use Rattle.snap_frame.specs.declared.{request.Request.Request, reply.Reply.Reply}
 use Rattle.snap_session.specs.Talk.{Talk, GoesBy, Stays, HasTaken, most_answers}
 use Rattle.snap_session.specs.Turns.{Scene, Sends, Round, WholeRound, WholeRounds, FewRounds, most_rounds}
-use Rattle.snap_session.proofs.{Steps.rests, Steps.by_more, Known.consumes_none}
+use Rattle.snap_session.proofs.Steps.{rests, by_more}
 
 abbrev pub scene : {S : Type 0} → S → Talk → Option (List ℕ) → Option (List ℕ) → Scene S
 scene s t left written = record { service = s; talk = t; left = left; written = written }
@@ -27,7 +27,7 @@ module _ {S : Type 0} (gives : S → Request → Reply → S → Type 0) (most :
   pub only_sends : (s : S) (old new : Talk) (r w0 w1 : Option (List ℕ)) → Sends old new w0 w1
       → Round gives most (scene s old r w0) (scene s new r w1)
   only_sends s old new r w0 w1 sends = reads_nothing s s old new new r r w0 w1 sends
-      (by_more gives s s new [] [] new 0 most_answers (omega arith) (rests gives s new)) (consumes_none r)
+      (by_more gives s s new [] [] new 0 most_answers (omega arith) (rests gives s new)) (Consumes-nil r)
 
   -- something new is owed, or the session is over
   pub answers_some : (s t : S) (old mid new : Talk) (r w0 w1 : Option (List ℕ))
@@ -36,7 +36,7 @@ module _ {S : Type 0} (gives : S → Request → Reply → S → Type 0) (most :
       → WholeRound gives most (scene s old r w0) (scene t new r w1)
   unfolding reads_nothing
   answers_some s t old mid new r w0 w1 sends answers all some = record {
-    round = reads_nothing s t old mid new r r w0 w1 sends answers (consumes_none r);
+    round = reads_nothing s t old mid new r r w0 w1 sends answers (Consumes-nil r);
     all = all;
     gets_on = λ going none _. some going none;
   }

@@ -2,15 +2,14 @@
 use Rattle.std.proofs.Common.{◌≡◌, ℕ, List, [], ◌++◌, Option, None, OnSome, Some, refl, sym, ◌∙◌, ap, append-nil}
 use Rattle.std.proofs.Common.{append_assoc, take, drop, length, length-append, arith, ◌≤◌, ◌∷◌, Bool, true, false}
 use Rattle.std.proofs.Common.{eqb-true}
-use Rattle.std.proofs.lemmas.Bool.Decides.{nat_tests}
 use Rattle.std.specs.{Bool.◌==◌, Io.KnownBytes.Appends, Io.KnownBytes.Consumes}
-use Rattle.std.proofs.{KnownBytes.Appends-trans, KnownBytes.Consumes-trans, lemmas.List.take-append-drop}
+use Rattle.std.proofs.KnownBytes.{Appends-nil, Appends-trans, Consumes-nil, Consumes-trans}
+use Rattle.std.proofs.lemmas.{List.take-append-drop, Bool.Decides.nat_tests}
 use Rattle.snap_frame.specs.declared.{request.Request.Request, reply.Reply.Reply}
 use Rattle.snap_session.specs.declared.turns.Sent.TheVariants.{All, Blocked, Failed}
 use Rattle.snap_session.specs.Talk.{Talk, Goes, Stays, HasTaken, came, start, most_owed, HoldsFrameAnd}
 use Rattle.snap_session.specs.Turns.{Turns, Sends, Serves, EndsAt}
 use Rattle.snap_session.proofs.Steps.{rests, takes, sends}
-use Rattle.snap_session.proofs.Known.{appends_none, consumes_none, consumes_more}
 use Rattle.snap_session.specs.declared.turns.End.{End}
 use Rattle.snap_session.proofs.{Runs.Joins, Runs.stays_joins, Continuation.goes_on, Held.holds_sent}
 
@@ -89,8 +88,8 @@ module _ {S : Type 0} (gives : S → Request → Reply → S → Type 0) where
       record {
         taken = [];
         given = [];
-        read = consumes_none r;
-        writes = appends_none w;
+        read = Consumes-nil r;
+        writes = Appends-nil w;
         goes = (rests gives s t).0;
       }
 
@@ -109,7 +108,7 @@ module _ {S : Type 0} (gives : S → Request → Reply → S → Type 0) where
       (record {
         taken = [];
         given = two.given;
-        read = consumes_none r1;
+        read = Consumes-nil r1;
         writes = two.writes;
         goes = (sends gives t t1 two.given t2 two.owed (same_came t1 t2 two.asked two.held) two.over).0;
       })
@@ -123,8 +122,8 @@ module _ {S : Type 0} (gives : S → Request → Reply → S → Type 0) where
       (record {
         taken = [];
         given = [];
-        read = consumes_none r1;
-        writes = appends_none w1;
+        read = Consumes-nil r1;
+        writes = Appends-nil w1;
         goes = two;
       })
 
@@ -146,7 +145,7 @@ module _ {S : Type 0} (gives : S → Request → Reply → S → Type 0) where
         taken = piece;
         given = [];
         read = read;
-        writes = appends_none w1;
+        writes = Appends-nil w1;
         goes = (takes gives t t1 piece t2 going taken).0;
       })
 
@@ -158,7 +157,7 @@ module _ {S : Type 0} (gives : S → Request → Reply → S → Type 0) where
       record {
         taken = one.taken;
         given = one.given;
-        read = consumes_more r0 r1 r2 one.taken [] one.taken one.read read (sym (append-nil one.taken));
+        read = rw append-nil at (Consumes-trans r0 r1 r2 one.taken [] one.read read);
         writes = one.writes;
         goes = one.goes;
       }

@@ -1,6 +1,6 @@
 use Rattle.std.proofs.Common.{None, OnSome, inl, inr, ◌⊎◌, ap, sym, subst, length, ◌≤◌, ◌∙◌, take, [], ◌≡◌, ◌<◌, ◌+◌, ℕ}
 use Rattle.std.proofs.Common.{List, Option, Some, true≢false, refl, arith}
-use Rattle.std.{specs.Io.KnownBytes.Consumes, proofs.KnownBytes.Consumes-kept}
+use Rattle.std.{specs.Io.KnownBytes.Consumes, proofs.KnownBytes.Consumes-nil, proofs.KnownBytes.Consumes-kept}
 use Rattle.snap_session.specs.Talk.{Talk, Stays, HoldsFrameAnd, most_owed}
 use Rattle.snap_session.specs.Turns.{Turns, AllSaid, StandsAt, TakesRounds, FewRounds, WholeRounds, most_rounds}
 use Rattle.snap_session.specs.declared.turns.End.TheVariants.{Closed, Truncated, TooLarge, NoMemory, ReadFailed}
@@ -11,7 +11,7 @@ use Rattle.snap_session.proofs.Rounds.{scene, only_sends, reads_nothing, answers
 use Rattle.snap_session.proofs.TurnRuns.{Stood, stood_sent, begins, then_round, then_takes, then_ends, few_left}
 use Rattle.snap_session.proofs.TurnRuns.{none_owed, some_owed, blocked_apart, failed_apart, on_any, on_none, or_new}
 use Rattle.snap_session.specs.declared.turns.Polled.{Polled}
-use Rattle.snap_session.proofs.{Asked.asked_anyway, Known.consumes_none, Steps.taken_asked, Steps.taken_owed}
+use Rattle.snap_session.proofs.{Asked.asked_anyway, Steps.taken_asked, Steps.taken_owed}
 use Rattle.snap_frame.specs.declared.{request.Request.Request, reply.Reply.Reply}
 use Rattle.snap_session.proofs.turns.proceed.Goals as goal
 use Rattle.snap_session.proofs.turns.proceed.Goals.{After-send_owed, After-answer, After-read}
@@ -236,7 +236,7 @@ pub returns-in-Outcome : goal.returns-in-Outcome
 returns-in-Outcome g c =
     let at = (goal.at.returns-in-Outcome g c).After-answer in
     let handed = c.in-Outcome.ensures.wants.0 in
-    ends (answered_on g at (inr handed)) NeedsOutcome (few_read g at _ (consumes_none _)) (
+    ends (answered_on g at (inr handed)) NeedsOutcome (few_read g at _ (Consumes-nil _)) (
       c.in-Outcome.ensures.wants.1,
       none_owed _ _ _ c.if-is_empty.true c.is_empty.ensures c.owed.ensures,
       c.in-Outcome.ensures.wants.2,
@@ -279,7 +279,7 @@ returns-in-Ok-eq0-2 g c =
 pub returns-in-Err : goal.returns-in-Err
 returns-in-Err g c =
     let at = (goal.at.returns-in-Err g c).After-answer in
-    let nothing = Consumes-kept _ _ _ [] (consumes_none _) c.in-Err.ensures.bytes in
+    let nothing = Consumes-kept _ _ _ [] (Consumes-nil _) c.in-Err.ensures.bytes in
     let said = all_said g (goal.at.returns-in-Err g c).After-read in
     ends (stood_reads (answered_on g at (inl said.2)) nothing) NeedsInput
     (few_read g at _ nothing) said
@@ -287,7 +287,7 @@ returns-in-Err g c =
 pub returns-in-Err-2 : goal.returns-in-Err-2
 returns-in-Err-2 g c =
     let at = (goal.at.returns-in-Err-2 g c).After-answer in
-    let nothing = Consumes-kept _ _ _ [] (consumes_none _) c.in-Err-2.ensures.bytes in
+    let nothing = Consumes-kept _ _ _ [] (Consumes-nil _) c.in-Err-2.ensures.bytes in
     let said = all_said g (goal.at.returns-in-Err-2 g c).After-read in
     ends (stood_reads (answered_on g at (inl said.2)) nothing) (Over ReadFailed)
     (few_read g at _ nothing) said
