@@ -1,6 +1,6 @@
 -- What one look adds to a scan, and why a scan that ends shows one moment.
 use Rattle.std.proofs.Common.{◌≡◌, ℕ, ◌+◌, ◌-◌, ◌*◌, ◌<◌, ◌≤◌, inl, inr, List, [], ◌∷◌, ◌++◌, length, Some, slice_index}
-use Rattle.std.proofs.Common.{slice_get, slice_set, ap, sym, ◌∙◌, subst, arith}
+use Rattle.std.proofs.Common.{slice_set, ap, sym, ◌∙◌, arith}
 use Rattle.std.proofs.lemmas.List.{length_push, get_or_push, get_or_append_left}
 use Rattle.std.specs.Prelude.{nat_lt, if◌then◌else◌}
 use Rattle.std.proofs.{Math.Nat.mul-le-mul_left, lemmas.Bool.cases_lt, lemmas.Bool.cases_eq}
@@ -12,11 +12,8 @@ use Rattle.snap_scan.proofs.{Choices.if_lt, Choices.if_ge, Places.same_segment, 
 -- a borrow is from the segment of the last look
 pub same_turn : (n : ℕ) (L : List ℕ) (k i j : ℕ) → IsTurn n L j → IsBorrow n (L ++ k ∷ []) i → i ≡ j
 same_turn n L k i j turn borrowed =
-    let within : j < n = turn.0 in
-    let place : length L ≡ turn.1.0 * n + j = turn.1.1 in
-    let long : length (L ++ k ∷ []) ≡ length L + 1 = length_push L k in
-    let last : length (L ++ k ∷ []) ≡ borrowed.last.0 * n + i + 1 = borrowed.last.1 in
-    same_segment n borrowed.last.0 i turn.1.0 j borrowed.segment within (omega arith)
+    same_segment n borrowed.last.0 i turn.1.0 j borrowed.segment turn.0
+    (omega (arith, turn.1.1, length_push L k, borrowed.last.1))
 
 module _ (A : Type 0) (n : ℕ) (number : Numbers) (entry : Entries A) (b e : ℕ) where
   -- before the first look
@@ -83,79 +80,56 @@ module _ (A : Type 0) (n : ℕ) (number : Numbers) (entry : Entries A) (b e : �
       Collects-push start size = record {
         moment = moment2;
         after = λ s l. elim (cases_lt s (length L)) [
-          | inl lt ↦ (let x = was s lt in let y = c.after s lt in omega arith)
-          | inr ge ↦ (let x = is s ge in omega arith)
+          | inl lt ↦ omega (arith, was s lt, c.after s lt)
+          | inr ge ↦ omega (arith, is s ge)
         ];
         until = λ s l. elim (cases_lt s (length L)) [
-          | inl lt ↦ (let x = was s lt in let y = c.until s lt in omega arith)
-          | inr ge ↦ (let x = is s ge in omega arith)
+          | inl lt ↦ omega (arith, was s lt, c.until s lt)
+          | inr ge ↦ omega (arith, is s ge)
         ];
         order = λ r s rs l. elim (cases_lt s (length L)) [
-          | inl lt ↦ (
-              let x = was s lt in
-              let y = was r (omega arith) in
-              let z = c.order r s rs lt in
-              omega arith)
-          | inr ge ↦ (
-              let x = is s ge in
-              elim (cases_lt r (length L)) [
-                | inl lt ↦ (let y = was r lt in let z = c.until r lt in omega arith)
-                | inr late ↦ (let y = is r late in omega arith)
-              ])
+          | inl lt ↦ omega (arith, was s lt, was r (omega arith), c.order r s rs lt)
+          | inr ge ↦ elim (cases_lt r (length L)) [
+            | inl lt ↦ omega (arith, is s ge, was r lt, c.until r lt)
+            | inr late ↦ omega (arith, is s ge, is r late)
+          ]
         ];
-        numbers = λ p i hi l. (
-            let x : length (L ++ k ∷ []) ≡ length L + 1 = len in
-            elim (cases_lt (p * n + i) (length L)) [
-              | inl lt ↦ old (p * n + i) lt ∙ c.numbers p i hi lt
-                  ∙ ap (λ s. number s i) (sym (was (p * n + i) lt))
-              | inr ge ↦ (
-                  let at : p * n + i ≡ length L = omega arith in
-                  let same : j ≡ i = sym (same_segment n p i m j hi within (omega arith)) in
-                  get_or_push L k 0 (p * n + i) (sym at) ∙ ap (number t) same
-                  ∙ ap (λ s. number s i) (sym (is (p * n + i) ge)))
-            ]);
-        entries = λ p i hi l late. (
-            let x : length (L ++ k ∷ []) ≡ length L + 1 = len in
-            elim (cases_lt (p * n + i) (length L)) [
-              | inl lt ↦ elim (cases_eq i j) [
-                | inl e2 ↦ elim (cases_lt p m) [
-                  | inl pm ↦ (let a : n * (p + 1) ≤ n * m = mul-le-mul_left n (omega arith) in
-                      absurd (omega arith))
-                  | inr mp ↦ (let a : n * m ≤ n * p = mul-le-mul_left n mp in absurd (omega arith))
-                ]
-                | inr ne ↦ get-set_other latest j i _ ne ∙ c.entries p i hi lt (omega arith)
-                    ∙ ap (λ s. Some (entry s i)) (sym (was (p * n + i) lt))
-              ]
-              | inr ge ↦ (
-                  let same : j ≡ i = sym (same_segment n p i m j hi within (omega arith)) in
-                  let mem : slice_get (slice_set latest j (entry t j)) j ≡ Some (entry t j) =
-                  get-set_same latest j _ (omega arith) in
-                  let mem2 : slice_get (slice_set latest j (entry t j)) i ≡ Some (entry t i) =
-                  subst (λ v. slice_get (slice_set latest j (entry t j)) v
-                  ≡ Some (entry t v)) same mem in
-                  mem2 ∙ ap (λ s. Some (entry s i)) (sym (is (p * n + i) ge)))
-            ]);
+        numbers = λ p i hi l. elim (cases_lt (p * n + i) (length L)) [
+          | inl lt ↦ rw (was (p * n + i) lt) (old (p * n + i) lt ∙ c.numbers p i hi lt)
+          | inr ge ↦ (
+              let at : length L ≡ p * n + i = omega (arith, len) in
+              let same : i ≡ j = same_segment n p i m j hi within (omega arith) in
+              rw (is (p * n + i) ge) (get_or_push L k 0 (p * n + i) at ∙ ap (number t) (sym same)))
+        ];
+        entries = λ p i hi l late. elim (cases_lt (p * n + i) (length L)) [
+          | inl lt ↦ elim (cases_eq i j) [
+            | inl e2 ↦ elim (cases_lt p m) [
+              | inl pm ↦ (let a : n * (p + 1) ≤ n * m = mul-le-mul_left n (omega arith) in
+                  absurd (omega (arith, len, place)))
+              | inr mp ↦ absurd (omega (arith, len, place, mul-le-mul_left n mp))
+            ]
+            | inr ne ↦ rw (was (p * n + i) lt)
+                (get-set_other latest j i _ ne ∙ c.entries p i hi lt (omega (arith, len)))
+          ]
+          | inr ge ↦ (
+              let same : i ≡ j = same_segment n p i m j hi within (omega (arith, len, place)) in
+              rw (is (p * n + i) ge, same) (get-set_same latest j _ (omega arith)))
+        ];
       }
 
     module _ (rising : IsRising number) where
       pub no_fall : (t j : ℕ) → e ≤ t → j < n → IsNoFall n L j (number t j)
       no_fall t j end l m place =
           let early : m * n + j < length L = omega arith in
-          let seen : slice_index L (m * n + j) ≡ number (c.moment (m * n + j)) j =
-          c.numbers m j l early in
-          let until : c.moment (m * n + j) ≤ e = c.until (m * n + j) early in
-          let below : number (c.moment (m * n + j)) j ≤ number t j =
-          rising j (c.moment (m * n + j)) t (omega arith) in
-          omega arith
+          let until = c.until (m * n + j) early in
+          omega (arith, c.numbers m j l early, rising j (c.moment (m * n + j)) t (omega arith))
 
       -- the first number found for a segment is at least the one it had when the scan began
       pub first_low : (j : ℕ) → j < n → j < length L → number b j ≤ slice_index L j
       first_low j within early =
           let at : 0 * n + j ≡ j = omega arith in
-          let first = ap (slice_index L) at in
-          let seen = c.numbers 0 j within (omega arith) in
           let low = rising j b (c.moment (0 * n + j)) (c.after (0 * n + j) (omega arith)) in
-          omega arith
+          omega (arith, ap (slice_index L) at, c.numbers 0 j within (omega arith))
 
       module _ (t j : ℕ) (end : e ≤ t) (turn : IsTurn n L j) (borrowed : IsBorrow n (L
           ++ number t j ∷ []) j) where
@@ -172,26 +146,19 @@ module _ (A : Type 0) (n : ℕ) (number : Numbers) (entry : Entries A) (b e : �
             let moved = borrowed.moved in
             let early : j < length L = elim (cases_lt j (length L)) [
               | inl lt ↦ lt
-              | inr ge ↦ (
-                  let place = turn.1.1 in
-                  let only = get_or_push L (number t j) 0 j (omega arith) in
-                  absurd (omega arith))
+              | inr ge ↦ absurd (omega (arith, get_or_push L (number t j) 0 j (omega (arith, turn.1.1))))
             ] in
-            let first = get_or_append_left L (number t j ∷ []) 0 j early in
-            let low = first_low j turn.0 early in
-            omega arith
+            omega (arith, get_or_append_left L (number t j ∷ []) 0 j early, first_low j turn.0 early)
 
         -- so the moment of its view is within the scan
         pub borrow_moment : (p : ℕ) → p ≤ t → number p j + 1 ≡ number t j
             → (IsClean n (L ++ number t j ∷ []) → ⊥)
             → IsMoment n number b t (L ++ number t j ∷ []) p
         borrow_moment p pl before not_clean =
-            let high : number b j + 2 ≤ number t j = rose in
             record {
               after = elim (cases_lt b p) [
                 | inl lt ↦ omega arith
-                | inr ge ↦ (let down : number p j ≤ number b j = rising j p b ge in
-                    absurd (omega arith))
+                | inr ge ↦ absurd (omega (arith, rose, rising j p b ge))
               ];
               until = pl;
               tells = record {
@@ -213,31 +180,27 @@ module _ (A : Type 0) (n : ℕ) (number : Numbers) (entry : Entries A) (b e : �
           let second : (i : ℕ) → i < n
           → slice_index L ((d + 1) * n + i) ≡ number (c.moment ((d + 1) * n + i)) i =
           λ i l. c.numbers (d + 1) i l (omega arith) in
+          let later : (i : ℕ) → i < n → p ≤ c.moment ((d + 1) * n + i) =
+          λ i l. c.order mid ((d + 1) * n + i) (omega arith) (omega arith) in
           let equal : (i : ℕ) → i < n → number p i ≡ number (c.moment ((d + 1) * n + i)) i =
           λ i l. (
-          let same = Same-from_clean n L clean i l in
           let a = rising i (c.moment (d * n + i)) p
           (c.order (d * n + i) mid (omega arith) (omega arith)) in
-          let z = rising i p (c.moment ((d + 1) * n + i))
-          (c.order mid ((d + 1) * n + i) (omega arith) (omega arith)) in
-          let f = c.numbers d i l (omega arith) in
-          let g = second i l in
-          omega arith) in (
+          let z = rising i p (c.moment ((d + 1) * n + i)) (later i l) in
+          let same = Same-from_clean n L clean i l in
+          omega (arith, c.numbers d i l (omega arith), second i l)) in (
             p,
             record {
               after = c.after mid (omega arith);
               until = c.until mid (omega arith);
               tells = record {
-                clean = λ _ i l. (
-                    let at : length L - n + i ≡ (d + 1) * n + i = omega arith in
-                    equal i l ∙ sym (second i l) ∙ ap (slice_index L) (sym at));
+                clean = λ _ i l. let at : length L - n + i ≡ (d + 1) * n + i = omega arith in
+                    rw at (equal i l ∙ sym (second i l));
                 borrow = λ j br. absurd (not_borrow j br);
               };
             },
             λ i l. c.entries (d + 1) i l (omega arith) (omega arith)
-                ∙ ap (λ v. Some v) (sym
-                (kept i p (c.moment ((d + 1) * n + i)) (c.order mid ((d + 1) * n + i) (omega arith)
-                (omega arith)) (equal i l))),
+                ∙ ap Some (sym (kept i p (c.moment ((d + 1) * n + i)) (later i l) (equal i l))),
           )
 
 -- a moment of a scan stays one when the history grows

@@ -19,20 +19,16 @@ latest_is : (s : Machine) (L : List ℕ) (j m : ℕ) → StandsFor s L → s.nex
     → slice_index s.latest j ≡ slice_index L (m * s.segments + j)
 latest_is s L j m st e place =
     let q : IsLooking s L j = said s L (Look j) st e in
-    let now : length L ≡ q.m * s.segments + j = q.place in
-    q.before m j (same_collect s.segments q.m j (m + 1) j q.within q.within (omega arith))
+    q.before m j (same_collect s.segments q.m j (m + 1) j q.within q.within (omega (arith, q.place)))
     (omega arith) q.within
 
 -- a number that doesn't fall in one list doesn't fall in any list that the machine represents
 same_fall : (s : Machine) (K L : List ℕ) (j k : ℕ) → StandsFor s K → StandsFor s L
     → s.next ≡ Look j → IsNoFall s.segments K j k → IsNoFall s.segments L j k
 same_fall s K L j k sk sl e fall m place =
-    let y : s.looks ≡ length K = sk.looks in
-    let z : s.looks ≡ length L = sl.looks in
+    let same : length K ≡ length L = omega (arith, sk.looks, sl.looks) in
     let u = latest_is s K j m sk e (omega arith) in
-    let v = latest_is s L j m sl e place in
-    let w = fall m (omega arith) in
-    omega arith
+    omega (arith, latest_is s L j m sl e place, fall m (omega arith))
 
 -- bounds that the code needs
 pub turn_fits : (s : Machine) (j k : ℕ) → s.next ≡ Look j → MayTell s j k
@@ -40,14 +36,9 @@ pub turn_fits : (s : Machine) (j k : ℕ) → s.next ≡ Look j → MayTell s j 
 turn_fits s j k e may = ∥∥₁_elim may (hlevel props) (λ r.
     let st : StandsFor s r.0 = r.1 in
     let q : IsLooking s r.0 j = said s r.0 (Look j) st e in
-    let within : j < s.segments = q.within in
-    let most : s.segments ≤ 16 = st.most in
     let few = looks-lt s r.0 j q in
-    let product : s.segments * s.segments ≤ s.segments * 16 = mul-le-mul_left s.segments most in (
-      omega arith,
-      omega (arith, st.looks),
-      omega (arith, st.firsts),
-    ))
+    let product = mul-le-mul_left s.segments st.most in
+    (omega (arith, q.within, st.most), omega (arith, st.looks), omega (arith, q.within, st.most, st.firsts)))
 
 -- the changed flag, off and on
 flag_off : (a : Bool) (x y : ℕ) → (a || not (x == y)) ≡ false → (a ≡ false) × (x ≡ y)
@@ -85,8 +76,7 @@ close s j k b off h = elim (cases_lt s.looks s.segments) [
   | inl lt ↦ inl lt
   | inr late ↦ elim (cases_lt k (slice_index s.first j + 2)) [
     | inl lt ↦ inr lt
-    | inr far ↦
-        (let on : b ≡ true = h.1 (late, far) in cc)
+    | inr far ↦ (let on : b ≡ true = h.1 (late, far) in cc)
   ]
 ]
 
@@ -145,8 +135,7 @@ module _ (s : Machine) (L : List ℕ) (j k : ℕ) (st : StandsFor s L) (e : s.ne
     -- in the first collect the segment has no earlier look
     at_start : s.looks < s.segments → length L ≡ j
     at_start lt = elim (cases_eq q.m 0) [
-      | inl zero ↦ (let f : q.m * s.segments ≡ 0 * s.segments = ap (λ x. x * s.segments) zero in
-          omega (arith, place))
+      | inl zero ↦ omega (arith, place, ap (λ x. x * s.segments) zero)
       | inr more ↦ (let f : s.segments * 1 ≤ s.segments * q.m =
           mul-le-mul_left s.segments (omega arith) in absurd (omega (arith, place, looks)))
     ]
@@ -154,7 +143,7 @@ module _ (s : Machine) (L : List ℕ) (j k : ℕ) (st : StandsFor s L) (e : s.ne
     small : (j < length L) → k < slice_index L j + 2
     small l = elim near [
       | inl lt ↦ absurd (omega (arith, at_start lt))
-      | inr far ↦ (let first = q.first j within l in omega arith)
+      | inr far ↦ omega (arith, q.first j within l)
     ]
 
     first_after : (i : ℕ) → i < s.segments → i < length (L ++ k ∷ [])
@@ -162,20 +151,16 @@ module _ (s : Machine) (L : List ℕ) (j k : ℕ) (st : StandsFor s L) (e : s.ne
     first_after i hi l = elim (cases_lt s.looks s.segments) [
       | inl early ↦ (
           let at = at_start early in
-          let set = ap (λ xs. slice_index xs i)
-          (if_lt s.looks s.segments (slice_set s.first j k) s.first early) in
-          elim (cases_lt i j) [
-            | inl lt ↦ set ∙ get_or-set_other s.first j i k 0 (omega arith)
+          rw (if_lt s.looks s.segments (slice_set s.first j k) s.first early) (elim (cases_lt i j) [
+            | inl lt ↦ get_or-set_other s.first j i k 0 (omega arith)
                 ∙ q.first i hi (omega arith) ∙ sym (old i (omega arith))
             | inr ge ↦ (
                 let is_j : i ≡ j = omega (arith, long) in
-                set ∙ ap (slice_index (slice_set s.first j k)) is_j
-                ∙ get_or-set_same s.first j k 0 (omega (arith, within, most, st.firsts))
-                ∙ sym (now i (omega arith)))
-          ])
-      | inr late ↦ ap (λ xs. slice_index xs i)
-          (if_ge s.looks s.segments (slice_set s.first j k) s.first late)
-          ∙ q.first i hi (omega (arith, looks)) ∙ sym (old i (omega (arith, looks)))
+                rw is_j (get_or-set_same s.first j k 0 (omega (arith, within, most, st.firsts))
+                ∙ sym (now j (omega arith))))
+          ]))
+      | inr late ↦ rw (if_ge s.looks s.segments (slice_set s.first j k) s.first late)
+          (q.first i hi (omega (arith, looks)) ∙ sym (old i (omega (arith, looks))))
     ]
 
     -- the latest numbers of the current collect, with this one
@@ -186,9 +171,8 @@ module _ (s : Machine) (L : List ℕ) (j k : ℕ) (st : StandsFor s L) (e : s.ne
           ∙ sym (old (q.m * s.segments + i) (omega (arith, place)))
       | inr ge ↦ (
           let is_j : i ≡ j = omega arith in
-          ap (slice_index (slice_set s.latest j k)) is_j
-          ∙ get_or-set_same s.latest j k 0 (omega (arith, within, most, st.latests))
-          ∙ sym (now (q.m * s.segments + i) (omega (arith, place))))
+          rw is_j (get_or-set_same s.latest j k 0 (omega (arith, within, most, st.latests))
+          ∙ sym (now (q.m * s.segments + j) (sym place))))
     ]
 
     undecided_after : ((c : ℕ) → (c + 2) * s.segments ≡ length L + 1
@@ -218,10 +202,9 @@ module _ (s : Machine) (L : List ℕ) (j k : ℕ) (st : StandsFor s L) (e : s.ne
       least = st.least;
       most = st.most;
       firsts = elim (cases_lt s.looks s.segments) [
-        | inl early ↦ ap length (if_lt s.looks s.segments (slice_set s.first j k) s.first early)
-            ∙ length-set s.first j k ∙ st.firsts
-        | inr late ↦ ap length (if_ge s.looks s.segments (slice_set s.first j k) s.first late)
-            ∙ st.firsts
+        | inl early ↦ rw (if_lt s.looks s.segments (slice_set s.first j k) s.first early)
+            (length-set s.first j k ∙ st.firsts)
+        | inr late ↦ rw (if_ge s.looks s.segments (slice_set s.first j k) s.first late) st.firsts
       ];
       latests = length-set s.latest j k ∙ st.latests;
       looks = omega (arith, looks, long);
@@ -247,10 +230,10 @@ module _ (s : Machine) (L : List ℕ) (j k : ℕ) (st : StandsFor s L) (e : s.ne
           ∙ sym (old (p * s.segments + i) (omega (arith, place))));
       changed = changed_after (flag_after s j k) refl;
       rising = rising_after;
-      undecided = undecided_after (λ c f _. (
-          let none : j + 1 ≡ 0 = same_segment s.segments q.m (j + 1) (c + 2) 0 more st.least
-          (omega (arith, place)) in
-          omega arith));
+      undecided = undecided_after (λ c f _. omega (
+        arith,
+        same_segment s.segments q.m (j + 1) (c + 2) 0 more st.least (omega (arith, place)),
+      ));
     })
 
     -- the last segment of this collect: another collect follows if it differs from the one before,
@@ -273,16 +256,14 @@ module _ (s : Machine) (L : List ℕ) (j k : ℕ) (st : StandsFor s L) (e : s.ne
         within = st.least;
         first = first_after;
         here = λ i l. absurd (omega arith);
-        before = λ p i f _ hi. here_after i (omega (arith, last))
-            ∙ ap (λ x. slice_index (L ++ k ∷ []) (x * s.segments + i))
-            (let g : q.m ≡ p = omega arith in g);
+        before = λ p i f _ hi. let same : p ≡ q.m = omega arith in
+            rw same (here_after i (omega (arith, last)));
         changed = (q.m, refl, λ i l. absurd (omega arith));
         rising = rising_after;
-        undecided = undecided_after (λ c f g. (
-            let d : q.m + 1 ≡ c + 2 =
-            same_collect s.segments (q.m + 1) 0 (c + 2) 0 st.least st.least
+        undecided = undecided_after (λ c f g.
+            let d = same_collect s.segments (q.m + 1) 0 (c + 2) 0 st.least st.least
             (omega (arith, place, last)) in
-            changed_after true on c (omega arith) (λ i l. g i (omega (arith, last)))));
+            changed_after true on c (omega arith) (λ i l. g i (omega (arith, last))));
       })
       by_flag false off =
           let was = changed_after false off in
@@ -298,8 +279,7 @@ module _ (s : Machine) (L : List ℕ) (j k : ℕ) (st : StandsFor s L) (e : s.ne
                   omega arith in
                   let b : length (L ++ k ∷ []) - s.segments + i ≡ (was.0 + 1) * s.segments + i =
                   omega arith in
-                  ap (slice_index (L ++ k ∷ [])) a ∙ was.2 i (omega (arith, last))
-                  ∙ sym (ap (slice_index (L ++ k ∷ [])) b));
+                  rw (a, b) (was.2 i (omega (arith, last))));
             },
             low_push s.segments L q.m j k within place q.undecided.low small,
             undecided_then,
@@ -308,5 +288,5 @@ module _ (s : Machine) (L : List ℕ) (j k : ℕ) (st : StandsFor s L) (e : s.ne
 -- a property of both outcomes of a test holds of the outcome chosen
 pub of_picked : (b : Bool) (P : Machine → Type 0) (s x y : Machine) → MatchBool b (P x) (P y)
     → MatchBool b (s ≡ x) (s ≡ y) → P s
-of_picked true P s x y h e = subst P (sym e) h
-of_picked false P s x y h e = subst P (sym e) h
+of_picked true P s x y h e = rw e h
+of_picked false P s x y h e = rw e h

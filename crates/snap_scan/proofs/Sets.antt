@@ -27,8 +27,8 @@ module _ (set k : ℕ) where
   pub more : (P : List ℕ → Type 0) → (Names set k → P (below ++ k ∷ [])) → ((Names set k → ⊥) → P below)
       → P (named_below set (suc k))
   more P does un = elim (cases_eq (bit_at set k) 1) [
-    | inl is ↦ subst P (sym (with is)) (does is)
-    | inr ne ↦ subst P (sym (without ne)) (un ne)
+    | inl is ↦ rw (with is) (does is)
+    | inr ne ↦ rw (without ne) (un ne)
   ]
 
 pub is_named : (set k p j : ℕ) → slice_get (named_below set k) p ≡ Some j → (j < k) × Names set j
@@ -75,9 +75,7 @@ ascends set (suc k) p q i j e f l =
       | inl lt ↦ ascends set k p q i j first (sym (get-append_left xs (k ∷ []) q lt) ∙ f) l
       | inr ge ↦ (
           let at : q ≡ length xs = omega arith in
-          let last : k ≡ j = same_Some k j (sym (get-append_last xs k) ∙ ap (slice_get (xs ++ k ∷ [])) (sym at) ∙ f) in
-          let low = (is_named set k p i first).0 in
-          omega arith)
+          omega (arith, same_Some k j (sym (get-append_last xs k) ∙ (rw at at f)), (is_named set k p i first).0))
     ]))
     (λ un e f. ascends set k p q i j e f l) e f
 
@@ -86,9 +84,7 @@ unfolding named_below
 few_below set zero = omega arith
 few_below set (suc k) =
     let old = few_below set k in
-    more set k (λ xs. length xs ≤ suc k)
-    (λ is. (let long : length (below set k ++ k ∷ []) ≡ length (below set k) + 1 = length_push (below set k) k in
-    omega arith)) (λ un. omega arith)
+    more set k (λ xs. length xs ≤ suc k) (λ is. omega (arith, length_push (below set k) k)) (λ un. omega arith)
 
 -- the list is 0, 1, .. up to k - 1
 record IsUpTo (k : ℕ) (xs : List ℕ) : Type 0 where
@@ -97,22 +93,19 @@ record IsUpTo (k : ℕ) (xs : List ℕ) : Type 0 where
 
 up_to_push : (k : ℕ) (xs : List ℕ) → IsUpTo k xs → IsUpTo (suc k) (xs ++ k ∷ [])
 up_to_push k xs up = record {
-  count = (let e = length_push xs k in let f = up.count in omega arith);
-  each = λ p l. (
-      let f = up.count in
-      elim (cases_lt p k) [
-        | inl lt ↦ get-append_left xs (k ∷ []) p (omega arith) ∙ up.each p lt
-        | inr ge ↦ (let at : p ≡ length xs = omega arith in
-            ap (slice_get (xs ++ k ∷ [])) at ∙ get-append_last xs k
-            ∙ ap (λ v. Some v) (let same : k ≡ p = omega arith in same))
-      ]);
+  count = omega (arith, length_push xs k, up.count);
+  each = λ p l. elim (cases_lt p k) [
+    | inl lt ↦ get-append_left xs (k ∷ []) p (omega (arith, up.count)) ∙ up.each p lt
+    | inr ge ↦ (let at : p ≡ length xs = omega (arith, up.count) in
+        ap (slice_get (xs ++ k ∷ [])) at ∙ get-append_last xs k ∙ ap Some (omega (arith, up.count)))
+  ];
 }
 
 all_below : (n k : ℕ) → k ≤ n → IsUpTo k (named_below (2 ^ n - 1) k)
 unfolding named_below
 all_below n zero l = record { count = refl; each = λ p l. absurd (omega arith) }
 all_below n (suc k) l =
-    subst (IsUpTo (suc k)) (sym (with (2 ^ n - 1) k (bit_at_ones n k (omega arith))))
+    rw (with (2 ^ n - 1) k (bit_at_ones n k (omega arith)))
     (up_to_push k (named_below (2 ^ n - 1) k) (all_below n k (omega arith)))
 
 up : (k : ℕ) → suc k ≡ k + 1
@@ -143,8 +136,8 @@ module _ (set : ℕ) where
   pub at_once : (p q j : ℕ) → IsAt set p j → IsAt set q j → p ≡ q
   at_once p q j a b = elim (cases_order p q) [
     | inl same ↦ same
-    | inr (inl lt) ↦ (let low = ascends set 16 p q j j a b lt in absurd (omega arith))
-    | inr (inr gt) ↦ (let low = ascends set 16 q p j j b a gt in absurd (omega arith))
+    | inr (inl lt) ↦ absurd (omega (arith, ascends set 16 p q j j a b lt))
+    | inr (inr gt) ↦ absurd (omega (arith, ascends set 16 q p j j b a gt))
   ]
 
   pub at_some : (p : ℕ) → p < size set → IsAt set p (slice_index (named set) p)
@@ -171,14 +164,10 @@ module _ (set : ℕ) where
   some small pos = elim (cases_lt 0 (size set)) [
     | inl lt ↦ lt
     | inr ge ↦ (
-        let zero_is : set ≡ 0 = same_from_bits_below 16 set 0 small (omega arith) (λ i l. elim (cases_eq (bit_at set i)
-        1) [
-          | inl is ↦ (let place = named_at i l is in
-              let inside = at_within place.0 i place.1 in
-              absurd (omega arith))
-          | inr ne ↦ (let low : bit_at set i < 2 = bit_at-lt set i in
-              let nil : bit_at 0 i ≡ 0 = bit_at-zero i in
-              omega arith)
+        let zero_is : set ≡ 0 = same_from_bits_below 16 set 0 small (omega arith)
+        (λ i l. elim (cases_eq (bit_at set i) 1) [
+          | inl is ↦ (let place = named_at i l is in absurd (omega (arith, at_within place.0 i place.1)))
+          | inr ne ↦ omega (arith, bit_at-lt set i, bit_at-zero i)
         ]) in
         absurd (omega arith))
   ]
@@ -186,8 +175,7 @@ module _ (set : ℕ) where
 -- a set among n segments, at most 16, fits in 16 bits
 below_most : (set n : ℕ) → n ≤ 16 → set < 2 ^ n → set < 2 ^ 16
 below_most set n few among =
-    let more : 2 ^ n ≤ 2 ^ 16 = pow-le-pow_right (omega arith) few in
-    omega arith
+    let more : 2 ^ n ≤ 2 ^ 16 = pow-le-pow_right (omega arith) few in omega arith
 
 module _ (set n : ℕ) (few' : n ≤ 16) (among : set < 2 ^ n) where
   pub some_among : 0 < set → 0 < size set
@@ -202,7 +190,7 @@ module _ (set n : ℕ) (few' : n ≤ 16) (among : set < 2 ^ n) where
   all_named (suc d) =
       let up : n + suc d ≡ suc (n + d) = omega arith in
       ap (named_below set) up
-      ∙ without set (n + d) (λ is. (let low : n + d < n = names_below (n + d) is in absurd (omega arith)))
+      ∙ without set (n + d) (λ is. absurd (omega (arith, names_below (n + d) is)))
       ∙ all_named d
 
   pub named_all : named_below set n ≡ named set
@@ -211,8 +199,7 @@ module _ (set n : ℕ) (few' : n ≤ 16) (among : set < 2 ^ n) where
 -- the set of all n segments has segment i at place i
 module _ (n : ℕ) (most : n ≤ 16) where
   all_up_to : IsUpTo n (named (2 ^ n - 1))
-  all_up_to = subst (IsUpTo n) (named_all (2 ^ n - 1) n most (omega (arith, pow_pos n)))
-      (all_below n n (omega arith))
+  all_up_to = rw (named_all (2 ^ n - 1) n most (omega (arith, pow_pos n))) at (all_below n n (omega arith))
 
   pub all_size : size (2 ^ n - 1) ≡ n
   all_size = all_up_to.count
@@ -222,9 +209,7 @@ module _ (n : ℕ) (most : n ≤ 16) where
 
   pub all_is : (p j : ℕ) → IsAt (2 ^ n - 1) p j → j ≡ p
   all_is p j at =
-      let inside : p < size (2 ^ n - 1) = at_within (2 ^ n - 1) p j at in
-      let e = all_size in
-      same_Some j p (sym at ∙ all_at p (omega arith))
+      same_Some j p (sym at ∙ all_at p (omega (arith, all_size, at_within (2 ^ n - 1) p j at)))
 
 -- a list with a property at each place, and one more entry with it
 module _ {A : Type 0} (P : ℕ → A → Type 0) (set k : ℕ) (xs : List A) where
@@ -234,12 +219,8 @@ module _ {A : Type 0} (P : ℕ → A → Type 0) (set k : ℕ) (xs : List A) whe
 
   pub list_named : Names set k → (x : A) → P k x → IsListed k xs → IsListed (k + 1) (xs ++ x ∷ [])
   list_named is x px listed =
-      subst (λ n. IsListed n (xs ++ x ∷ [])) (up k)
-      (subst (λ l. (length (xs ++ x ∷ []) ≡ length l)
-      × ((p j : ℕ) → slice_get l p ≡ Some j → (y : A) × (slice_get (xs ++ x ∷ []) p ≡ Some y) × P j y))
-      (sym (with set k is)) (
-        (let e = listed.0 in let f = length_push xs x in
-            let g = length_push (named_below set k) k in omega arith),
+      rw (sym (up k), with set k is) (
+        omega (arith, listed.0, length_push xs x, length_push (named_below set k) k),
         λ p j at. (
             let e = listed.0 in
             let long = length_push (named_below set k) k in
@@ -251,17 +232,11 @@ module _ {A : Type 0} (P : ℕ → A → Type 0) (set k : ℕ) (xs : List A) whe
               | inr ge ↦ (
                   let last : p ≡ length (named_below set k) = omega arith in
                   let same : k ≡ j = same_Some k j (sym (get-append_last (named_below set k) k)
-                  ∙ ap (slice_get (named_below set k ++ k ∷ [])) (sym last) ∙ at) in (
-                    x,
-                    ap (slice_get (xs ++ x ∷ [])) (last ∙ sym e) ∙ get-append_last xs x,
-                    subst (λ v. P v x) same px,
-                  ))
+                  ∙ (rw last at at)) in
+                  (x, ap (slice_get (xs ++ x ∷ [])) (last ∙ sym e) ∙ get-append_last xs x, rw same at px))
             ]),
-      ))
+      )
 
   pub list_unnamed : (Names set k → ⊥) → IsListed k xs → IsListed (k + 1) xs
   list_unnamed un listed =
-      subst (λ n. IsListed n xs) (up k)
-      (subst (λ l. (length xs ≡ length l)
-      × ((p j : ℕ) → slice_get l p ≡ Some j → (y : A) × (slice_get xs p ≡ Some y) × P j y))
-      (sym (without set k un)) listed)
+      rw (sym (up k), without set k un) listed

@@ -21,21 +21,13 @@ module _ (n : ℕ) (L : List ℕ) (m j k : ℕ) (within : j < n) (place : length
   low_push low small p i hi lt =
       let len : length (L ++ k ∷ []) ≡ length L + 1 = long in
       elim (cases_lt (p * n + i) (length L)) [
-        | inl was ↦ (
-            let a = old (p * n + i) was in
-            let b = old i (omega arith) in
-            let c = low p i hi was in
-            omega arith)
+        | inl was ↦ omega (arith, old (p * n + i) was, old i (omega arith), low p i hi was)
         | inr ge ↦ (
             let a = now (p * n + i) (omega arith) in
             let is_j : i ≡ j = same_segment n p i m j hi within (omega arith) in
             elim (cases_lt i (length L)) [
-              | inl before ↦ (
-                  let b = old i before in
-                  let c = ap (slice_index L) is_j in
-                  let d = small (omega arith) in
-                  omega arith)
-              | inr first ↦ (let b = now i (omega arith) in omega arith)
+              | inl before ↦ omega (arith, old i before, ap (slice_index L) is_j, small (omega arith))
+              | inr first ↦ omega (arith, now i (omega arith))
             ])
       ]
 
@@ -44,16 +36,11 @@ module _ (n : ℕ) (L : List ℕ) (m j k : ℕ) (within : j < n) (place : length
       let len : length (L ++ k ∷ []) ≡ length L + 1 = long in
       let a = old (p * n + i) (omega arith) in
       elim (cases_lt ((p + 1) * n + i) (length L)) [
-        | inl was ↦ (
-            let b = old ((p + 1) * n + i) was in
-            let c = rising p i hi was in
-            omega arith)
+        | inl was ↦ omega (arith, old ((p + 1) * n + i) was, rising p i hi was)
         | inr ge ↦ (
             let b = now ((p + 1) * n + i) (omega arith) in
             let is_j : i ≡ j = same_segment n (p + 1) i m j hi within (omega arith) in
-            let c = ap (λ x. slice_index L (p * n + x)) is_j in
-            let d = fall p (omega arith) in
-            omega arith)
+            omega (arith, ap (λ x. slice_index L (p * n + x)) is_j, fall p (omega arith)))
       ]
 
   pub Same-old : (p t : ℕ) → t ≤ n → (p + 1) * n + t ≤ length L → Same n (L ++ k ∷ []) p t
@@ -80,11 +67,8 @@ module _ (n : ℕ) (L : List ℕ) (m j k : ℕ) (within : j < n) (place : length
   undecided_before u b e =
       let at : b ≡ length L = omega (arith, long) in
       record {
-        low = λ p i hi lt. (
-            let x = old (p * n + i) (omega arith) in
-            let y = old i (omega arith) in
-            let z = u.low p i hi (omega arith) in
-            omega arith);
+        low = λ p i hi lt.
+            omega (arith, old (p * n + i) (omega arith), old i (omega arith), u.low p i hi (omega arith));
         no_clean = λ c h same. u.no_clean c (omega arith)
             (Same-old c n (omega arith) (omega arith) same);
       }
@@ -101,10 +85,8 @@ module _ (n : ℕ) (L : List ℕ) (m j k : ℕ) (within : j < n) (place : length
         λ i l. elim (cases_lt i j) [
           | inl lt ↦ old (p * n + i) (omega arith) ∙ was.2 i lt
               ∙ sym (old ((p + 1) * n + i) (omega arith))
-          | inr ge ↦ (
-              let is_j : i ≡ j = omega arith in
-              old (p * n + i) (omega arith) ∙ ap (λ x. slice_index L (p * n + x)) is_j
-              ∙ same p was.1 ∙ sym (now ((p + 1) * n + i) (omega arith)))
+          | inr ge ↦ (let is_j : i ≡ j = omega arith in rw is_j (old (p * n + j) (omega arith)
+              ∙ same p was.1 ∙ sym (now ((p + 1) * n + j) (omega arith))))
         ],
       )
 

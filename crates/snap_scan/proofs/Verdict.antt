@@ -21,18 +21,14 @@ Same-from_clean n L clean i l =
 
 not_clean : (n : ℕ) (L : List ℕ) → IsUndecided n L (length L) → IsClean n L → ⊥
 not_clean n L u clean =
-    let e : length L ≡ (clean.rounds.0 + 2) * n = clean.rounds.1 in
-    u.no_clean clean.rounds.0 (omega arith) (Same-from_clean n L clean)
+    u.no_clean clean.rounds.0 (omega (arith, clean.rounds.1)) (Same-from_clean n L clean)
 
 not_borrow : (n : ℕ) (L : List ℕ) (j : ℕ) → AllLow n L (length L) → IsBorrow n L j → ⊥
 not_borrow n L j low b =
     let m = b.last.0 in
     let e : length L ≡ m * n + j + 1 = b.last.1 in
     let at : length L - 1 ≡ m * n + j = omega arith in
-    let small : slice_index L (m * n + j) < slice_index L j + 2 = low m j b.segment (omega arith) in
-    let same : slice_index L (length L - 1) ≡ slice_index L (m * n + j) = ap (slice_index L) at in
-    let moved : slice_index L j + 2 ≤ slice_index L (length L - 1) = b.moved in
-    omega arith
+    omega (arith, low m j b.segment (omega arith), ap (slice_index L) at, b.moved)
 
 borrow_not_clean : (n : ℕ) (L : List ℕ) (j : ℕ) → 0 < n → IsBorrow n L j → IsFirst n L
     → IsClean n L → ⊥
@@ -42,24 +38,15 @@ borrow_not_clean n L j pos b before clean =
     let e : length L ≡ (c + 2) * n = clean.rounds.1 in
     let f : length L ≡ m * n + j + 1 = b.last.1 in
     let within : n - 1 < n = omega arith in
-    let place : m * n + j ≡ (c + 1) * n + (n - 1) = omega arith in
-    let j-is : j ≡ n - 1 = same_segment n m j (c + 1) (n - 1) b.segment within place in
-    let small : slice_index L (c * n + (n - 1)) < slice_index L (n - 1) + 2 =
-    (before (m * n + j) f).low c (n - 1) within (omega arith) in
-    let same : slice_index L (c * n + (n - 1)) ≡ slice_index L ((c + 1) * n + (n - 1)) =
-    Same-from_clean n L clean (n - 1) within in
+    let j-is : j ≡ n - 1 = same_segment n m j (c + 1) (n - 1) b.segment within (omega arith) in
     let at : length L - 1 ≡ (c + 1) * n + (n - 1) = omega arith in
-    let last : slice_index L (length L - 1) ≡ slice_index L ((c + 1) * n + (n - 1)) =
-    ap (slice_index L) at in
-    let first : slice_index L j ≡ slice_index L (n - 1) = ap (slice_index L) j-is in
-    let moved : slice_index L j + 2 ≤ slice_index L (length L - 1) = b.moved in
-    omega arith
+    let small = (before (m * n + j) f).low c (n - 1) within (omega arith) in
+    let same = Same-from_clean n L clean (n - 1) within in
+    omega (arith, ap (slice_index L) at, ap (slice_index L) j-is, b.moved)
 
 same_borrow : (n : ℕ) (L : List ℕ) (j k : ℕ) → IsBorrow n L j → IsBorrow n L k → j ≡ k
 same_borrow n L j k a b =
-    let e : length L ≡ a.last.0 * n + j + 1 = a.last.1 in
-    let f : length L ≡ b.last.0 * n + k + 1 = b.last.1 in
-    same_segment n a.last.0 j b.last.0 k a.segment b.segment (omega arith)
+    same_segment n a.last.0 j b.last.0 k a.segment b.segment (omega (arith, a.last.1, b.last.1))
 
 -- the statement about a machine's list that its next step makes
 pub said : (s : Machine) (L : List ℕ) (v : Next) → StandsFor s L → s.next ≡ v → Says s L v
@@ -90,29 +77,22 @@ total-rises : (n : ℕ) (L : List ℕ) (m : ℕ) → IsRising n L → IsUndecide
     → (m + 1) * n ≤ length L → total n L 0 + m ≤ total n L m
 total-rises n L zero up u h = omega arith
 total-rises n L (suc m) up u h =
-    let a = total-rises n L m up u (omega arith) in
+    let next : m + 1 ≡ suc m = omega arith in
     let b = total-lt n L m up u (omega arith) in
-    let f = ap (total n L) (let e : m + 1 ≡ suc m = omega arith in e) in
-    omega arith
+    omega (arith, total-rises n L m up u (omega arith), ap (total n L) next)
 
 -- at most n collects differ from the one before
 collects-le : (n : ℕ) (L : List ℕ) (m : ℕ) → IsRising n L → IsUndecided n L (length L)
     → m * n ≤ length L → m ≤ n + 1
 collects-le n L zero up u h = omega arith
 collects-le n L (suc m) up u h =
-    let a = total-rises n L m up u (omega arith) in
-    let b = total-cap n L m u (omega arith) in
-    omega arith
+    omega (arith, total-rises n L m up u (omega arith), total-cap n L m u (omega arith))
 
 pub looks-lt : (s : Machine) (L : List ℕ) (j : ℕ) → IsLooking s L j
     → length L < s.segments * (s.segments + 2)
 looks-lt s L j k =
-    let place : length L ≡ k.m * s.segments + j = k.place in
-    let within : j < s.segments = k.within in
-    let r : k.m ≤ s.segments + 1 =
-    collects-le s.segments L k.m k.rising k.undecided (omega arith) in
-    let q : s.segments * k.m ≤ s.segments * (s.segments + 1) = mul-le-mul_left s.segments r in
-    omega arith
+    let r = collects-le s.segments L k.m k.rising k.undecided (omega (arith, k.place)) in
+    omega (arith, k.place, k.within, mul-le-mul_left s.segments r)
 
 -- No earlier list decides anything:
 
@@ -125,11 +105,9 @@ undecided_at : (n : ℕ) (L : List ℕ) (b k : ℕ) → IsUndecided n L b → k 
 undecided_at n L b k u kb bl =
     let len = length-take-le k L (omega arith) in
     none_of n (take k L) (record {
-      low = λ m i hi lt. (
-          let low = u.low m i hi (omega arith) in
+      low = λ m i hi lt.
           let at = get_or-take k L (m * n + i) 0 (omega arith) in
-          let first = get_or-take k L i 0 (omega arith) in
-          omega arith);
+          omega (arith, u.low m i hi (omega arith), get_or-take k L i 0 (omega arith));
       no_clean = λ c h same. u.no_clean c (omega arith) (λ i l.
           sym (get_or-take k L (c * n + i) 0 (omega arith)) ∙ same i l
           ∙ get_or-take k L ((c + 1) * n + i) 0 (omega arith));
