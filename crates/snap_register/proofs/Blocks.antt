@@ -1,6 +1,6 @@
 -- Blocks of words, copied and appended.
 use Rattle.std.proofs.Common.{◌≡◌, ℕ, zero, suc, ◌+◌, ◌*◌, ◌<◌, ◌≤◌, List, [], ◌∷◌, ◌++◌, length, get_or, take, drop}
-use Rattle.std.proofs.Common.{refl, ap, sym, subst, ◌∙◌, arith, append_assoc, length-append}
+use Rattle.std.proofs.Common.{refl, ap, sym, ◌∙◌, arith, append_assoc, length-append}
 use Rattle.std.proofs.lemmas.List.{take_at, take-take, get_or_append_left, get_or-append-add, get_or_push}
 use Rattle.std.proofs.lemmas.List.{take-append-drop, drop-take}
 use Rattle.std.specs.Int.{w64, to_le_bytes}
@@ -17,8 +17,8 @@ piece_more ws at k = let e : k + 1 ≡ suc k = omega arith in ap (piece ws at) e
 
 pub piece_length : (ws : List ℕ) (at k : ℕ) → length (piece ws at k) ≡ k
 piece_length ws at zero = refl
-piece_length ws at (suc k) = let l = length-append (piece ws at k) (get_or ws (at + k) 0 ∷ []) in
-    let r = piece_length ws at k in omega arith
+piece_length ws at (suc k) =
+    omega (arith, length-append (piece ws at k) (get_or ws (at + k) 0 ∷ []), piece_length ws at k)
 
 pub piece_get : (ws : List ℕ) (at k q : ℕ) → q < k
     → get_or (piece ws at k) q 0 ≡ get_or ws (at + q) 0
@@ -26,8 +26,7 @@ piece_get ws at zero q lt = absurd (omega arith)
 piece_get ws at (suc k) q lt =
     let l = piece_length ws at k in
     dite (ℕ_discrete q k)
-    (λ e. get_or_push (piece ws at k) (get_or ws (at + k) 0) 0 q (l ∙ sym e)
-    ∙ ap (λ (z : ℕ). get_or ws (at + z) 0) (sym e))
+    (λ e. rw e (get_or_push (piece ws at k) (get_or ws (at + k) 0) 0 k l))
     (λ ne. get_or_append_left (piece ws at k) (get_or ws (at + k) 0 ∷ []) 0 q (omega arith)
     ∙ piece_get ws at k q (omega arith))
 
@@ -42,7 +41,7 @@ bytes_same d w a b (suc k) each = λ t. bytes_same d w a b k (λ q lq. each q (o
     ++ to_le_bytes w64 (each k (omega arith) t)
 
 pub size_small : (ws : List ℕ) (at : ℕ) → IsWhole ws at → size_at ws at ≤ 512
-size_small ws at w = let s = w.short in omega arith
+size_small ws at w = omega (arith, w.short)
 
 -- the words at b are a copy of the block at a
 pub record Copied (d w : List ℕ) (a b : ℕ) : Type 0 where
@@ -55,20 +54,16 @@ pub block_same : (d w : List ℕ) (a b : ℕ) → IsWhole w b
     → a + size_at w b ≤ length d → Copied d w a b
 block_same d w a b whole each fits =
     let k : ℕ = words_for (length_at w b) in
-    let at : (x y q : ℕ) → q < size_at w b → x ≡ a + q → y ≡ b + q → get_or d x 0 ≡ get_or w y 0 =
-    λ x y q lq from to. ap (λ (z : ℕ). get_or d z 0) from
-    ∙ (each q lq ∙ ap (λ (z : ℕ). get_or w z 0) (sym to)) in
-    let number = at a b 0 (omega arith) (omega arith) (omega arith) in
+    let number : get_or d a 0 ≡ get_or w b 0 = grind (arith, each 0 (omega arith)) in
     let len : length_at d a ≡ length_at w b = each 1 (omega arith) in
-    let size : size_at d a ≡ size_at w b = ap (λ (n : ℕ). 2 + words_for n) len in
     let bytes : bytes_at d (a + 2) k ≡ bytes_at w (b + 2) k = bytes_same d w (a + 2) (b + 2) k
-    (λ q lq. at (a + 2 + q) (b + 2 + q) (2 + q) (omega arith) (omega arith) (omega arith)) in
+    (λ q lq. grind (arith, each (2 + q) (omega arith))) in
     let value : value_at d a ≡ value_at w b =
     ap (λ (n : ℕ). take n (bytes_at d (a + 2) (words_for n))) len
     ∙ ap (take (length_at w b)) bytes in
     record {
-      whole = record { short = let s = whole.short in omega arith; inside = omega arith };
-      size = size;
+      whole = omega (arith, whole.short);
+      size = ap (λ (n : ℕ). 2 + words_for n) len;
       block = λ t. (number t, value t);
     }
 
@@ -76,18 +71,17 @@ block_same d w a b whole each fits =
 pub block_stays : (d e : List ℕ) (a : ℕ) → IsPrefix d e → IsWhole d a → Copied e d a a
 block_stays d e a pre whole =
     let in_d = whole.inside in
-    let l : length e ≡ length d + length pre.0 = ap length (sym pre.1) ∙ length-append d pre.0 in
-    block_same e d a a whole (λ q lq. ap (λ (l : List ℕ). get_or l (a + q) 0) (sym pre.1)
-    ∙ get_or_append_left d pre.0 0 (a + q) (omega arith)) (omega arith)
+    let l : length e ≡ length d + length pre.0 = rw (← pre.1) (length-append d pre.0) in
+    block_same e d a a whole (λ q lq. rw (← pre.1) (get_or_append_left d pre.0 0 (a + q) (omega arith)))
+    (omega arith)
 
 pub behind_stays : (d e : List ℕ) (a k : ℕ) → IsPrefix d e
     → ((i : ℕ) → i < k → IsWhole d (behind d a i)) → behind e a k ≡ behind d a k
 behind_stays d e a zero pre each = refl
 behind_stays d e a (suc k) pre each =
-    let r : behind e a k ≡ behind d a k = behind_stays d e a k pre (λ i li. each i (omega arith)) in
-    let s : size_at e (behind d a k) ≡ size_at d (behind d a k) =
-    (block_stays d e (behind d a k) pre (each k (omega arith))).size in
-    ap (λ (z : ℕ). z + size_at e z) r ∙ ap (λ (z : ℕ). behind d a k + z) s
+    let s = (block_stays d e (behind d a k) pre (each k (omega arith))).size in
+    ap (λ (z : ℕ). z + size_at e z) (behind_stays d e a k pre (λ i li. each i (omega arith)))
+    ∙ ap (λ (z : ℕ). behind d a k + z) s
 
 pub behind_more : (ws : List ℕ) (at k : ℕ)
     → behind ws at (k + 1) ≡ behind ws at k + size_at ws (behind ws at k)
@@ -98,8 +92,7 @@ pub behind_small : (ws : List ℕ) (at k : ℕ) → ((i : ℕ) → i < k → IsW
 behind_small ws at zero each = omega arith
 behind_small ws at (suc k) each =
     let r = behind_small ws at k (λ i li. each i (omega arith)) in
-    let s = size_small ws (behind ws at k) (each k (omega arith)) in
-    omega arith
+    omega (arith, size_small ws (behind ws at k) (each k (omega arith)))
 
 -- one block more is appended
 pub blocks_push : (d w : List ℕ) (at from k : ℕ) (f : Start) → AreBlocks d at k f → IsWhole w from
@@ -117,27 +110,13 @@ blocks_push d w at from k f old whole is =
     (λ q lq. get_or-append-add d p q 0 ∙ piece_get w from n q lq) (omega arith) in
     record {
       each = λ i li. dite (ℕ_discrete i k)
-          (λ same. subst (λ (z : ℕ). IsBlock e (behind e at z) (f z).0 (f z).1) (sym same)
-          (subst (λ (z : ℕ). IsBlock e z (f k).0 (f k).1) (sym behind_k) (record {
-            whole = new.whole;
-            is = new.block ∙ is;
-          })))
+          (λ same. rw (same, behind_k) (record { whole = new.whole; is = new.block ∙ is }))
           (λ before.
           let b = old.each i (omega arith) in
           let s = block_stays d e (behind d at i) pre b.whole in
-          let same : behind e at i ≡ behind d at i =
-          behind_stays d e at i pre (λ j lj. (old.each j (omega arith)).whole) in
-          subst (λ (z : ℕ). IsBlock e z (f i).0 (f i).1) (sym same) (record {
-            whole = s.whole;
-            is = s.block ∙ b.is;
-          }));
-      last =
-          let m : behind e at (k + 1) ≡ behind e at k + size_at e (behind e at k) =
-          behind_more e at k in
-          let z : behind e at k + size_at e (behind e at k) ≡ length d + size_at e (length d) =
-          ap (λ (z : ℕ). z + size_at e z) behind_k in
-          let s : size_at e (length d) ≡ n = new.size in
-          m ∙ (z ∙ omega arith);
+          rw (behind_stays d e at i pre (λ j lj. (old.each j (omega arith)).whole))
+          (record { whole = s.whole; is = s.block ∙ b.is }));
+      last = behind_more e at k ∙ rw behind_k (omega (arith, new.size));
     }
 
 pub no_blocks : (d : List ℕ) (f : Start) → AreBlocks d (length d) 0 f
@@ -149,14 +128,12 @@ pub record_of : (d e : List ℕ) (n k : ℕ) (v : List ℕ) (f g : Start) → Is
     → ((i : ℕ) → i < n → f i ≡ g i) → IsRecord n k v g e
 record_of d e n k v f g own long pre blocks same =
     let s = block_stays d e 0 pre own.whole in
-    let at : length d ≡ size_at e 0 = long ∙ sym s.size in
-    let there : AreBlocks e (size_at e 0) n f = subst (λ (z : ℕ). AreBlocks e z n f) at blocks in
     record {
       own = record { whole = s.whole; is = s.block ∙ own.is };
-      view = record {
-        each = λ i li. let b = there.each i li in record { whole = b.whole; is = b.is ∙ same i li };
-        last = there.last;
-      };
+      view = rw (s.size ∙ sym long) (record {
+        each = λ i li. let b = blocks.each i li in record { whole = b.whole; is = b.is ∙ same i li };
+        last = blocks.last;
+      });
     }
 
 -- taking n + k elements takes n, then k more
@@ -164,18 +141,23 @@ pub take_piece : (n k : ℕ) (xs : List ℕ) → take (n + k) xs ≡ take n xs +
 take_piece n k xs = sym (take-append-drop n (take (n + k) xs))
     ∙ (λ i. take-take n (n + k) xs (omega arith) i ++ drop-take n k xs i)
 
+-- one word more
+bytes_next : (d front next : List ℕ) (k w : ℕ) → length d ≡ 2 + k → bytes_at d 2 k ≡ front
+    → to_le_bytes w64 w ≡ next → bytes_at (d ++ w ∷ []) 2 (k + 1) ≡ front ++ next
+bytes_next d front next k w long old new =
+    let same = bytes_same (d ++ w ∷ []) d 2 2 k
+    (λ q lq. get_or_append_left d (w ∷ []) 0 (2 + q) (omega arith)) in
+    bytes_more (d ++ w ∷ []) 2 k ∙ (λ t. (same ∙ old) t
+    ++ (ap (to_le_bytes w64) (get_or_push d w 0 (2 + k) long) ∙ new) t)
+
 -- one word more, of eight of the bytes
 pub bytes_push : (d value : List ℕ) (k w : ℕ) → length d ≡ 2 + k
     → bytes_at d 2 k ≡ take (8 * k) value → to_le_bytes w64 w ≡ take 8 (drop (8 * k) value)
     → bytes_at (d ++ w ∷ []) 2 (k + 1) ≡ take (8 * (k + 1)) value
 bytes_push d value k w long old new =
-    let e : List ℕ = d ++ w ∷ [] in
-    let first : bytes_at e 2 k ≡ bytes_at d 2 k =
-    bytes_same e d 2 2 k (λ q lq. get_or_append_left d (w ∷ []) 0 (2 + q) (omega arith)) in
-    let last : get_or e (2 + k) 0 ≡ w = get_or_push d w 0 (2 + k) long in
     let at : 8 * k + 8 ≡ 8 * (k + 1) = omega arith in
-    bytes_more e 2 k ∙ ((λ t. (first ∙ old) t ++ (ap (to_le_bytes w64) last ∙ new) t)
-    ∙ (sym (take_piece (8 * k) 8 value) ∙ ap (λ (z : ℕ). take z value) at))
+    bytes_next d _ _ k w long old new
+    ∙ (sym (take_piece (8 * k) 8 value) ∙ ap (λ (z : ℕ). take z value) at)
 
 pub bytes_all : (d bytes : List ℕ) (k : ℕ)
     → ((q : ℕ) → q < k → to_le_bytes w64 (get_or d (2 + q) 0) ≡ take 8 (drop (8 * q) bytes))
@@ -196,14 +178,7 @@ pub first_block : (d value : List ℕ) (k : ℕ) → length value ≤ 4080
 first_block d value k le fits number len bytes =
     let val : value_at d 0 ≡ value = ap (λ (n : ℕ). take n (bytes_at d 2 (words_for n))) len
     ∙ bytes in
-    let size : size_at d 0 ≡ 2 + words_for (length value) = ap (λ (n : ℕ). 2 + words_for n) len in
-    record {
-      whole = record {
-        short = let e : length_at d 0 ≡ length value = len in omega arith;
-        inside = let s : size_at d 0 ≡ 2 + words_for (length value) = size in omega arith;
-      };
-      is = λ t. (number t, val t);
-    }
+    record { whole = omega arith; is = λ t. (number t, val t) }
 
 pub packed_block : (d value bytes : List ℕ) (k n : ℕ) → length value ≤ 4080 → length d ≡ 512
     → 510 ≤ n → get_or d 0 0 ≡ k → get_or d 1 0 ≡ length value → take (length value) bytes ≡ value
@@ -222,14 +197,7 @@ pub tail_bytes : (d value rest : List ℕ) (k w : ℕ) → length d ≡ 2 + k
     → words_for (length value) ≡ k + 1
     → take (length value) (bytes_at (d ++ w ∷ []) 2 (words_for (length value))) ≡ value
 tail_bytes d value rest k w long old new last =
-    let e : List ℕ = d ++ w ∷ [] in
-    let first : bytes_at e 2 k ≡ bytes_at d 2 k =
-    bytes_same e d 2 2 k (λ q lq. get_or_append_left d (w ∷ []) 0 (2 + q) (omega arith)) in
-    let here : get_or e (2 + k) 0 ≡ w = get_or_push d w 0 (2 + k) long in
-    let all : bytes_at e 2 (k + 1) ≡ take (8 * k) value ++ (drop (8 * k) value ++ rest) =
-    bytes_more e 2 k ∙ (λ t. (first ∙ old) t ++ (ap (to_le_bytes w64) here ∙ new) t) in
     let whole : take (8 * k) value ++ (drop (8 * k) value ++ rest) ≡ value ++ rest =
     sym (append_assoc (take (8 * k) value) (drop (8 * k) value) rest)
     ∙ ap (λ l. l ++ rest) (take-append-drop (8 * k) value) in
-    ap (take (length value)) (ap (bytes_at e 2) last ∙ (all ∙ whole))
-    ∙ take_at value rest (length value) refl
+    rw (last, bytes_next d _ _ k w long old new, whole) (take_at value rest (length value) refl)

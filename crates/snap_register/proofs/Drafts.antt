@@ -1,5 +1,5 @@
 -- A seat after it stored words into the free buffer.
-use Rattle.std.proofs.Common.{◌≡◌, ℕ, ◌+◌, ◌*◌, ◌≤◌, ◌++◌, List, length, ap, sym, subst, ◌∙◌, arith, length-append}
+use Rattle.std.proofs.Common.{◌≡◌, ℕ, ◌+◌, ◌*◌, ◌≤◌, ◌++◌, List, length, ap, sym, ◌∙◌, arith, length-append}
 use Rattle.snap_history.specs.History.{Start}
 use Rattle.snap_register.specs.Words.{IsWhole, AreBlocks, piece, size_at, block_at}
 use Rattle.snap_register.specs.{declared.access.Access.Access, Registers.Mine, Held.held, Steps.draft_of}
@@ -19,8 +19,7 @@ draft_is m n l e = ap (λ (x : Mine). x.0.pool.draft) e
 
 pub drafted : (m n : Mine) (l : List ℕ) → DraftedBy m l n → Drafted m n
 drafted m n l e = e
-    ∙ ap (λ (d : List ℕ). (record m.0 { pool = record m.0.pool { draft = d } }, m.1))
-    (sym (draft_is m n l e))
+    ∙ ap (λ (x : Mine). (record m.0 { pool = record m.0.pool { draft = x.0.pool.draft } }, m.1)) (sym e)
 
 pub drafted_then : (a m n : Mine) (l : List ℕ) → Drafted a m → DraftedBy m l n → DraftedBy a l n
 drafted_then a m n l d e =
@@ -48,8 +47,6 @@ block_copied a m n at to k from size w f old step exact whole is =
     let by = drafted_then a.seat.me m.seat.me n.seat.me (d ++ p) old.same.3 step.3 in
     let new : draft_of n ≡ d ++ p = draft_is a.seat.me n.seat.me (d ++ p) by in
     let long : length (draft_of n) ≡ length d + length p = ap length new ∙ length-append d p in
-    let to_is = old.to_is in
-    let small = old.small in
     record {
       same = (
         step.0 ∙ old.same.0,
@@ -57,10 +54,9 @@ block_copied a m n at to k from size w f old step exact whole is =
         step.2 ∙ old.same.2,
         drafted a.seat.me n.seat.me (d ++ p) by,
       );
-      to_is = omega (arith, piece_length w from size);
-      small = omega arith;
+      to_is = omega (arith, old.to_is, piece_length w from size);
+      small = omega (arith, old.small);
       prefix = prefix_trans (draft_of a) d (draft_of n) old.prefix (p, sym new);
-      blocks = subst (λ (l : List ℕ). AreBlocks l at (k + 1) f)
-          (sym (new ∙ ap (λ (z : ℕ). d ++ piece w from z) exact.0))
+      blocks = rw (new ∙ ap (λ (z : ℕ). d ++ piece w from z) exact.0)
           (blocks_push d w at from k f old.blocks whole is);
     }

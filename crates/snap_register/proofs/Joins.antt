@@ -1,15 +1,15 @@
 -- A view is split in two, or joined with another.
 use Rattle.std.proofs.Common.{◌≡◌, ◌≢◌, ℕ, zero, suc, ◌+◌, ◌-◌, ◌<◌, ◌≤◌, ◌⊎◌, inl, inr, ⊎_elim, List, [], ◌∷◌, ◌++◌}
-use Rattle.std.proofs.Common.{length, get_or, set, refl, ap, sym, subst, ◌∙◌, arith, le_refl}
+use Rattle.std.proofs.Common.{length, get_or, set, refl, ap, sym, ◌∙◌, arith}
 use Rattle.std.proofs.lemmas.List.{length-set}
 use Rattle.atomic_table.specs.Table.{State, Splits, Joins}
 use Rattle.atomic_table.proofs.Lists.{set_else}
 use Rattle.snap_register.specs.Rule.{Has, total, Knows, Kept, messenger, reader, without_reader, first_role}
 use Rattle.snap_register.specs.Rule.{without_first_role, with_received, with_seen_of, spent}
-use Rattle.snap_register.proofs.Keeps.{turn, turn_here, turn_else, over_pins, words_same, register_stays, knows_stays}
+use Rattle.std.proofs.lemmas.Bool.Decides.{nat_tests}
+use Rattle.snap_register.proofs.Keeps.{turn, turn_else, over_pins, words_same, register_stays, knows_stays}
 use Rattle.snap_register.proofs.Keeps.{seats_stay}
 use Rattle.snap_register.specs.{declared.plan.Entry.Entry, declared.plan.Plan.Plan, declared.plan.SeatView.SeatView}
-use Rattle.snap_register.specs.History.{only}
 use Rattle.snap_register.proofs.{Lines.prefix_self, Sums.total_set, Sums.total_push}
 use mathlib.Core.List.{IsPrefix}
 use mathlib.Core.Option.{some, some-injective, some-ne-none}
@@ -25,15 +25,14 @@ at_end (x ∷ xs) a b (suc j) e = ⊎_elim (λ z. inl z) (λ t. inr (ap suc t.0,
 -- a sum after view v became a and a new view b was added
 cut : (f : SeatView → ℕ) (vs : List SeatView) (id : ℕ) (v a b : SeatView) → get_elem? vs id ≡ some v
     → total f (set vs id a ++ b ∷ []) + f v ≡ total f vs + f a + f b
-cut f vs id v a b at = let x = total_set f vs id v a at in let y = total_push f (set vs id a) b in
-    omega arith
+cut f vs id v a b at = omega (arith, total_set f vs id v a at, total_push f (set vs id a) b)
 
 -- a sum after views v and u became a and b
 bound : (f : SeatView → ℕ) (vs : List SeatView) (id other : ℕ) (v u a b : SeatView)
     → get_elem? vs id ≡ some v → get_elem? (set vs id a) other ≡ some u
     → total f (set (set vs id a) other b) + f v + f u ≡ total f vs + f a + f b
-bound f vs id other v u a b at there = let x = total_set f vs id v a at in let y =
-    total_set f (set vs id a) other u b there in omega arith
+bound f vs id other v u a b at there =
+    omega (arith, total_set f vs id v a at, total_set f (set vs id a) other u b there)
 
 module _ (S : Type 0) where
   -- the rule, over other views that hold the same pins
@@ -50,11 +49,10 @@ module _ (S : Type 0) where
     pools = k.pools;
     pinned = k.pinned;
     wide = k.wide;
-    shares = let f = k.shares in omega arith;
+    shares = omega (arith, k.shares);
     few = k.few;
     legal = k.legal;
-    registers = λ i li. register_stays (words_same p s.words i) (pins i) lefts refl
-        (k.registers i li);
+    registers = λ i li. register_stays (words_same p s.words i) (pins i) lefts refl (k.registers i li);
     each_seat = each;
   }
 
@@ -71,14 +69,13 @@ module _ (S : Type 0) where
   over_cut {p} {s} k writer id v a b at lefts pin_quotas pins bare first second others =
       let K = Knows p k.history s.words writer k.pools in
       over k writer (set s.views id a ++ b ∷ [])
-      (let e = cut (λ u. u.pin_quota) s.views id v a b at in omega arith)
-      (let e = cut (λ u. u.left) s.views id v a b at in omega arith)
+      (omega (arith, cut (λ u. u.pin_quota) s.views id v a b at))
+      (omega (arith, cut (λ u. u.left) s.views id v a b at))
       (λ i f none. let e = cut (λ u. f (get_or u.pins i 0)) s.views id v a b at in
       let same : f (get_or a.pins i 0) ≡ f (get_or v.pins i 0) = ap f (pins i) in
       let new : f (get_or b.pins i 0) ≡ 0 = ap f (bare i) ∙ none in omega arith)
       (λ j u e. ⊎_elim (seats_stay S K s.views id a first others j u)
-      (λ t. subst (λ (z : ℕ × SeatView). K z.0 z.1) (λ y.
-      (sym (t.0 ∙ length-set s.views id a) y, t.1 y)) second)
+      (λ t. rw (t.0 ∙ length-set s.views id a, ← t.1) second)
       (at_end (set s.views id a) b u j e))
 
   -- a new seat without pins that writes nothing; the old one keeps its pins and what it writes
@@ -103,8 +100,7 @@ module _ (S : Type 0) where
         plan = mine.plan;
         seen = mine.seen;
         received = mine.received;
-        role = λ i has. let r = mine.role i has in
-            record { inside = r.inside; own = r.own; all = r.all; given = r.given; pool = r.pool };
+        role = λ i has. grind (arith, mine.role i has);
         pins = mine.pins;
         pin_quota = still;
       }
@@ -112,9 +108,9 @@ module _ (S : Type 0) where
         plan = mine.plan;
         seen = mine.seen;
         received = (k.history, refl);
-        role = λ i has. let y = has.1 in absurd (omega arith);
-        pins = λ i c li e. let z = bare i in absurd (omega arith);
-        pin_quota = λ i some_pin. let z = bare i in absurd (omega arith);
+        role = λ i has. absurd (omega (arith, has.1));
+        pins = λ i c li e. absurd (omega (arith, bare i));
+        pin_quota = λ i some_pin. omega (arith, bare i);
       }
       (λ j u _ there. k.each_seat j u there)
 
@@ -129,7 +125,7 @@ module _ (S : Type 0) where
       → Splits {S = S} (Kept p) id v (without_reader v) (reader v)
   seats_reader p id v bare some_looks some_share =
       parts p id v (v.pin_quota - 1) (v.left - v.plan.looks) 1 v.plan.looks v.pins v.records
-      (omega arith) (omega arith) (λ i some_pin. let z = bare i in absurd (omega arith)) bare
+      (omega arith) (omega arith) (λ i some_pin. omega (arith, bare i)) bare
 
   -- the new seat writes the first segment, the old one those after it
   pub gives : (p : Plan) (id : ℕ) (v : SeatView) → v.seen_end ≡ v.high → v.pool_end ≡ v.high
@@ -138,42 +134,28 @@ module _ (S : Type 0) where
   gives p id v seen_end pool_end some_role bare some_looks some_share s k at =
       let writer : ℕ → ℕ = turn k.writer v.low (length s.views) in
       let mine = k.each_seat id v at in
-      let mine_low = mine.role v.low (le_refl v.low, some_role) in
       over_cut k writer id v (without_first_role v) (first_role v) at (omega arith) (omega arith)
       (λ i. refl) bare
       record {
         plan = mine.plan;
         seen = mine.seen;
         received = mine.received;
-        role = λ i has. let x = has.0 in let r = mine.role i (omega arith, has.1) in record {
-          inside = r.inside;
-          own = turn_else k.writer v.low (length s.views) i (λ e. omega arith) ∙ r.own;
-          all = r.all;
-          given = r.given;
-          pool = r.pool;
-        };
+        role = λ i has. grind (arith, nat_tests, mine.role i (omega arith));
         pins = mine.pins;
-        pin_quota = λ i some_pin. let z = bare i in absurd (omega arith);
+        pin_quota = λ i some_pin. omega (arith, bare i);
       }
       record {
         plan = mine.plan;
         seen = mine.seen;
         received = mine.received;
-        role = λ i has. let x = has.0 in let y = has.1 in let is : i ≡ v.low = omega arith in
-            let r = mine.role i (x, omega arith) in record {
-              inside = r.inside;
-              own = turn_here k.writer v.low (length s.views) i is;
-              all = λ _. r.all (omega arith);
-              given = λ far. absurd (omega arith);
-              pool = λ _. r.pool (omega arith);
-            };
+        role = λ i has. grind (arith, nat_tests, mine.role i (omega arith));
         pins = mine.pins;
-        pin_quota = λ i some_pin. let z = bare i in absurd (omega arith);
+        pin_quota = λ i some_pin. omega (arith, bare i);
       }
       (λ j u other there. let t = k.each_seat j u there in
       knows_stays (prefix_self k.history) (λ i b q li lb pin lq. refl) (λ i has. (
         turn_else k.writer v.low (length s.views) i (λ z.
-            other (sym (t.role i has).own ∙ (ap k.writer z ∙ mine_low.own))),
+            other (sym (t.role i has).own ∙ (ap k.writer z ∙ (mine.role v.low (omega arith)).own))),
         refl,
         refl,
       )) t)
@@ -195,7 +177,7 @@ module _ (S : Type 0) where
       let known = prefixes k.history mine.seen mine.received theirs.seen in
       let sums = λ (f : SeatView → ℕ). bound f s.views id other v u a spent at there in
       over k k.writer (set (set s.views id a) other spent)
-      (let e = sums (λ x. x.pin_quota) in omega arith) (let e = sums (λ x. x.left) in omega arith)
+      (omega (arith, sums (λ x. x.pin_quota))) (omega (arith, sums (λ x. x.left)))
       (λ i f none. let e = sums (λ x. f (get_or x.pins i 0)) in
       let left_out : f (get_or u.pins i 0) ≡ 0 = ap f (bare i) ∙ none in omega arith)
       (seats_stay S K (set s.views id a) other spent
@@ -203,7 +185,7 @@ module _ (S : Type 0) where
         plan = λ e. absurd cc;
         seen = (k.history, refl);
         received = (k.history, refl);
-        role = λ i has. let h = has.1 in absurd (omega arith);
+        role = λ i has. absurd (omega (arith, has.1));
         pins = λ i c li e. absurd (omega arith);
         pin_quota = λ i some_pin. absurd (omega arith);
       }
@@ -212,13 +194,7 @@ module _ (S : Type 0) where
         plan = mine.plan;
         seen = known.0;
         received = known.1;
-        role = λ i has. let r = mine.role i has in let same = own i has in record {
-          inside = r.inside;
-          own = r.own;
-          all = λ near. ap (only i) same.1 ∙ r.all near;
-          given = λ far. let near = same.0 in absurd (omega arith);
-          pool = r.pool;
-        };
+        role = λ i has. grind (arith, mine.role i has, own i has);
         pins = mine.pins;
         pin_quota = mine.pin_quota;
       }
@@ -229,11 +205,11 @@ module _ (S : Type 0) where
       → ((i : ℕ) → get_or u.pins i 0 ≡ 0)
       → Joins {S = S} (Kept p) id v other u (with_received v u) spent
   tells p id v other u seen_end bare = takes_in p id v other u v.seen u.seen bare
-      (λ h a _ b. (a, b)) (λ i has. let z = has.1 in (omega arith, refl))
+      (λ h a _ b. (a, b)) (λ i has. (omega (arith, has.1), refl))
 
   -- a seat that writes nothing has seen what the other has
   pub adopts : (p : Plan) (id : ℕ) (v : SeatView) (other : ℕ) (u : SeatView) → v.low ≡ 0
       → v.high ≡ 0 → ((i : ℕ) → get_or u.pins i 0 ≡ 0)
       → Joins {S = S} (Kept p) id v other u (with_seen_of v u) spent
   adopts p id v other u low high bare = takes_in p id v other u u.seen v.received bare
-      (λ h _ told b. (b, told)) (λ i has. let z = has.1 in absurd (omega arith))
+      (λ h _ told b. (b, told)) (λ i has. absurd (omega (arith, has.1)))

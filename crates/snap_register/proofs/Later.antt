@@ -1,6 +1,6 @@
 -- What a seat keeps through its looks.
 use Rattle.std.proofs.Common.{◌≡◌, ◌≢◌, ℕ, ◌+◌, ◌-◌, ◌<◌, ◌≤◌, List, [], ◌∷◌, ◌++◌, length, get_or, set, refl, ap, sym}
-use Rattle.std.proofs.Common.{subst, ◌∙◌, arith, get_or-set_same, get_or-set_other, le_refl, append_assoc}
+use Rattle.std.proofs.Common.{◌∙◌, arith, get_or-set_same, get_or-set_other, le_refl, append_assoc}
 use Rattle.std.proofs.lemmas.List.{length-set, set-get_or}
 use Rattle.atomic_table.specs.Table.{Me}
 use Rattle.snap_register.specs.History.{entry, sight, count}
@@ -18,9 +18,8 @@ use native.Mathlib.Decide.{ℕ_discrete}
 pub set_each : (P : ℕ → ℕ → Type 0) (l : List ℕ) (j y : ℕ) → j < length l → P j y
     → ((i : ℕ) → i ≢ j → P i (get_or l i 0)) → (i : ℕ) → P i (get_or (set l j y) i 0)
 set_each P l j y inside here others i = dite (ℕ_discrete i j)
-    (λ e. subst (λ (z : ℕ). P z (get_or (set l j y) z 0)) (sym e)
-    (subst (P j) (sym (get_or-set_same l j y 0 inside)) here))
-    (λ ne. subst (P i) (sym (get_or-set_other l j i y 0 ne)) (others i ne))
+    (λ e. rw (e, get_or-set_same l j y 0 inside) here)
+    (λ ne. rw (get_or-set_other l j i y 0 ne) (others i ne))
 
 -- a seat at rest in which only these have changed
 abbrev pub changed : {S : Type 0} → Me S SeatView → List Entry → ℕ → List ℕ → List ℕ → List Sight
@@ -42,7 +41,7 @@ changed m seen left pins records sights pool = (
 module _ {S : Type 0} {words left : ℕ} {pins : List ℕ} {m : Me S SeatView}
     (seated : IsSeated words pins left m) where
   -- between two calls it has seen all that it received
-  settled : m ≡ (record m.0 { received = []; seen_end = m.0.high }, m.1)
+  pub settled : m ≡ (record m.0 { received = []; seen_end = m.0.high }, m.1)
   settled = λ t. (
     record m.0 { received = seated.received_none t; seen_end = seated.seen_end_is t },
     m.1,
@@ -58,23 +57,8 @@ module _ {S : Type 0} {words left : ℕ} {pins : List ℕ} {m : Me S SeatView}
       → ((i : ℕ) → i < segments m.0.plan → get_or ms i 0 ≤ count i seen)
       → ((i : ℕ) → i < segments m.0.plan → Readable m.0.plan seen i (get_or ms i 0))
       → IsSeated words' pins' left' m'
-  seated_with {words'} {left'} {pins' = pins'} seen ps ms ss d same lefts is wide_ps wide_ms
-      pins_are inside records read =
-      subst (λ (z : Me S SeatView). IsSeated words' pins' left' z) (sym is) (record {
-        words_are = same ∙ seated.words_are;
-        alone = seated.alone;
-        here = seated.here;
-        received_none = refl;
-        seen_end_is = refl;
-        pin_quota_is = seated.pin_quota_is;
-        left_is = lefts;
-        wide_pins = wide_ps ∙ seated.wide_pins;
-        wide_records = wide_ms ∙ seated.wide_records;
-        pins_are = pins_are;
-        pins_inside = inside;
-        records_are = records;
-        readable = read;
-      })
+  seated_with seen ps ms ss d same lefts is wide_ps wide_ms pins_are inside records read =
+      rw is (search (arith, seated))
 
   -- the pin on register j becomes x
   seated_set : {words' left' l : ℕ} {m' : Me S SeatView} (j x : ℕ) (seen : List Entry)
@@ -143,8 +127,7 @@ module _ {S : Type 0} {words left : ℕ} {pins : List ℕ} {m : Me S SeatView}
 -- the sizes are still those of the plan
 pub sized_still : (a : Access) {p : Plan} → p ≡ (view_of a).plan
     → IsSized a.segments a.scanners a.block_words a.words p
-sized_still a e =
-    subst (λ (p : Plan). IsSized a.segments a.scanners a.block_words a.words p) (sym e) a.sized
+sized_still a e = rw e a.sized
 
 pub publishes_later : (v w : SeatView) (i x : ℕ) → Publishes v w i x → IsPrefix v.seen w.seen
 publishes_later v w i x s = (
@@ -155,14 +138,12 @@ publishes_later v w i x s = (
 pub publishes_count : (v w : SeatView) (i x : ℕ) → Publishes v w i x
     → count i w.seen ≡ count i v.seen + 1
 publishes_count v w i x s =
-    let a = count-append i v.seen s.between in
     let b : count i s.between ≡ 0 = ap length s.others in
-    let c : count i w.seen ≡ count i (v.seen ++ s.between) + 1 =
-    ap (count i) s.seen ∙ count_push_same i (v.seen ++ s.between) (entry i v.pool.draft) refl in
-    omega arith
+    let c = count_push_same i (v.seen ++ s.between) (entry i v.pool.draft) refl in
+    omega (arith, count-append i v.seen s.between, ap (count i) s.seen ∙ c)
 
 pub same_none : (l : List ℕ) (j : ℕ) → get_or l j 0 ≡ 0 → set l j 0 ≡ l
-same_none l j e = ap (λ (z : ℕ). set l j z) (sym e) ∙ set-get_or l j 0
+same_none l j e = ap (set l j) (sym e) ∙ set-get_or l j 0
 
 pub some_words : {n s block_words whole words : ℕ} {p : Plan} → IsSized n s block_words whole p
     → words ≡ size p → 0 < words

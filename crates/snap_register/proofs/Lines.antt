@@ -1,6 +1,6 @@
 -- How a beginning of a history, and one more update, change a segment's line.
 use Rattle.std.proofs.Common.{◌≡◌, ◌≢◌, ℕ, zero, suc, ◌+◌, ◌<◌, ◌≤◌, ◌==◌, ◌⊎◌, inl, inr, ⊎_elim, Bool, true, false}
-use Rattle.std.proofs.Common.{cond, List, [], ◌∷◌, ◌++◌, length, get_or, refl, ap, sym, subst, ◌∙◌, arith, append_assoc}
+use Rattle.std.proofs.Common.{cond, List, [], ◌∷◌, ◌++◌, length, get_or, refl, ap, sym, ◌∙◌, arith, append_assoc}
 use Rattle.std.proofs.Common.{length-append}
 use Rattle.std.proofs.lemmas.List.{same_from_push, get_or_append_left, get_or_push, nil_from_length, append-nil}
 use Rattle.std.proofs.lemmas.Bool.Decides.{nat_tests}
@@ -67,8 +67,8 @@ pub record_prefix : (p : Plan) (a h : List Entry) (i r : ℕ) → IsPrefix a h �
 record_prefix p a h i r pre le =
     ap (λ (l : List Entry). (get_or (entry i (start_at p i).words ∷ l) r (entry i [])).words)
     (ap (only i) (sym pre.1) ∙ only-append i a pre.0)
-    ∙ ap (λ (e : Entry). e.words) (get_or_append_left (line p a i) (only i pre.0) (entry i []) r
-    (omega arith))
+    ∙ ap (λ (e : Entry). e.words)
+    (get_or_append_left (line p a i) (only i pre.0) (entry i []) r (omega arith))
 
 -- the record of the last update
 pub record_last : (p : Plan) (h : List Entry) (i : ℕ) (ws : List ℕ)
@@ -76,8 +76,8 @@ pub record_last : (p : Plan) (h : List Entry) (i : ℕ) (ws : List ℕ)
 record_last p h i ws = ap (λ (l : List Entry).
     (get_or (entry i (start_at p i).words ∷ l) (count i h + 1) (entry i [])).words)
     (only_push_same i h (entry i ws) refl)
-    ∙ ap (λ (e : Entry). e.words) (get_or_push (line p h i) (entry i ws) (entry i [])
-    (count i h + 1) (omega arith))
+    ∙ ap (λ (e : Entry). e.words)
+    (get_or_push (line p h i) (entry i ws) (entry i []) (count i h + 1) (omega arith))
 
 pub none_between : (i : ℕ) (a h : List Entry) (p : IsPrefix a h) → count i a ≡ count i h
     → only i p.0 ≡ []
@@ -93,8 +93,7 @@ pub legal_push : (p : Plan) (h : List Entry) (x : Entry) → IsLegal p h → Fol
     → IsLegal p (h ++ x ∷ [])
 legal_push p h x legal follows a b e is = ⊎_elim
     (λ none. let s = same_from_push a h e x (ap (λ w. a ++ e ∷ w) (sym none) ∙ is) in
-    subst (λ (z : Entry). Follows p a z) (sym s.1)
-    (subst (λ (z : List Entry). Follows p z x) (sym s.0) follows))
+    rw (s.1, s.0) follows)
     (λ t. let s = same_from_push (a ++ e ∷ t.0) h t.1 x (append_assoc a (e ∷ t.0) (t.1 ∷ [])
     ∙ (ap (λ w. a ++ e ∷ w) (sym t.2) ∙ is)) in legal a t.0 e s.0)
     (last_view b)
@@ -124,9 +123,9 @@ found_more i r x h other f =
     record {
       before = x ∷ f.before;
       after = f.after;
-      is = ap (λ l. x ∷ (f.before ++ get_or l r (entry i []) ∷ f.after)) e ∙ ap (λ w. x ∷ w) f.is;
+      is = rw e (ap (λ w. x ∷ w) f.is);
       place = ap length (only_behind i x f.before other) ∙ f.place;
-      its = ap (λ l. (get_or l r (entry i [])).segment) e ∙ f.its;
+      its = rw e f.its;
     }
 
 found_first : (i : ℕ) (x : Entry) (h : List Entry) → x.segment ≡ i → Found i zero (x ∷ h)
@@ -147,10 +146,9 @@ found_next i r x h same f =
     record {
       before = x ∷ f.before;
       after = f.after;
-      is = ap (λ l. x ∷ (f.before ++ get_or l (suc r) (entry i []) ∷ f.after)) e
-          ∙ ap (λ w. x ∷ w) f.is;
+      is = rw e (ap (λ w. x ∷ w) f.is);
       place = ap length (only_first i x f.before same) ∙ ap suc f.place;
-      its = ap (λ l. (get_or l (suc r) (entry i [])).segment) e ∙ f.its;
+      its = rw e f.its;
     }
 
 pub find : (i r : ℕ) (h : List Entry) → r < count i h → Found i r h

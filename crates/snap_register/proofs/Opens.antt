@@ -1,19 +1,20 @@
 -- The words at the start keep the rule, and the first seat splits off the others.
-use Rattle.std.proofs.Common.{◌≡◌, ℕ, zero, suc, ◌+◌, ◌-◌, ◌*◌, ◌<◌, ◌≤◌, ⊎_elim, List, [], ◌∷◌, ◌++◌, map, length}
-use Rattle.std.proofs.Common.{get_or, refl, ap, sym, subst, ◌∙◌, arith, length-append, suc-mul, mul-le-mul_right}
+use Rattle.std.proofs.Common.{◌≡◌, ℕ, zero, suc, ◌+◌, ◌-◌, ◌*◌, ◌<◌, ◌≤◌, List, [], ◌∷◌, ◌++◌, map, length}
+use Rattle.std.proofs.Common.{get_or, refl, ap, sym, ◌∙◌, arith, length-append, suc-mul, mul-le-mul_right}
 use Rattle.std.proofs.lemmas.List.{length-map, length-replicate, get_or_append_left, get_or-append-add}
 use Rattle.std.proofs.lemmas.List.{get_or-append_right, get_or-replicate, get_or_past}
 use Rattle.std.{proofs.lemmas.Bool.Decides.nat_tests, specs.Prelude.replicate, specs.List.flat_map}
 use Rattle.atomic_table.specs.{Table.Me, Table.opening, Seated.TableId}
 use Rattle.snap_register.specs.History.{no_start, start_at, updates}
-use Rattle.snap_register.specs.Rule.{segments, seats, buffers, width, given, cell, size, IsLegal, other, pins_of, Knows}
+use Rattle.snap_register.specs.Rule.{segments, seats, buffers, width, given, cell, size, IsLegal, pins_of, Knows}
 use Rattle.snap_register.specs.Rule.{Kept}
 use Rattle.snap_register.specs.Setup.{first_view, first_pool, start_of, plan_with, unused, opening_words, IsReady}
 use Rattle.snap_register.specs.Setup.{IsSized, IsFirst}
 use Rattle.snap_register.specs.Parts.{IsNewSeat, AreWriters, AreReaders}
 use Rattle.snap_register.specs.{declared.plan.Opening.Opening, declared.plan.Plan.Plan, declared.plan.Start.Start}
 use Rattle.snap_register.specs.{declared.plan.SeatView.SeatView, Seat.Known, Seat.known, Held.Readable}
-use Rattle.snap_register.proofs.{Views.readable, Pairs.get_pushed, Places.below_product, Sums.on_not, Sums.far_none}
+use Rattle.snap_register.proofs.{Views.readable, Places.below_product}
+use Rattle.snap_history.proofs.Lists.{get-push_at, get-push}
 use mathlib.Core.Logic.{dite}
 use mathlib.Core.Option.{some, some-injective, some-ne-none}
 use native.Mathlib.Decide.{dec_le}
@@ -22,9 +23,8 @@ use lib.ListN.{get_elem?}
 fewer_looks : (l looks : ℕ) → 0 < l → (looks ≤ l * looks) × (l * looks - looks ≡ (l - 1) * looks)
 fewer_looks zero looks any = absurd (omega arith)
 fewer_looks (suc l) looks any =
-    let same : l ≡ suc l - 1 = omega arith in
-    let less : suc l * looks - looks ≡ l * looks = omega (arith, suc-mul l looks) in
-    (omega arith, less ∙ ap (λ (z : ℕ). z * looks) same)
+    let same : suc l - 1 ≡ l = omega arith in
+    (omega arith, rw same (omega (arith, suc-mul l looks)))
 
 legal_none : (p : Plan) → IsLegal p []
 legal_none p a b e is = absurd (omega (arith, ap length is, length-append a (e ∷ b)))
@@ -59,48 +59,25 @@ module _ (S : Type 0) where
       ) → IsFirst words' k n
   first_after words words' l k low m n f e same is =
       let one_less : l - 1 ≡ k = omega arith in
-      subst (λ (z : Me S SeatView). IsFirst words' k z) (sym is) (record {
-        words_are = same ∙ f.words_are;
-        alone = f.alone;
-        here = f.here;
-        seen_is = f.seen_is;
-        received_none = f.received_none;
-        seen_end_is = f.seen_end_is;
-        pool_end_is = f.pool_end_is;
-        pool_is = f.pool_is;
-        pin_quota_is = let e = f.pin_quota_is in omega arith;
-        left_is = ap (λ (z : ℕ). z - m.0.plan.looks) f.left_is
-            ∙ ((fewer_looks l m.0.plan.looks (omega arith)).1
-            ∙ ap (λ (z : ℕ). z * m.0.plan.looks) one_less);
-        readable = f.readable;
-        pins_are = f.pins_are;
-        records_are = f.records_are;
-      })
+      let left : m.0.left - m.0.plan.looks ≡ k * m.0.plan.looks =
+      rw f.left_is ((fewer_looks l m.0.plan.looks (omega arith)).1 ∙ ap (λ (z : ℕ). z * m.0.plan.looks) one_less) in
+      rw is (search (arith, f))
 
 pub writers_more : (z : TableId) (p : Plan) (xs : List Known) (a : Known) → AreWriters z p xs
     → IsNewSeat z p (length xs) (length xs + 1) a → AreWriters z p (xs ++ a ∷ [])
-writers_more z p xs a old new i b at =
-    ⊎_elim (λ e. old i b e) (λ t. subst (λ (y : ℕ × Known). IsNewSeat z p y.0 (y.0 + 1) y.1) (λ k.
-    (sym t.0 k, t.1 k)) new) (get_pushed xs a b i at)
+writers_more z p xs a = get-push_at (λ i. IsNewSeat z p i (i + 1)) xs a
 
 pub readers_more : (z : TableId) (p : Plan) (xs : List Known) (a : Known) → AreReaders z p xs
     → IsNewSeat z p 0 0 a → AreReaders z p (xs ++ a ∷ [])
-readers_more z p xs a old new i b at =
-    ⊎_elim (λ e. old i b e) (λ t. subst (λ (y : Known). IsNewSeat z p 0 0 y) t.1 new)
-    (get_pushed xs a b i at)
+readers_more z p xs a = get-push (IsNewSeat z p 0 0) xs a
 
 pub new_seat : (S : Type 0) (z : TableId) (p : Plan) (low high : ℕ) (a : Known) (t : TableId)
     (m n : Me S SeatView) → m ≡ n → a ≡ known t m.0 → t ≡ z → n.0.plan ≡ p → n.0.seen ≡ []
     → n.0.low ≡ low → n.0.high ≡ high → n.0.left ≡ n.0.plan.looks → IsNewSeat z p low high a
 new_seat S z p low high a t m n me is te pe se le he fe =
-    subst (IsNewSeat z p low high) (sym (is ∙ ap (λ (x : Me S SeatView). known t x.0) me)) (record {
-      table_is = te;
-      plan_is = pe;
-      seen_is = ap updates se;
-      low_is = le;
-      high_is = he;
-      left_is = fe ∙ ap (λ (x : Plan). x.looks) pe;
-    })
+    let seen : updates n.0.seen ≡ [] = ap updates se in
+    let left : n.0.left ≡ p.looks = fe ∙ ap (λ (x : Plan). x.looks) pe in
+    rw (is, me) (search)
 
 module _ {X : Type 0} (f : X → List ℕ) (d : X) (b : ℕ) where
   even_length : (xs : List X) → ((i : ℕ) → i < length xs → length (f (get_or xs i d)) ≡ b)
@@ -189,22 +166,14 @@ module _ (p : Plan) (ready : IsReady p) where
 
   seated : (j : ℕ) (v : SeatView) → get_elem? (first_view p ∷ []) j ≡ some v
       → Knows p [] (opening_words p) (λ _. 0) (λ _. first_pool p) j v
-  seated zero v e = subst (λ (u : SeatView).
-      Knows p [] (opening_words p) (λ _. 0) (λ _. first_pool p) 0 u)
-      (some-injective (first_view p) v e) record {
-        plan = λ _. refl;
-        seen = ([], refl);
-        received = ([], refl);
-        role = λ i has. record {
-          inside = has.1;
-          own = refl;
-          all = λ _. refl;
-          given = λ _. refl;
-          pool = λ _. refl;
-        };
-        pins = λ i b li pin. let n = no_pin i in absurd (omega arith);
-        pin_quota = λ i pin. let n = no_pin i in absurd (omega arith);
-      }
+  seated zero v e = rw (← some-injective (first_view p) v e) (record {
+    plan = λ _. refl;
+    seen = ([], refl);
+    received = ([], refl);
+    role = λ i has. search;
+    pins = λ i b li pin. absurd (omega (arith, no_pin i));
+    pin_quota = λ i pin. absurd (omega (arith, no_pin i));
+  })
   seated (suc j) v e = absurd (some-ne-none v (sym e))
 
   pub opens : (S : Type 0) → Kept {S = S} p (opening (opening_words p) [] (first_view p))
@@ -220,14 +189,11 @@ module _ (p : Plan) (ready : IsReady p) where
     registers = λ i li. record {
       word = zero_at i (omega arith);
       current = omega arith;
-      number = let r = (ready.each i li).1 in omega arith;
-      balance = λ b lb. let a = none_counted b in let g = zero_given i b li lb in let o =
-          on_not i b (first_view p) (λ z. let n = no_pin i in absurd (omega arith)) in
-          omega arith;
+      number = omega (arith, (ready.each i li).1);
+      balance = λ b lb. grind (arith, nat_tests, none_counted b, zero_given i b li lb, no_pin i);
       wears = λ b lb. omega (arith, none_counted b, ready.looks);
       free_buffer = λ lt. absurd (omega arith);
-      found_pinned = let n = no_pin i in let f =
-          far_none (other 0 0) 0 (get_or (first_view p).pins i 0) (omega arith) in omega arith;
+      found_pinned = grind (arith, nat_tests, no_pin i);
       counts = length-replicate (buffers p) 0;
       short = omega arith;
       draft = λ q lt lq. absurd (omega arith);
@@ -289,24 +255,9 @@ sized_is n scanners looks block_words xs e any few few_scanners ready =
 start_readable : (p : Plan) → IsReady p → (i : ℕ) → i < segments p
     → Readable p [] i (get_or (replicate (segments p) 0) i 0)
 start_readable p ready i li =
-    subst (λ (z : ℕ). Readable p [] i z) (sym (none_at (segments p) i))
+    rw (none_at (segments p) i)
     (readable p [] i 0 (legal_none p) ready.block_words_is (ready.each i li).0 (omega arith))
 
 pub first_is : (S : Type 0) (p : Plan) (words : ℕ) (m : Me S SeatView) → IsReady p → words ≡ size p
     → m ≡ (first_view p, []) → IsFirst words (seats m.0.plan) m
-first_is S p words m ready e is =
-    subst (λ (x : Me S SeatView). IsFirst words (seats x.0.plan) x) (sym is) (record {
-      words_are = e;
-      alone = refl;
-      here = refl;
-      seen_is = refl;
-      received_none = refl;
-      seen_end_is = refl;
-      pool_end_is = refl;
-      pool_is = refl;
-      pin_quota_is = refl;
-      left_is = refl;
-      readable = start_readable p ready;
-      pins_are = refl;
-      records_are = refl;
-    })
+first_is S p words m ready e is = rw is (search (start_readable p ready))

@@ -1,11 +1,11 @@
 -- Registers that start with packed values.
-use Rattle.std.proofs.Common.{◌≡◌, ℕ, ◌^◌, ◌≤◌, List, length, map, take, slice_get, Some, refl, ap, sym, subst, ◌∙◌}
+use Rattle.std.proofs.Common.{◌≡◌, ℕ, ◌^◌, ◌≤◌, List, length, map, take, slice_get, Some, refl, ap, sym, ◌∙◌}
 use Rattle.std.proofs.Common.{arith, mul-le-mul_right}
 use Rattle.std.proofs.lemmas.{List.length-map, List.take_all, Option.get_or_from_slice_get, Option.slice_get-map}
 use Rattle.std.specs.Prelude.{option_map}
 use Rattle.snap_history.{specs.Pairs.Pairs, proofs.Pairs.element, proofs.Pairs.partner}
 use Rattle.snap_register.specs.Setup.{start_of, plan_with, IsReady}
-use Rattle.snap_register.specs.{declared.plan.Opening.Opening, declared.plan.Plan.Plan, declared.plan.Start.Start}
+use Rattle.snap_register.specs.{declared.plan.Opening.Opening, declared.plan.Plan.Plan}
 use Rattle.snap_register.specs.{History.no_start, History.start_at, Words.value_at, Words.IsBlock, Rule.segments}
 use Rattle.snap_register.specs.{Rule.seats, Parts.IsOpening, Parts.IsPacked}
 
@@ -27,24 +27,12 @@ ready_is scanners looks vs os few_scanners few some p =
       each = λ i low.
           let x = element vs i (omega arith) in
           let o = partner (λ _. IsPacked) vs os i x.0 p x.1 in
-          let s : start_at q i ≡ start_of o.0 = start_is scanners looks os i o.0 o.1 in
-          let fits = o.2.low in
-          let is = o.2.number_is in
-          let number : (start_at q i).number ≡ o.0.number = ap (λ (z : Start). z.number) s in
-          let block : IsBlock o.0.words.items 0 x.0.0 x.0.1 = o.2.block in
-          let own : IsBlock o.0.words.items 0 o.0.number (value_at o.0.words.items 0) =
-          record {
-            whole = block.whole;
-            is = let first =
-                ap (λ (z : ℕ × List ℕ). z.0) block.is in
-                λ t. ((first ∙ sym is) t, value_at o.0.words.items 0);
-          } in (
-            (
-              ap (λ (z : Start). length z.words) s ∙ o.2.wide,
-              subst (λ (z : Start). IsBlock z.words 0 z.number (value_at z.words 0)) (sym s) own,
-            ),
-            omega arith,
-          );
+          let words : List ℕ = o.0.words.items in
+          let number = ap (λ (z : ℕ × List ℕ). z.0) o.2.block.is ∙ sym o.2.number_is in
+          let own : IsBlock words 0 o.0.number (value_at words 0) =
+          record { whole = o.2.block.whole; is = λ t. (number t, value_at words 0) } in
+          rw (start_is scanners looks os i o.0 o.1)
+          ((o.2.wide, own), omega (arith, o.2.low, o.2.number_is));
       block_words_is = refl;
       few = omega arith;
       looks = omega (arith, mul-le-mul_right looks most);
@@ -55,21 +43,16 @@ pub opening_is : (scanners looks : ℕ) (vs : List (ℕ × List ℕ)) (os : List
 opening_is scanners looks vs os p = record {
   segments_are = length-map os start_of ∙ sym p.size;
   looks_are = refl;
-  each = λ i x e.
-      let o = partner (λ _. IsPacked) vs os i x p e in
-      let s : start_at (plan_with scanners looks 512 os) i ≡ start_of o.0 =
-      start_is scanners looks os i o.0 o.1 in
-      let number = ap (λ (z : Start). z.number) s ∙ o.2.number_is in
-      let value = ap (λ (z : Start). value_at z.words 0) s
-      ∙ ap (λ (z : ℕ × List ℕ). z.1) o.2.block.is in
-      λ t. (number t, value t);
+  each = λ i x e. let o = partner (λ _. IsPacked) vs os i x p e in
+      rw (start_is scanners looks os i o.0 o.1)
+      (λ t. (o.2.number_is t, ap (λ (z : ℕ × List ℕ). z.1) o.2.block.is t));
 }
 
 -- after all were packed
 pub packed_all : {A : Type 0} (f : A → ℕ × List ℕ) (k : ℕ) (xs : List A) (os : List Opening)
     → length xs ≤ k → Pairs (λ _. IsPacked) (map f (take k xs)) os
     → Pairs (λ _. IsPacked) (map f xs) os
-packed_all f k xs os all p = subst (λ l. Pairs (λ _. IsPacked) (map f l) os) (take_all k xs all) p
+packed_all f k xs os all p = rw (take_all k xs all) at p
 
 pub packed_length : {A : Type 0} (f : A → ℕ × List ℕ) (xs : List A) (os : List Opening)
     → Pairs (λ _. IsPacked) (map f xs) os → length xs ≡ length os

@@ -1,23 +1,14 @@
 -- The places of the registers' words.
-use Rattle.std.proofs.Common.{◌≡◌, ◌≢◌, ℕ, ◌+◌, ◌*◌, ◌<◌, ◌≤◌, ap, sym, mul-le-mul_right, arith}
-use mathlib.Core.Logic.{dite}
-use native.Mathlib.Decide.{dec_le}
+use Rattle.std.proofs.Common.{◌≡◌, ◌≢◌, ℕ, ◌+◌, ◌*◌, ◌<◌, sym, mul-le-mul_right, arith}
+use Rattle.snap_scan.proofs.Places.{same_collect, same_segment}
 use Rattle.snap_register.specs.declared.plan.Plan.{Plan}
 use Rattle.snap_register.specs.Rule.{segments, buffers, width, given, cell, size}
 
 pub below_product : (x y w q : ℕ) → x < y → q < w → x * w + q < y * w
 below_product x y w q h l = omega (arith, mul-le-mul_right w h)
 
-no_later : (a b w q s : ℕ) → s < w → a * w + q ≡ b * w + s → a ≤ b
-no_later a b w q s ls e = dite (dec_le a b) (λ le. le)
-    (λ nle. let later : b < a = omega arith in absurd (omega (arith, mul-le-mul_right w later)))
-
 pub parts_same : (a b w q s : ℕ) → q < w → s < w → a * w + q ≡ b * w + s → (a ≡ b) × (q ≡ s)
-parts_same a b w q s lq ls e =
-    let le = no_later a b w q s ls e in
-    let ge = no_later b a w s q lq (sym e) in
-    let same : a ≡ b = omega arith in
-    (same, omega (arith, ap (λ (z : ℕ). z * w) same))
+parts_same a b w q s lq ls e = (same_collect w a q b s lq ls e, same_segment w a q b s lq ls e)
 
 -- word c isn't one of register i
 pub record Apart (p : Plan) (i c : ℕ) : Type 0 where

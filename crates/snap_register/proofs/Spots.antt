@@ -1,7 +1,7 @@
 -- The places of records' words in the table.
-use Rattle.std.proofs.Common.{◌≡◌, ℕ, ◌+◌, ◌-◌, ◌<◌, ◌++◌, List, length, get_or, ap, subst, ◌∙◌, arith, length-append}
+use Rattle.std.proofs.Common.{◌≡◌, ℕ, ◌+◌, ◌-◌, ◌<◌, ◌++◌, List, length, get_or, arith, length-append}
 use Rattle.atomic_table.specs.Table.{Me}
-use Rattle.snap_register.specs.Rule.{buffers, width, cell}
+use Rattle.snap_register.specs.Rule.{width, cell}
 use Rattle.snap_register.specs.Steps.{Owns, IsFree, LiesAt, IsNext, IsLast}
 use Rattle.snap_register.specs.{declared.plan.SeatView.SeatView, Held.held, Setup.IsSeated}
 use Rattle.snap_register.proofs.Places.{cell_inside}
@@ -19,45 +19,26 @@ pub next_more : (v : SeatView) (i b to q first place : ℕ) (ws : List ℕ) → 
     → IsNext (record v { pool = record v.pool { draft = v.pool.draft ++ ws } }) place
 next_more v i b to q first place ws owns free start long inside is more =
     let all = length-append v.pool.draft ws in
-    let at : place ≡ cell v.plan i b (length (v.pool.draft ++ ws)) = omega arith in
-    record {
-      own = i;
-      owns = owns;
-      free = subst (λ (z : ℕ). z < buffers v.plan) free.0 free.1;
-      inside = omega arith;
-      is = at ∙ ap (λ (z : ℕ). cell v.plan i z (length (v.pool.draft ++ ws))) free.0;
-    }
+    record { own = i; owns = owns; free = omega arith; inside = omega arith; is = rw (← free.0) (omega arith) }
 
 module _ {S : Type 0} {words left : ℕ} {pins : List ℕ} {m : Me S SeatView}
     (seated : IsSeated words pins left m) where
   pub lies_inside : {j q place : ℕ} → LiesAt m.0 j q place → place < words
   lies_inside {j} {q} {place} lies =
       let li = lies.pinned.0 in
-      let some = lies.pinned.1 in
-      let pin = seated.pins_inside j li in
-      let fits = (seated.readable j li).fits in
-      let lq : q < length (held m.0 j) = lies.inside in
-      omega (
-        arith,
-        seated.words_are,
-        lies.is,
-        cell_inside m.0.plan j (get_or m.0.pins j 0 - 1) q li (omega arith) (omega arith),
-      )
+      let there = cell_inside m.0.plan j (get_or m.0.pins j 0 - 1) q li
+      (omega (arith, lies.pinned.1, seated.pins_inside j li))
+      (omega (arith, lies.inside, (seated.readable j li).fits)) in
+      omega (arith, seated.words_are, lies.is)
 
   pub next_inside : {place : ℕ} → IsNext m.0 place → place < words
-  next_inside next = omega (
-    arith,
-    seated.words_are,
-    next.is,
-    cell_inside m.0.plan next.own m.0.pool.free_buffer (length m.0.pool.draft) next.owns.1 next.free
-        next.inside,
-  )
+  next_inside next =
+      let there = cell_inside m.0.plan next.own m.0.pool.free_buffer (length m.0.pool.draft)
+      next.owns.1 next.free next.inside in
+      omega (arith, seated.words_are, next.is)
 
   pub last_inside : {place : ℕ} → IsLast m.0 place → place < words
-  last_inside last = omega (
-    arith,
-    seated.words_are,
-    last.is,
-    cell_inside m.0.plan last.own m.0.pool.free_buffer (length m.0.pool.draft - 1) last.owns.1
-        last.free (omega (arith, last.some, last.inside)),
-  )
+  last_inside last =
+      let there = cell_inside m.0.plan last.own m.0.pool.free_buffer (length m.0.pool.draft - 1)
+      last.owns.1 last.free (omega (arith, last.some, last.inside)) in
+      omega (arith, seated.words_are, last.is)

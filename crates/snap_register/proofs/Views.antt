@@ -1,5 +1,5 @@
 -- The contents of a published record: its number, its value and its view.
-use Rattle.std.proofs.Common.{◌≡◌, ℕ, zero, suc, ◌+◌, ◌*◌, ◌^◌, ◌<◌, ◌≤◌, List, [], ◌∷◌, length, get_or, ap, subst, ◌∙◌}
+use Rattle.std.proofs.Common.{◌≡◌, ℕ, zero, suc, ◌+◌, ◌*◌, ◌^◌, ◌<◌, ◌≤◌, List, [], ◌∷◌, length, get_or, ap, ◌∙◌}
 use Rattle.std.proofs.Common.{arith}
 use Rattle.snap_register.specs.History.{entry, only, number, count, record_words, start_at, memory}
 use Rattle.snap_register.specs.Rule.{segments, buffers, width, Follows, IsLegal}
@@ -26,15 +26,13 @@ viewed p h j (suc r) legal pos le =
     let f = find j r h (omega arith) in
     let e : Entry = get_or (only j h) r (entry j []) in
     let g : Follows p f.before e = legal f.before f.after e f.is in
-    let c : count j g.0 ≡ r = subst (λ (z : ℕ). count z g.0 ≡ count z f.before) f.its g.2
-    ∙ f.place in
-    let n : number p g.0 e.segment + 1 ≡ (start_at p j).number + suc r =
-    ap (λ (z : ℕ). number p g.0 z + 1) f.its ∙ omega arith in
+    let c : count j g.0 ≡ r = (rw f.its at g.2) ∙ f.place in
+    let n : number p g.0 e.segment + 1 ≡ (start_at p j).number + suc r = rw f.its (omega arith) in
     record {
       part = g.0;
       beginning = prefix_trans g.0 f.before h g.1 (e ∷ f.after, f.is);
       before = omega arith;
-      own = subst (λ (z : ℕ). IsBlock e.words 0 z (value_at e.words 0)) n g.3.own;
+      own = rw n at g.3.own;
       view = g.3.view;
     }
 
@@ -44,12 +42,8 @@ width_is p e = ap (λ (z : ℕ). (segments p + 1) * z) e ∙ omega arith
 pub readable : (p : Plan) (h : List Entry) (j r : ℕ) → IsLegal p h → p.block_words ≡ 512
     → HasStart p j → r ≤ count j h → Readable p h j r
 readable p h j zero legal block_words start le =
-    let n : (start_at p j).number ≡ (start_at p j).number + 0 = omega arith in
-    record {
-      own = subst (λ (z : ℕ). IsBlock (start_at p j).words 0 z (value_at (start_at p j).words 0)) n
-          start.1;
-      fits = omega (arith, start.0, width_is p block_words);
-    }
+    let n : (start_at p j).number + 0 ≡ (start_at p j).number = omega arith in
+    record { own = rw n start.1; fits = omega (arith, start.0, width_is p block_words) }
 readable p h j (suc r) legal block_words start le =
     let u = viewed p h j (suc r) legal (omega arith) le in
     let ws : List ℕ = record_words p h j (suc r) in

@@ -1,8 +1,7 @@
 use Rattle.std.proofs.Common.{rules, ◌≡◌, ℕ, ◌<◌, List, [], length, subst, sym, ap, ◌∙◌, arith}
 use Rattle.snap_register.specs.Setup.{plan_with, first_view, opening_words}
 use Rattle.snap_register.proofs.Opens.{opens, wide, opening_words_are, first_is, count_of, base_of}
-use Rattle.snap_register.specs.{Registers.Mine, declared.plan.Plan.Plan, History.start_at, Rule.Kept, Rule.segments}
-use Rattle.snap_register.specs.{Parts.AreWriters, Parts.AreReaders}
+use Rattle.snap_register.specs.{Registers.Mine, declared.plan.Plan.Plan, Rule.Kept, Rule.segments}
 use Rattle.atomic_table.specs.{Table.opening, Seated.TableId}
 use Rattle.snap_register.proofs.tables.open.Goals as goal
 use Rattle.snap_register.proofs.tables.open.Goals.{After-as_slice}
@@ -45,9 +44,8 @@ seat_writers-requires-clause-numbers c =
     let first = ap (λ (m : Mine). m.0.plan) c.in_ok-table.ensures.4 ∙ plan_is a in
     let l = count_of c.args.values.now.items in (
       search rules,
-      λ i li. let li' : i < segments (plan a) = subst (λ (q : Plan). i < segments q) first li in
-          base_of c.args.values.now.items i (omega arith)
-          ∙ ap (λ (q : Plan). (start_at q i).number) (sym first),
+      λ i li. let li' : i < segments (plan a) = rw first at li in
+          rw first (base_of c.args.values.now.items i (omega arith)),
     )
 
 pub returns-clause-seats : goal.returns-clause-seats
@@ -56,8 +54,6 @@ returns-clause-seats c =
     let first = ap (λ (m : Mine). m.0.plan) c.in_ok-table.ensures.4 ∙ plan_is a in
     let placed = c.in_ok-writers.ensures.first_seat in (
       c.in_ok-table.first_seat.table_id,
-      subst (λ (q : Plan). AreWriters c.in_ok-table.first_seat.table_id q
-          c.in_ok-writers.writers.items) first c.in_ok-writers.ensures.seats.1,
-      subst (λ (q : TableId × Plan). AreReaders q.0 q.1 c.in_ok-scanners.scanners.items) (λ i.
-          (placed.1 i, (placed.2 ∙ first) i)) c.in_ok-scanners.ensures.1,
+      rw first at c.in_ok-writers.ensures.seats.1,
+      rw (placed.1, placed.2 ∙ first) at c.in_ok-scanners.ensures.1,
     )

@@ -1,7 +1,7 @@
-use Rattle.std.proofs.Common.{rules, ◌≡◌, ◌<◌, List, subst, sym, ap, ◌∙◌, arith, refl}
+use Rattle.std.proofs.Common.{rules, ◌≡◌, ap, ◌∙◌, arith, refl}
 use Rattle.atomic_table.specs.Seated.{TableId}
 use Rattle.snap_register.proofs.Opens.{enough, bare, first_after, readers_more, new_seat}
-use Rattle.snap_register.specs.{declared.plan.Plan.Plan, Rule.size, Seat.Known, Parts.IsNewSeat, Parts.AreReaders}
+use Rattle.snap_register.specs.{declared.plan.Plan.Plan, Rule.size, Parts.IsNewSeat}
 use Rattle.snap_register.proofs.{Joins.seats_reader, Later.some_words}
 use Rattle.snap_register.proofs.tables.seat_readers.Goals as goal
 
@@ -11,8 +11,7 @@ split_seat-seat-requires c =
     let own : c.loop-k.first_seat.table_id ≡ c.deref.result.now.shared.table_id = search rules in
     let more = enough (Unit {0}) _ _ _ inv.first (omega arith) in (
       own,
-      subst (λ (t : TableId). 0 < t.words) own
-          (some_words c.requires.sized.0 (inv.first.words_are ∙ ap size inv.plan)),
+      rw (← own) (some_words c.requires.sized.0 (inv.first.words_are ∙ ap size inv.plan)),
       seats_reader (Unit {0}) _ _ _ (bare (Unit {0}) _ _ _ inv.first) more.0 more.1,
     )
 
@@ -35,6 +34,5 @@ loop-k-preserved c =
       first = first_after (Unit {0}) _ _ _ _ _ c.loop-k.first_seat.me _ first
           (omega arith) words split.2;
       count = search rules;
-      each = subst (λ (xs : List Known). AreReaders z p xs) (sym c.in_ok-push.ensures.items)
-          (readers_more z p c.loop-k.readers.items c.of.result inv.each new);
+      each = rw c.in_ok-push.ensures.items (readers_more z p c.loop-k.readers.items c.of.result inv.each new);
     }

@@ -1,7 +1,7 @@
-use Rattle.std.proofs.Common.{rules, ◌≡◌, ℕ, ◌+◌, ◌<◌, List, subst, sym, ap, ◌∙◌, arith, refl}
+use Rattle.std.proofs.Common.{rules, ◌≡◌, ℕ, ◌+◌, ap, ◌∙◌, arith, refl}
 use Rattle.atomic_table.specs.Seated.{TableId}
 use Rattle.snap_register.proofs.Opens.{enough, bare, first_after, writers_more, new_seat}
-use Rattle.snap_register.specs.{declared.plan.Plan.Plan, Rule.size, Seat.Known, Parts.IsNewSeat, Parts.AreWriters}
+use Rattle.snap_register.specs.{declared.plan.Plan.Plan, Rule.size, Parts.IsNewSeat}
 use Rattle.snap_register.proofs.{Joins.gives, Later.some_words}
 use Rattle.snap_register.proofs.tables.seat_writers.Goals as goal
 
@@ -12,10 +12,9 @@ split_seat-seat-requires c =
     let e = c.requires.sized.0.segments_are in
     let more = enough (Unit {0}) _ _ _ inv.first (omega arith) in (
       own,
-      subst (λ (t : TableId). 0 < t.words) own
-          (some_words c.requires.sized.0 (inv.first.words_are ∙ ap size inv.plan)),
-      gives (Unit {0}) _ _ _ inv.first.seen_end_is inv.first.pool_end_is (let a = inv.low in let b =
-          inv.high in omega arith) (bare (Unit {0}) _ _ _ inv.first) more.0 more.1,
+      rw (← own) (some_words c.requires.sized.0 (inv.first.words_are ∙ ap size inv.plan)),
+      gives (Unit {0}) _ _ _ inv.first.seen_end_is inv.first.pool_end_is (omega (arith, inv.low, inv.high))
+          (bare (Unit {0}) _ _ _ inv.first) more.0 more.1,
     )
 
 pub loop-i-preserved : goal.loop-i-preserved
@@ -33,7 +32,7 @@ loop-i-preserved c =
     ∙ (split.3 ∙ inv.table)) inv.plan first.seen_is inv.low
     (ap (λ (n : ℕ). n + 1) inv.low) refl in
     let more = writers_more z p c.loop-i.writers.items c.of.result inv.each
-    (subst (λ (n : ℕ). IsNewSeat z p n (n + 1) c.of.result) (sym inv.count) new) in
+    (rw inv.count new) in
     let e = c.requires.sized.0.segments_are in
     record {
       table = search rules;
@@ -43,5 +42,5 @@ loop-i-preserved c =
       low = search rules;
       high = search rules;
       count = search rules;
-      each = subst (λ (xs : List Known). AreWriters z p xs) (sym c.in_ok-push.ensures.items) more;
+      each = rw c.in_ok-push.ensures.items more;
     }

@@ -1,6 +1,6 @@
-use Rattle.std.proofs.Common.{rules, ◌≡◌, ℕ, ◌<◌, ap, subst, ◌∙◌, get_or}
+use Rattle.std.proofs.Common.{rules, ◌≡◌, ap, ◌∙◌, get_or}
 use Rattle.atomic_table.specs.Seated.{TableId}
-use Rattle.snap_register.specs.Rule.{buffers, given, next_other}
+use Rattle.snap_register.specs.Rule.{next_other}
 use Rattle.snap_register.specs.{Registers.Mine, declared.plan.Pool.Pool, Setup.IsSeated, Steps.view_of, Steps.pool_of}
 use Rattle.snap_register.proofs.{Pools.checks, Later.seated_pool, Later.sized_still}
 use mathlib.Core.Logic.{dite}
@@ -12,11 +12,10 @@ load-found-requires c =
     let me = c.args.self.now in
     let own : me.seat.table_id ≡ c.deref.result.now.shared.table_id = search rules in (
       own,
-      subst (λ (t : TableId). c.given-at.result < t.words) own c.given-at.ensures.1,
+      rw (← own) c.given-at.ensures.1,
       checks (Unit {0}) _ _ _ me.seat.me c.args.i _ me.seated.here c.requires.own.0 c.requires.own.1
-          (subst (λ (z : ℕ). z < buffers (view_of me).plan) c.requires.buffer.0 c.requires.buffer.1)
-          (c.given-at.ensures.0 ∙ ap (λ (z : ℕ).
-          given (view_of me).plan c.args.i z) c.requires.buffer.0),
+          (rw (← c.requires.buffer.0) c.requires.buffer.1)
+          (rw (← c.requires.buffer.0) c.given-at.ensures.0),
     )
 
 pub invariant_of-self : goal.invariant_of-self

@@ -21,13 +21,10 @@ lies c =
     let told : c.size_at-count.result ≡ size_at w from = c.size_at-count.ensures.size.0 in
     let lt = c.loop-q-test.true in
     let inside : from + size_at w from ≤ length w = c.requires.block.inside in
-    let lt' : from + q < length w = omega arith in
-    let here : LiesAt b.0 c.args.j (from + q) (first + q) =
-    subst (λ (m : Mine). LiesAt m.0 c.args.j (from + q) (first + q))
-    (sym c.size_at-count.ensures.same.2) (lies_more a.0 c.args.j from q (from + q) first (first + q)
-    c.place-source.ensures.place lt' refl refl) in
-    subst (λ (m : Mine). LiesAt m.0 c.args.j (from + q) (first + q)) (sym c.loop-q.invariant.same.3)
-    (record { pinned = here.pinned; inside = here.inside; is = here.is })
+    let here : LiesAt b.0 c.args.j (from + q) (first + q) = rw c.size_at-count.ensures.same.2
+    (lies_more a.0 c.args.j from q (from + q) first (first + q) c.place-source.ensures.place
+    (omega arith) refl refl) in
+    rw c.loop-q.invariant.same.3 (record { pinned = here.pinned; inside = here.inside; is = here.is })
 
 pub load-word-requires : goal.load-word-requires
 load-word-requires c = record {

@@ -1,4 +1,4 @@
-use Rattle.std.proofs.Common.{◌≡◌, ℕ, ◌+◌, ◌<◌, List, ap, sym, subst, ◌∙◌, arith}
+use Rattle.std.proofs.Common.{◌≡◌, ℕ, ◌+◌, ◌<◌, List, ap, sym, ◌∙◌, arith}
 use Rattle.snap_register.specs.Words.{IsWhole, size_at, block_at, behind}
 use Rattle.snap_register.specs.{Registers.Mine, declared.view.View.TheVariants.Borrowed, Rule.segments, Held.held}
 use Rattle.snap_register.specs.{Held.taken, Steps.view_of}
@@ -26,12 +26,10 @@ whole c =
     let a = c.args.self.now in
     let can = c.requires.pinned in
     let init = c.size_at-from.new.self in
-    let lt : c.loop.counter < segments (view_of init).plan =
-    subst (λ (z : ℕ). c.loop.counter < z) init.sized.segments_are c.loop-test.true in
-    let lt' : c.loop.counter < segments (view_of a).plan =
-    subst (λ (m : Mine). c.loop.counter < segments m.0.plan) c.size_at-from.ensures.same.2 lt in
-    subst (λ (x : List ℕ × ℕ). IsWhole x.0 x.1) (λ t. (sym (words_are c) t, sym (from_is c) t))
-    (view_whole a c.args.j c.loop.counter c.size_at-from.ensures.legal can.2 can.0 lt')
+    let lt : c.loop.counter < segments (view_of a).plan =
+    rw (← c.size_at-from.ensures.same.2, ← init.sized.segments_are) c.loop-test.true in
+    rw (words_are c, from_is c)
+    (view_whole a c.args.j c.loop.counter c.size_at-from.ensures.legal can.2 can.0 lt)
 
 pub copy_block-count-requires-clause-block : goal.copy_block-count-requires-clause-block
 copy_block-count-requires-clause-block c =

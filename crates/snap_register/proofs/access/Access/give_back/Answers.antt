@@ -1,4 +1,4 @@
-use Rattle.std.proofs.Common.{rules, ◌-◌, ◌≡◌, ◌<◌, refl, ap, subst, ◌∙◌, arith, get_or, set}
+use Rattle.std.proofs.Common.{rules, ◌-◌, ◌≡◌, ◌<◌, refl, ap, ◌∙◌, arith, get_or, set}
 use Rattle.atomic_table.specs.Seated.{TableId}
 use Rattle.snap_register.specs.{Registers.Mine, Steps.view_of}
 use Rattle.snap_register.proofs.{Keeps.gives_back, Later.seated_bare, Later.sized_still}
@@ -13,7 +13,7 @@ fetch_add-requires c =
     let wp = me.seated.wide_pins in
     let some : 0 < get_or me.pins c.args.j 0 = search rules in (
       own,
-      subst (λ (t : TableId). c.given-at.result < t.words) own c.given-at.ensures.1,
+      rw (← own) c.given-at.ensures.1,
       gives_back (Unit {0}) _ _ _ me.seat.me _ c.args.j
           (get_or me.pins c.args.j 0 - 1) me.seated.here c.requires (omega arith)
           (omega arith) c.given-at.ensures.0,

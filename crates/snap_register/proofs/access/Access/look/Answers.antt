@@ -1,17 +1,15 @@
-use Rattle.std.proofs.Common.{rules, ◌≡◌, ℕ, ◌+◌, ◌<◌, ◌≤◌, ◌/◌, List, length, sym, ap, subst, ◌∙◌, arith, get_or}
+use Rattle.std.proofs.Common.{rules, ◌≡◌, ℕ, ◌+◌, ◌<◌, ◌≤◌, ◌/◌, List, length, sym, ap, ◌∙◌, arith, get_or}
 use Rattle.snap_register.specs.Held.{held, HasLookedFrom, Readable}
 use Rattle.snap_register.proofs.Updates.{number_is, grows_is, below_is}
-use Rattle.snap_register.specs.{Registers.Mine, declared.plan.Plan.Plan, declared.plan.SeatView.SeatView}
+use Rattle.snap_register.specs.{Registers.Mine, declared.plan.SeatView.SeatView}
 use Rattle.snap_register.specs.{History.number, History.start_at, Rule.segments, Rule.Learns, Steps.view_of}
-use Rattle.snap_register.specs.Rule as rule
 use Rattle.snap_register.proofs.access.Access.look.Goals as goal
 use Rattle.snap_register.proofs.access.Access.look.Goals.{After-pin, After-read}
 
 in_plan : (c : After-pin) → c.args.j < segments (view_of c.pin.new.self).plan
 in_plan c =
     let gone = ap (λ (m : Mine). m.0.plan) c.give_back.ensures.3 in
-    let plan = ap (λ (u : SeatView). u.plan) c.pin.ensures.view ∙ gone in
-    subst (λ (p : Plan). c.args.j < segments p) (sym plan) c.requires.0
+    rw (ap (λ (u : SeatView). u.plan) c.pin.ensures.view ∙ gone) c.requires.0
 
 read_of : (c : After-pin) → Readable (view_of c.pin.new.self).plan (view_of c.pin.new.self).seen
     c.args.j (get_or (view_of c.pin.new.self).records c.args.j 0)
@@ -30,19 +28,8 @@ looked_from c = search rules
 
 learns : (c : After-read) → Learns (view_of c.args.self.now) (view_of c.read.new.self)
 learns c =
-    let v : SeatView = view_of c.args.self.now in
-    let l = subst (λ (m : Mine).
-    Learns m.0 (view_of c.pin.new.self)) c.give_back.ensures.3 c.pin.ensures.learns in
-    let mine : Learns v (view_of c.pin.new.self) =
-    record {
-      later = l.later;
-      received = l.received;
-      own = l.own;
-      given = l.given;
-      legal = l.legal;
-      below = l.below;
-    } in
-    subst (λ (m : Mine). Learns v m.0) (sym c.read.ensures.same.2) mine
+    let l = rw c.give_back.ensures.3 at c.pin.ensures.learns in
+    rw c.read.ensures.same.2 (assumption l)
 
 pub returns-clause-seen : goal.returns-clause-seen
 returns-clause-seen c =
@@ -61,8 +48,7 @@ returns-clause-below c =
     let r = (goal.at.returns-clause-below c).After-read in
     let b = c.read.new.self in
     let plan = ap (λ (u : SeatView). u.plan) (looked_from r) in
-    below_is b.seat.table_id (view_of b)
-    (subst (λ (p : Plan). rule.IsBelow p (view_of b).seen) (sym plan) (learns r).below)
+    below_is b.seat.table_id (view_of b) (rw plan (learns r).below)
 
 pub returns-clause-number : goal.returns-clause-number
 returns-clause-number c =

@@ -1,9 +1,9 @@
-use Rattle.std.proofs.Common.{rules, ◌≡◌, ◌<◌, List, [], subst, sym, ap, ◌∙◌, get_or}
-use Rattle.snap_register.specs.Rule.{Learns, IsLegal, with_received}
+use Rattle.std.proofs.Common.{rules, ◌≡◌, List, [], sym, ap, ◌∙◌, get_or}
+use Rattle.snap_register.specs.Rule.{Learns, with_received}
 use Rattle.snap_register.proofs.Joins.{shares, tells, adopts}
-use Rattle.snap_register.proofs.Later.{seated_shown, sized_still, some_words}
-use Rattle.snap_register.specs.{declared.plan.Entry.Entry, Registers.Mine, declared.plan.Plan.Plan}
-use Rattle.snap_register.specs.{declared.plan.SeatView.SeatView, Steps.view_of, Steps.pool_of}
+use Rattle.snap_register.proofs.Later.{settled, seated_shown, sized_still, some_words}
+use Rattle.snap_register.specs.{declared.plan.Entry.Entry, Registers.Mine}
+use Rattle.snap_register.specs.{Steps.view_of, Steps.pool_of}
 use Rattle.atomic_table.specs.Seated.{TableId}
 use mathlib.Core.List.{IsPrefix}
 use Rattle.snap_register.proofs.access.Access.meet.Goals as goal
@@ -14,7 +14,7 @@ split_seat-messenger-requires c =
     let me = c.args.self.now in
     let own : me.seat.table_id ≡ c.deref.result.now.shared.table_id = search rules in (
       own,
-      subst (λ (t : TableId). 0 < t.words) own (some_words me.sized me.seated.words_are),
+      rw (← own) (some_words me.sized me.seated.words_are),
       shares (Unit {0}) _ _ _,
     )
 
@@ -25,7 +25,7 @@ join_seat-requires c =
       own,
       c.split_seat-messenger.ensures.3 ∙ (sym c.requires.0 ∙ own),
       ap (λ (m : Mine). m.1) c.split_seat-messenger.ensures.4,
-      subst (λ (t : TableId). 0 < t.words) own (some_words them.sized them.seated.words_are),
+      rw (← own) (some_words them.sized them.seated.words_are),
       tells (Unit {0}) _ _ _ _ _ them.seated.seen_end_is (λ i.
           ap (λ (m : Mine). get_or m.0.pins i 0) c.split_seat-messenger.ensures.4),
     )
@@ -36,8 +36,7 @@ hear-requires c =
     let own : them.seat.table_id ≡ c.deref-3.result.now.shared.table_id = search rules in
     record {
       own = c.join_seat.ensures.0 ∙ own;
-      words = subst (λ (t : TableId). 0 < t.words) own
-          (some_words them.sized them.seated.words_are);
+      words = rw (← own) (some_words them.sized them.seated.words_are);
       here = ap (λ (m : Mine). m.0.spent) c.join_seat.ensures.2 ∙ them.seated.here;
     }
 
@@ -46,7 +45,7 @@ split_seat-answer-requires c =
     let them = c.args.other.now in
     let own : them.seat.table_id ≡ c.deref-4.result.now.shared.table_id = search rules in (
       c.hear.ensures.0 ∙ (c.join_seat.ensures.0 ∙ own),
-      subst (λ (t : TableId). 0 < t.words) own (some_words them.sized them.seated.words_are),
+      rw (← own) (some_words them.sized them.seated.words_are),
       shares (Unit {0}) _ _ _,
     )
 
@@ -60,7 +59,7 @@ join_seat-requires-2 c =
       c.split_seat-answer.ensures.3
           ∙ (c.hear.ensures.0 ∙ (c.join_seat.ensures.0 ∙ (c.requires.0 ∙ own))),
       ap (λ (m : Mine). m.1) c.split_seat-answer.ensures.4,
-      subst (λ (t : TableId). 0 < t.words) own (some_words me.sized me.seated.words_are),
+      rw (← own) (some_words me.sized me.seated.words_are),
       adopts (Unit {0}) _ _ _ _ _ (ap (λ (m : Mine). m.0.low) same ∙ c.requires.2)
           (ap (λ (m : Mine). m.0.high) same ∙ c.requires.3)
           (λ i. ap (λ (m : Mine). get_or m.0.pins i 0) c.split_seat-answer.ensures.4),
@@ -69,8 +68,7 @@ join_seat-requires-2 c =
 told_by : (c : After-split_seat-answer)
     → Learns (with_received (view_of c.args.other.now) c.split_seat-messenger.result.me.0)
     c.split_seat-answer.new.seat.me.0
-told_by c = subst (λ (m : Mine × Mine). Learns m.0.0 m.1.0)
-    (λ t. (c.join_seat.ensures.2 t, sym c.split_seat-answer.ensures.2 t)) c.hear.ensures.2.0
+told_by c = rw (c.join_seat.ensures.2, ← c.split_seat-answer.ensures.2) at c.hear.ensures.2.0
 
 other_is : (c : After-split_seat-answer)
     → c.split_seat-answer.new.seat.me ≡ (
@@ -79,20 +77,10 @@ other_is : (c : After-split_seat-answer)
     )
 other_is c =
     let them = c.args.other.now in
-    let v : SeatView = view_of them in
     let s : List Entry = c.hear.new.seat.me.0.seen in
-    let split = c.split_seat-answer.ensures.2 in
-    split ∙ ((λ t. (c.hear.ensures.2.2 t, c.hear.ensures.2.1 t))
+    rw c.split_seat-answer.ensures.2 ((λ t. (c.hear.ensures.2.2 t, c.hear.ensures.2.1 t))
     ∙ (ap (λ (m : Mine). (record m.0 { seen = s; received = []; seen_end = m.0.high }, m.1))
-    c.join_seat.ensures.2
-    ∙ ((λ t. (
-      record v {
-        seen = s;
-        received = sym them.seated.received_none t;
-        seen_end = sym them.seated.seen_end_is t;
-      },
-      them.seat.me.1,
-    )) ∙ ap (λ (m : Mine). (record v { seen = m.0.seen }, them.seat.me.1)) (sym split))))
+    c.join_seat.ensures.2 ∙ ap (λ (m : Mine). (record m.0 { seen = s }, m.1)) (sym (settled them.seated))))
 
 pub invariant_of-other : goal.invariant_of-other
 invariant_of-other c =
@@ -116,16 +104,13 @@ self_is c =
     c.join_seat-2.ensures.2
     ∙ (ap (λ (m : Mine). (record m.0 { seen = c.split_seat-answer.result.me.0.seen }, m.1))
     c.split_seat-messenger.ensures.2
-    ∙ ap (λ (l : List Entry). (
-      record (view_of c.args.self.now) { seen = l },
-      c.args.self.now.seat.me.1,
-    )) (ap (λ (m : Mine). m.0.seen) answer.4 ∙ sym (ap (λ (m : Mine). m.0.seen) answer.2)))
+    ∙ ap (λ (l : List Entry). (record (view_of c.args.self.now) { seen = l }, c.args.self.now.seat.me.1))
+    (ap (λ (m : Mine). m.0.seen) answer.4 ∙ sym (ap (λ (m : Mine). m.0.seen) answer.2)))
 
 self_later : (c : After-split_seat-answer)
     → IsPrefix (view_of c.args.self.now).seen c.split_seat-answer.new.seat.me.0.seen
 self_later c =
-    subst (λ (m : Mine). IsPrefix m.0.seen c.split_seat-answer.new.seat.me.0.seen)
-    c.split_seat-messenger.ensures.4 (told_by c).received
+    rw c.split_seat-messenger.ensures.4 at (told_by c).received
 
 pub invariant_of-self : goal.invariant_of-self
 invariant_of-self c =
@@ -138,7 +123,5 @@ invariant_of-self c =
       own = table ∙ me.own;
       sized = sized_still me (ap (λ (m : Mine). m.0.plan) is);
       seated = seated_shown me.seated (pool_of me) _ me.sized
-          (ap (λ (t : TableId). t.words) table) is (self_later a)
-          (subst (λ (p : Plan). IsLegal p c.split_seat-answer.new.seat.me.0.seen) c.requires.1
-          (told_by a).legal);
+          (ap (λ (t : TableId). t.words) table) is (self_later a) (rw c.requires.1 at (told_by a).legal);
     }

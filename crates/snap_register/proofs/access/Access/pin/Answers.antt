@@ -1,4 +1,4 @@
-use Rattle.std.proofs.Common.{rules, ◌≡◌, ℕ, ◌<◌, sym, ap, subst, ◌∙◌, arith}
+use Rattle.std.proofs.Common.{rules, ◌≡◌, ap, ◌∙◌, arith}
 use Rattle.atomic_table.specs.Seated.{TableId}
 use Rattle.snap_register.specs.{declared.plan.SeatView.SeatView, Steps.view_of}
 use Rattle.snap_register.proofs.{Keeps.pins, Places.word_inside, Later.seated_pinned, Later.sized_still}
@@ -9,17 +9,12 @@ fetch_add-found-requires c =
     let me = c.args.self.now in
     let own : me.seat.table_id ≡ c.deref.result.now.shared.table_id = search rules in
     let seated = me.seated in
-    let l = seated.left_is in
-    let sh = seated.pin_quota_is in
-    let wp = seated.wide_pins in
-    let wm = seated.wide_records in
-    let lj = c.requires.0 in
-    let some = c.requires.2 in (
+    let lj = c.requires.0 in (
       own,
-      subst (λ (z : ℕ). c.args.j < z) (sym seated.words_are
-          ∙ ap (λ (t : TableId). t.words) own) (word_inside (view_of me).plan c.args.j lj),
-      pins (Unit {0}) _ _ _ me.seat.me c.args.j seated.here lj c.requires.1 (omega arith)
-          (omega arith) (omega arith) (omega arith),
+      rw (← own, seated.words_are) (word_inside (view_of me).plan c.args.j lj),
+      pins (Unit {0}) _ _ _ me.seat.me c.args.j seated.here lj c.requires.1
+          (omega (arith, seated.wide_pins)) (omega (arith, seated.wide_records))
+          (omega (arith, seated.left_is, c.requires.2)) (omega (arith, seated.pin_quota_is)),
     )
 
 pub invariant_of-self : goal.invariant_of-self

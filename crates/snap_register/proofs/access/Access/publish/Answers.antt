@@ -1,9 +1,9 @@
 use Rattle.std.proofs.Common.{◌≡◌, ℕ, ◌+◌, ◌++◌, ◌∷◌, [], List, length, refl, ap, sym, subst, ◌∙◌, arith}
 use Rattle.snap_register.specs.declared.view.View.TheVariants.{Collected, Borrowed}
 use Rattle.snap_register.specs.History.{entry, count, start_at}
-use Rattle.snap_register.specs.Rule.{segments, IsLegal, IsBelow, Follows}
+use Rattle.snap_register.specs.Rule.{segments, IsLegal, Follows}
 use Rattle.snap_register.specs.Steps.{view_of, pool_of, draft_of}
-use Rattle.snap_register.specs.{Registers.Mine, declared.plan.Entry.Entry, declared.plan.Plan.Plan}
+use Rattle.snap_register.specs.{Registers.Mine, declared.plan.Plan.Plan}
 use Rattle.snap_register.specs.{declared.plan.Pool.Pool, declared.plan.SeatView.SeatView, declared.view.View.View}
 use Rattle.snap_register.specs.{Held.taken, Words.AreBlocks}
 use Rattle.snap_register.proofs.{Blocks.block_stays, Later.publishes_count, Updates.follows_is}
@@ -70,10 +70,9 @@ pub swap-pins-requires-clause-view : goal.swap-pins-requires-clause-view
 swap-pins-requires-clause-view c = λ legal.
     let a = (goal.at.swap-pins-requires-clause-view c).After-copy_view in
     let is = third_is a in
-    let e : Entry = entry c.args.i (draft_of c.copy_view.new.self) in
-    subst (λ (x : Plan × List Entry). Follows x.0 x.1 e) (λ t.
-    (ap (λ (v : SeatView). v.plan) (sym is) t, ap (λ (v : SeatView). v.seen) (sym is) t))
-    (may_follow a (subst (λ (v : SeatView). IsLegal v.plan v.seen) is legal))
+    let plan = ap (λ (v : SeatView). v.plan) is in
+    let seen = ap (λ (v : SeatView). v.seen) is in
+    rw (plan, seen) (may_follow a (rw (plan, seen) at legal))
 
 pub returns-clause-shown : goal.returns-clause-shown
 returns-clause-shown c =
@@ -83,13 +82,10 @@ returns-clause-shown c =
     let u : SeatView = view_of c.copy_view.new.self in
     let w : SeatView = view_of c.swap-pins.new.self in
     let shown = c.swap-pins.ensures.shown in
-    let moved = ap (λ (x : SeatView). record x { seen = w.seen; pool = w.pool }) is in
-    let first : w ≡ record u { seen = w.seen; pool = w.pool } =
-    shown.same ∙ ap (λ (q : Pool). record u {
-      seen = w.seen;
-      pool = q;
-    }) (sym (ap (λ (x : SeatView). x.pool) shown.same)) in
-    let same : w ≡ record v { seen = w.seen; pool = w.pool } = first ∙ moved in
+    let first : w ≡ record u { seen = w.seen; pool = w.pool } = shown.same
+    ∙ ap (λ (x : SeatView). record u { seen = w.seen; pool = x.pool }) (sym shown.same) in
+    let same : w ≡ record v { seen = w.seen; pool = w.pool } =
+    first ∙ ap (λ (x : SeatView). record x { seen = w.seen; pool = w.pool }) is in
     let d : List ℕ = draft_of c.draft_value-filled.new.self in
     let own = c.draft_value-filled.ensures.block in
     let stays = block_stays d u.pool.draft 0 c.copy_view.ensures.prefix own.whole in
@@ -110,6 +106,5 @@ returns-clause-shown c =
       others = shown.others;
       value_is = ap (λ (x : ℕ × List ℕ). x.1) (stays.block ∙ own.is);
       number_is = omega arith;
-      below = subst (λ (p : Plan). IsBelow p w.seen)
-          (sym (ap (λ (x : SeatView). x.plan) first)) shown.below;
+      below = rw (ap (λ (x : SeatView). x.plan) first) shown.below;
     }

@@ -1,5 +1,4 @@
-use Rattle.std.proofs.Common.{rules, ◌≡◌, ◌<◌, subst}
-use Rattle.atomic_table.specs.Seated.{TableId}
+use Rattle.std.proofs.Common.{rules, ◌≡◌}
 use Rattle.snap_register.proofs.{Pools.redrafts, Spots.last_inside}
 use Rattle.snap_register.proofs.access.Access.redraft.Goals as goal
 
@@ -9,8 +8,7 @@ store-requires c =
     let own : me.seat.table_id ≡ c.deref.result.now.shared.table_id = search rules in
     let last = c.requires.place in (
       own,
-      subst (λ (t : TableId). c.args.place < t.words) own
-          (last_inside me.seated last),
+      rw (← own) (last_inside me.seated last),
       redrafts (Unit {0}) _ _ _ me.seat.me last.own _ _ me.seated.here last.owns.0 last.owns.1
           last.free last.some last.inside last.is,
     )

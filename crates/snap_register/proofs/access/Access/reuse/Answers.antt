@@ -1,5 +1,4 @@
-use Rattle.std.proofs.Common.{rules, ◌≡◌, ◌<◌, subst}
-use Rattle.atomic_table.specs.Seated.{TableId}
+use Rattle.std.proofs.Common.{rules, ◌≡◌}
 use Rattle.snap_register.proofs.{Pools.reuses, Spots.next_inside}
 use Rattle.snap_register.proofs.access.Access.reuse.Goals as goal
 
@@ -9,8 +8,7 @@ load-requires c =
     let own : me.seat.table_id ≡ c.deref.result.now.shared.table_id = search rules in
     let next = c.requires.place in (
       own,
-      subst (λ (t : TableId). c.args.place < t.words) own
-          (next_inside me.seated next),
+      rw (← own) (next_inside me.seated next),
       reuses (Unit {0}) _ _ _ me.seat.me next.own _ me.seated.here next.owns.0 next.owns.1
           next.free next.inside next.is,
     )

@@ -1,7 +1,7 @@
-use Rattle.std.proofs.Common.{rules, ◌*◌, ◌^◌, ◌≡◌, ℕ, ◌<◌, sym, ap, subst, ◌∙◌}
+use Rattle.std.proofs.Common.{rules, ◌*◌, ◌^◌, ◌≡◌, ℕ, ap, ◌∙◌}
 use Rattle.atomic_table.specs.Seated.{TableId}
 use Rattle.snap_register.proofs.Later.{seated_shown, publishes_later, sized_still}
-use Rattle.snap_register.specs.{declared.plan.SeatView.SeatView, Rule.buffers, Steps.view_of}
+use Rattle.snap_register.specs.{declared.plan.SeatView.SeatView, Steps.view_of}
 use Rattle.snap_register.proofs.{Pools.publishes, Places.word_inside}
 use Rattle.snap_register.proofs.access.Access.swap.Goals as goal
 
@@ -10,12 +10,9 @@ swap-found-requires c =
     let me = c.args.self.now in
     let own : me.seat.table_id ≡ c.deref.result.now.shared.table_id = search rules in (
       own,
-      subst (λ (z : ℕ). c.args.i < z) (sym me.seated.words_are
-          ∙ ap (λ (t : TableId). t.words) own)
-          (word_inside (view_of me).plan c.args.i c.requires.own.1),
+      rw (← own, me.seated.words_are) (word_inside (view_of me).plan c.args.i c.requires.own.1),
       publishes (Unit {0}) _ _ _ me.seat.me c.args.i _ me.seated.here c.requires.own.0
-          c.requires.own.1 (subst (λ (z : ℕ).
-          z < buffers (view_of me).plan) c.requires.buffer.0 c.requires.buffer.1) c.requires.next
+          c.requires.own.1 (rw (← c.requires.buffer.0) c.requires.buffer.1) c.requires.next
           c.requires.view (ap (λ (z : ℕ). z * 2 ^ 56) c.requires.buffer.0),
     )
 

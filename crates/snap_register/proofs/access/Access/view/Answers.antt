@@ -1,4 +1,4 @@
-use Rattle.std.proofs.Common.{rules, ◌≡◌, ℕ, ◌+◌, ◌<◌, List, Some, slice_get, slice_set, length, refl, ap, sym, subst}
+use Rattle.std.proofs.Common.{rules, ◌≡◌, ℕ, ◌+◌, ◌<◌, List, Some, length, refl, ap, sym}
 use Rattle.std.proofs.Common.{◌∙◌, arith}
 use Rattle.std.proofs.lemmas.Bool.{MatchBool-at_true, MatchBool-at_false, false_from_ne_true}
 use Rattle.std.proofs.lemmas.Option.{slice_get_read}
@@ -6,7 +6,6 @@ use Rattle.snap_register.specs.Words.{IsWhole, size_at, block_at, behind}
 use Rattle.snap_register.specs.{Registers.Mine, Rule.segments, Held.held, Held.view_in, Steps.view_of}
 use Rattle.snap_register.proofs.{Blocks.behind_more, Views.view_whole, Views.ends_small, Updates.update_found}
 use Rattle.snap_register.proofs.Updates.{view_shown}
-use Rattle.snap_scan.specs.Sets.{Names}
 use Rattle.snap_history.proofs.Lists.{get-set_same, get-set_other}
 use mathlib.Core.Logic.{dite}
 use native.Mathlib.Decide.{ℕ_discrete}
@@ -32,7 +31,7 @@ whole c =
     let test = c.loop-k-test.true in
     let lt : c.loop-k.k < segments (view_of a).plan = omega arith in
     let found = update_found a.seat.table_id (view_of a) c.args.j c.requires.updated in
-    subst (λ (x : List ℕ × ℕ). IsWhole x.0 x.1) (λ t. (sym (words_are c) t, sym (at_is c) t))
+    rw (words_are c, at_is c)
     (view_whole a c.args.j c.loop-k.k c.size_at-at.ensures.legal found.1 c.requires.segment lt)
 
 pub read_named-at-requires-clause-block : goal.read_named-at-requires-clause-block
@@ -78,23 +77,17 @@ loop-k-preserved c =
       long = search rules;
       at = (λ t. at t + size t) ∙ sym (behind_more w (size_at w 0) k);
       view = λ i li named. dite (ℕ_discrete i k)
-          (λ e. ap (slice_get (slice_set items k c.read_named-at.new.out)) e
-          ∙ (get-set_same items k c.read_named-at.new.out (omega arith)
-          ∙ (ap (λ (x : ℕ × List ℕ). Some x) (MatchBool-at_true _ _
-          (c.has.ensures.names.1 (subst (Names c.args.set.bits) e named))
-          c.read_named-at.ensures.block ∙ here)
-          ∙ ap (λ (z : ℕ). Some (view_in w z)) (sym e))))
+          (λ e. rw e (get-set_same items k c.read_named-at.new.out (omega arith)
+          ∙ ap Some (MatchBool-at_true _ _ (c.has.ensures.names.1 (rw e at named))
+          c.read_named-at.ensures.block ∙ here)))
           (λ ne. get-set_other items k i c.read_named-at.new.out ne
           ∙ inv.view i (omega arith) named);
       others = λ i un. dite (ℕ_discrete i k)
-          (λ e. ap (slice_get (slice_set items k c.read_named-at.new.out)) e
-          ∙ (get-set_same items k c.read_named-at.new.out (omega arith)
-          ∙ (ap (λ (x : ℕ × List ℕ). Some x) (MatchBool-at_false _ _
-          (false_from_ne_true _ (λ t. un (subst (Names c.args.set.bits) (sym e)
-          (c.has.ensures.names.0 t)))) c.read_named-at.ensures.block)
+          (λ e. rw e (get-set_same items k c.read_named-at.new.out (omega arith)
+          ∙ (ap Some (MatchBool-at_false _ _
+          (false_from_ne_true _ (λ t. un (rw e (c.has.ensures.names.0 t)))) c.read_named-at.ensures.block)
           ∙ (sym (slice_get_read items (length items) k c.index_mut.result.now refl (omega arith)
-          c.index_mut.ensures.value)
-          ∙ (ap (slice_get items) (sym e) ∙ inv.others i un)))))
+          c.index_mut.ensures.value) ∙ inv.others k (rw e at un)))))
           (λ ne. get-set_other items k i c.read_named-at.new.out ne ∙ inv.others i un);
     }
 

@@ -1,7 +1,6 @@
-use Rattle.std.proofs.Common.{rules, ◌≡◌, ℕ, ◌+◌, ◌-◌, ◌≤◌, ◌*◌, ◌++◌, List, length, get_or, ap, sym, subst, ◌∙◌, arith}
+use Rattle.std.proofs.Common.{rules, ◌≡◌, ℕ, ◌+◌, ◌-◌, ◌≤◌, ◌*◌, ◌++◌, List, length, get_or, ap, sym, ◌∙◌, arith}
 use Rattle.std.{specs.Int.w64, specs.Int.to_le_bytes, proofs.lemmas.Slice.take-put_mid}
-use Rattle.atomic_table.specs.Seated.{TableId}
-use Rattle.snap_register.specs.{Registers.Mine, Held.held, Setup.IsSeated, Steps.LiesAt}
+use Rattle.snap_register.specs.{Registers.Mine, Held.held, Steps.LiesAt}
 use Rattle.snap_register.proofs.{Blocks.bytes_more, Spots.lies_more}
 use Rattle.snap_register.proofs.access.looks.copy_value.Goals as goal
 use Rattle.snap_register.proofs.access.looks.copy_value.Goals.{In-loop-q}
@@ -14,8 +13,7 @@ lies c j at lies' inside =
     let q : ℕ = c.loop-q.q in
     let place : ℕ = c.args.place in
     let lt = c.loop-q-test.true in
-    subst (λ (m : Mine). LiesAt m.0 j (at + 2 + q) (place + 2 + q))
-    (sym c.loop-q.invariant.me) (lies_more c.args.seat.now.me.0 j at (2 + q) (at + 2 + q) place
+    rw c.loop-q.invariant.me (lies_more c.args.seat.now.me.0 j at (2 + q) (at + 2 + q) place
     (place + 2 + q) lies' (omega arith) (omega arith) (omega arith))
 
 pub load_word-word-requires : goal.load_word-word-requires
@@ -25,14 +23,7 @@ load_word-word-requires c =
     let seated = c.requires.seated in
     record {
       own = inv.table ∙ c.requires.own;
-      seated = (
-        seated.0,
-        seated.1,
-        subst (λ (m : Mine).
-            IsSeated c.loop-q.seat.table_id.words seated.0 seated.1 m) (sym inv.me)
-            (subst (λ (t : TableId). IsSeated t.words seated.0 seated.1 c.args.seat.now.me)
-            (sym inv.table) seated.2),
-      );
+      seated = (seated.0, seated.1, rw (inv.me, inv.table) seated.2);
       place = (
         block.0,
         block.1 + 2 + c.loop-q.q,

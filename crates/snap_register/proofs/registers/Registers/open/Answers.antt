@@ -1,4 +1,4 @@
-use Rattle.std.proofs.Common.{rules, ◌≡◌, ℕ, List, [], ◌∷◌, ◌++◌, length, map, take, slice_get, Some, refl, subst, sym}
+use Rattle.std.proofs.Common.{rules, ◌≡◌, ℕ, List, [], ◌∷◌, ◌++◌, length, map, take, slice_get, Some, refl}
 use Rattle.std.proofs.Common.{arith}
 use Rattle.std.proofs.lemmas.{Option.slice_get_read, Result.IfOk-weaker}
 use Rattle.snap_history.specs.Pairs.{Pairs}
@@ -28,8 +28,7 @@ loop-start-preserved c =
       x.0,
       x.1.items,
     ) o c.loop-start.invariant packed in
-    subst (λ (x : List (ℕ × List ℕ) × List Opening). Pairs (λ _. IsPacked) x.0 x.1)
-    (λ t. (sym (map_next (λ x. (x.0, x.1.items)) k vs x e) t, sym items t)) more
+    rw (map_next {B = ℕ × List ℕ} (λ x. (x.0, x.1.items)) k vs x e, items) more
 
 all_packed : (c : After-loop-start)
     → Pairs (λ _. IsPacked) (map (λ x. (x.0, x.1.items)) c.args.values.now)

@@ -1,8 +1,7 @@
-use Rattle.std.proofs.Common.{◌≡◌, List, ap, sym, subst, ◌∙◌, arith}
-use Rattle.snap_register.specs.{Registers.Mine, declared.plan.Plan.Plan, declared.plan.SeatView.SeatView}
-use Rattle.snap_register.specs.{declared.plan.Entry.Entry, Seat.Known, Seat.Meets, Steps.view_of, Steps.known_of}
+use Rattle.std.proofs.Common.{◌≡◌, ap, sym, ◌∙◌, arith}
+use Rattle.snap_register.specs.{Registers.Mine, declared.plan.SeatView.SeatView}
+use Rattle.snap_register.specs.{Seat.Known, Steps.view_of}
 use Rattle.snap_register.proofs.Updates.{meets_is, below_is}
-use Rattle.snap_register.specs.Rule as rule
 use Rattle.snap_register.proofs.seats.ReadSeat.meet.Goals as goal
 
 pub returns-clause-scanner : goal.returns-clause-scanner
@@ -11,7 +10,7 @@ returns-clause-scanner c =
     let b = c.meet.new.self in
     let l = c.meet.ensures in
     let high = c.self.invariant.1 in
-    subst (λ (k : Known). Meets k (known_of b)) c.self.view_is (meets_is a.seat.table_id
+    rw (← c.self.view_is) (meets_is a.seat.table_id
     b.seat.table_id (view_of a) (view_of b) (view_of c.meet.new.other).seen l.me.0
     (ap (λ (m : Mine). m.0) l.me.1) l.received (λ i has. let x = has.1 in absurd (omega arith)))
 
@@ -20,7 +19,7 @@ returns-clause-writer c =
     let a = c.writer.inside.access in
     let b = c.meet.new.other in
     let l = c.meet.ensures in
-    subst (λ (k : Known). Meets k (known_of b)) c.writer.view_is
+    rw (← c.writer.view_is)
     (meets_is a.seat.table_id b.seat.table_id (view_of a) (view_of b) (view_of b).seen l.other.0
     (ap (λ (m : Mine). m.0) l.other.1) l.seen l.own)
 
@@ -36,5 +35,4 @@ returns-clause-below c =
     let plan : u.plan ≡ w.plan = ap (λ (m : Mine). m.0.plan) l.other.1
     ∙ (plans ∙ sym (ap (λ (m : Mine). m.0.plan) mine)) in
     let seen : u.seen ≡ w.seen = sym (ap (λ (m : Mine). m.0.seen) mine) in
-    below_is c.meet.new.self.seat.table_id w
-    (subst (λ (x : Plan × List Entry). rule.IsBelow x.0 x.1) (λ t. (plan t, seen t)) l.below)
+    below_is c.meet.new.self.seat.table_id w (rw (plan, seen) at l.below)

@@ -1,11 +1,11 @@
 use Rattle.std.proofs.Common.{rules, ◌≡◌, ℕ, ◌+◌, ◌^◌, ◌<◌, length, get_or, set, ap, sym, subst, ◌∙◌, arith}
 use Rattle.std.proofs.Common.{get_or-set_same, get_or-set_other}
 use Rattle.std.proofs.lemmas.List.{length-set}
-use Rattle.snap_register.specs.Rule.{segments, IsWriter, buffers}
-use Rattle.snap_register.specs.Seat.{Known, known, MayPublish, Shows, number_in, own_of}
+use Rattle.snap_register.specs.Rule.{buffers}
+use Rattle.snap_register.specs.Seat.{Known, number_in, own_of}
 use Rattle.snap_register.proofs.Updates.{can_take, may_take, shown_is, below_is, number_is}
-use Rattle.snap_register.specs.{declared.access.Access.Access, declared.plan.Plan.Plan, declared.plan.SeatView.SeatView}
-use Rattle.snap_register.specs.{History.number, declared.plan.Pool.Pool, Held.MayTake, Steps.view_of, Steps.known_of}
+use Rattle.snap_register.specs.{declared.access.Access.Access, declared.plan.SeatView.SeatView}
+use Rattle.snap_register.specs.{History.number, declared.plan.Pool.Pool, Steps.view_of, Steps.known_of}
 use Rattle.snap_register.proofs.{Views.few_buffers, Later.set_each}
 use Rattle.snap_register.proofs.seats.WriteSeat.publish.Goals as goal
 
@@ -17,9 +17,7 @@ next_small a i k x is small low own =
     let v : SeatView = view_of a in
     let next : number_in (known_of a) (known_of a).seen v.low + 1 < 2 ^ 63 =
     subst (λ (y : Known). number_in y y.seen (own_of y) + 1 < 2 ^ 63) (sym is) small in
-    let n = number_is v.plan v.seen v.low in
-    let same = ap (λ (j : ℕ). number v.plan v.seen j) low in
-    omega arith
+    omega (arith, number_is v.plan v.seen v.low, ap (λ (j : ℕ). number v.plan v.seen j) low)
 
 pub overflow_add-next : goal.overflow_add-next
 overflow_add-next c = omega (
@@ -37,10 +35,9 @@ publish-current-requires-clause-next c =
 pub publish-current-requires-clause-view : goal.publish-current-requires-clause-view
 publish-current-requires-clause-view c =
     let s = c.self.inside.access.seat in
-    let may = subst (λ (a : Known). MayPublish a c.args.view.now)
-    (sym c.self.view_is) c.requires.view in (
+    let may = rw (← c.self.view_is) at c.requires.view in (
       can_take s.table_id s.me.0 c.args.view.now may,
-      subst (λ (i : ℕ). MayTake s.me.0 i c.args.view.now) c.self.invariant.role.0
+      rw (← c.self.invariant.role.0)
           (may_take s.table_id s.me.0 c.args.view.now c.self.inside.access.seated.readable may),
     )
 
@@ -61,8 +58,8 @@ invariant_of-self c =
     let mine : ℕ = c.self.inside.current in
     let sum : ℕ = get_or v.pool.counted v.pool.current 0 + c.publish-current.result.1 in
     record {
-      role = subst (λ (u : SeatView). IsWriter u c.self.inside.segment) (sym s.same) inv.role;
-      inside = subst (λ (p : Plan). c.self.inside.segment < segments p) (sym plan) inv.inside;
+      role = rw s.same inv.role;
+      inside = rw plan inv.inside;
       number_is = sym s.number_is;
       current_is = sym (ap (λ (x : Pool). x.current) pool);
       current_inside = let a = l.pool.0 in omega arith;
@@ -86,8 +83,7 @@ pub returns-clause-shown : goal.returns-clause-shown
 returns-clause-shown c =
     let s = c.self.inside.access.seat in
     let n = c.publish-current.new.self.seat in
-    subst (λ (a : Known). Shows a (known n.table_id n.me.0) c.args.value.now) c.self.view_is
-    (shown_is s.table_id n.table_id s.me.0 n.me.0 c.self.inside.segment (c.self.inside.number + 1)
+    rw (← c.self.view_is) (shown_is s.table_id n.table_id s.me.0 n.me.0 c.self.inside.segment (c.self.inside.number + 1)
     c.args.value.now c.publish-current.ensures.same.0.0 c.self.invariant.role.0
     c.publish-current.ensures.shown)
 
