@@ -1,6 +1,6 @@
 -- What a scan's looks show of what its seat has seen. A moment is a length of that list.
 use Rattle.std.proofs.Common.{◌≡◌, ℕ, ◌+◌, ◌-◌, ◌*◌, ◌^◌, ◌<◌, ◌≤◌, inl, inr, List, [], ◌∷◌, ◌++◌, length, take, drop}
-use Rattle.std.proofs.Common.{replicate, Some, slice_index, slice_get, slice_set, refl, ap, sym, ◌∙◌, subst, arith}
+use Rattle.std.proofs.Common.{replicate, Some, slice_index, slice_get, slice_set, refl, ap, sym, ◌∙◌, arith}
 use Rattle.std.proofs.Common.{append_assoc}
 use Rattle.std.proofs.Math.Seq.{take-append-add, take-append_seam, take-length}
 use Rattle.std.proofs.lemmas.List.{take-append-drop, append-nil, length-set, length_push, length-replicate}
@@ -11,7 +11,6 @@ use Rattle.snap_history.proofs.Beginnings.{beginning-self, beginning-trans, take
 use Rattle.snap_history.proofs.Lists.{get-set_same, get-set_other, get-replicate}
 use Rattle.snap_history.proofs.Moments.{number-le}
 use Rattle.snap_scan.specs.Looks.{most_looks, IsClean, IsBorrow, IsTurn, IsNoFall}
-use Rattle.snap_scan.specs.Course.{HasTurn, Borrows}
 use Rattle.snap_scan.specs.Sets.{Names, named, size, IsAt}
 use Rattle.snap_scan.proofs.Sets.{at_named, named_at, at_once, at_within, at_is, at_below, names_below}
 use Rattle.snap_scan.specs.Collects.{Numbers, Entries, IsRising, Collects, IsMoment, IsThen}
@@ -38,8 +37,7 @@ pub beginning-take : (part h : List Update) → IsBeginning part h → take (len
 beginning-take part h b = ap (take (length part)) b.1 ∙ take-append_seam part b.0
 
 begins-length : (a h : List Update) → IsBeginning a h → length a ≤ length h
-begins-length a h b = (let e : length h ≡ length (a ++ b.0) = ap length b.1 in
-    let x = length-append a b.0 in omega arith)
+begins-length a h b = omega (arith, ap length b.1, length-append a b.0)
 
 -- what was seen at the first of these looks; before it, what was seen before the scan
 abbrev pub first_of : List Update → List (List Update) → List Update
@@ -74,9 +72,7 @@ collects_from : (n : ℕ) (number : Numbers) (entry : Entries (List ℕ)) (f f' 
     → Collects (List ℕ) n number entry f' e told latest
 collects_from n number entry f f' e told latest late c = record {
   moment = c.moment;
-  after = λ t l. let x : f ≤ c.moment t = c.after t l in
-      let y : f' ≤ f = late (omega arith) in
-      omega arith;
+  after = λ t l. omega (arith, c.after t l, late (omega arith));
   until = c.until;
   order = c.order;
   numbers = c.numbers;
@@ -137,13 +133,7 @@ grows_more a b c f g = record {
   low = g.low ∙ f.low;
   high = g.high ∙ f.high;
   later = beginning-trans a.seen b.seen c.seen f.later g.later;
-  own = λ i l h. (
-      let low : b.low ≡ a.low = f.low in
-      let high : b.high ≡ a.high = f.high in
-      let x : number_in b c.seen i ≡ number_in b b.seen i = g.own i (omega arith) (omega arith) in
-      let same : (h : List Update) → number_in b h i ≡ number_in a h i =
-      λ h. ap (λ (p : Plan). number_after (starts p) h i) f.plan in
-      sym (same c.seen) ∙ x ∙ same b.seen ∙ f.own i l h);
+  own = λ i l h. (rw f.plan at (g.own i (omega (arith, f.low)) (omega (arith, f.high)))) ∙ f.own i l h;
 }
 
 pub Gathers-none : (a : Known) (set : ℕ) (numbers : List ℕ) → set < 2 ^ segments a.plan
@@ -164,8 +154,7 @@ Gathers-none a set numbers among short some wide = record {
   collects = Collects-none (List ℕ) (size set) (number_at set (starts a.plan) a.seen)
       (entry_at set (starts a.plan) a.seen) (length a.seen) (length a.seen)
       (replicate (size set) []);
-  last_looks = λ p j k at e. (let none : [] ≡ k ∷ [] = get-replicate (size set) p [] (k ∷ []) e in
-      absurd (cc none));
+  last_looks = λ p j k at e. absurd (cc (get-replicate (size set) p [] (k ∷ []) e));
   left = omega arith;
   bound = omega arith;
   below = λ l. absurd (omega arith);
@@ -173,17 +162,8 @@ Gathers-none a set numbers among short some wide = record {
 
 -- one look more
 module _ (a b c : Known) (set : ℕ) (told numbers : List ℕ) (j k : ℕ)
-    (g : Gathers a b set told numbers) (has_turn : HasTurn set told j) (later : Grows b c)
-    (found : k ≡ number_in c c.seen j) where
-  abbrev place : ℕ
-  place = has_turn.0
-
-  at : IsAt set place j
-  at = has_turn.1
-
-  turn : IsTurn (size set) told place
-  turn = has_turn.2
-
+    (g : Gathers a b set told numbers) (place : ℕ) (at : IsAt set place j)
+    (turn : IsTurn (size set) told place) (later : Grows b c) (found : k ≡ number_in c c.seen j) where
   abbrev sights : List (List Update)
   sights = g.sights ++ c.seen ∷ []
 
@@ -202,18 +182,13 @@ module _ (a b c : Known) (set : ℕ) (told numbers : List ℕ) (j k : ℕ)
   abbrev entry : Entries (List ℕ)
   entry = entry_at set start c.seen
 
-  end : length b.seen ≤ length c.seen
-  end = begins-length b.seen c.seen later.later
-
   seen_within : IsBeginning first c.seen
   seen_within = first_within a.seen c.seen g.sights
       (beginning-trans (first_of a.seen g.sights) b.seen c.seen g.within later.later)
 
   -- after the first look, the first stays the same
   late : 0 < length told → length first ≤ length (first_of a.seen g.sights)
-  late l = (let e : length g.sights ≡ length told = g.all_told in
-      let x : length first ≡ length (first_of a.seen g.sights) =
-      ap length (first_stays a.seen c.seen g.sights (omega arith)) in omega arith)
+  late l = omega (arith, ap length (first_stays a.seen c.seen g.sights (omega (arith, g.all_told))))
 
   number_same : (t p : ℕ) → t ≤ length b.seen → number t p ≡ number_at set start b.seen t p
   number_same t p l = ap (λ h. number_after start h (slice_index (named set) p))
@@ -234,17 +209,15 @@ module _ (a b c : Known) (set : ℕ) (told numbers : List ℕ) (j k : ℕ)
 
   more : HasToldFrom set start c.seen (length first) (told ++ k ∷ [])
       (slice_set g.latest place (k ∷ []))
-  more = subst (λ v. HasToldFrom set start c.seen (length first) (told ++ v ∷ [])
-      (slice_set g.latest place (v ∷ []))) (sym now)
-      (Collects-push (List ℕ) n number entry (length first) (length b.seen) told g.latest grown
-      (length c.seen) place end turn (begins-length first c.seen seen_within) g.long)
+  more = rw now (Collects-push (List ℕ) n number entry (length first) (length b.seen) told g.latest grown
+      (length c.seen) place (begins-length b.seen c.seen later.later) turn
+      (begins-length first c.seen seen_within) g.long)
 
   -- the number found isn't below the last one found for the segment
   pub told_fits : (p : ℕ) → IsAt set p j → IsNoFall (size set) told p k
-  told_fits p other = subst (λ q. IsNoFall n told q k) (at_once set place p j at other)
-      (subst (IsNoFall n told place) (sym now)
+  told_fits p other = rw (at_once set p place j other at, now)
       (no_fall (List ℕ) n number entry (length first) (length b.seen) told g.latest grown
-      (rising set start c.seen) (length c.seen) place end turn.0))
+      (rising set start c.seen) (length c.seen) place (begins-length b.seen c.seen later.later) turn.0)
 
   module _ (bound : length told < most_looks (size set)) (looks : Looks b c j k)
       (sighted : c.sights ≡ b.sights ++ c.seen ∷ []) (left : c.left + 1 ≡ b.left)
@@ -257,19 +230,12 @@ module _ (a b c : Known) (set : ℕ) (told numbers : List ℕ) (j k : ℕ)
         → (looked c i ≡ Some v) × (slice_index (slice_set numbers j k) i ≡ v)
     last_looks q i v here e = elim (cases_eq q place) [
       | inl same ↦ (
-          let is_j : i ≡ j = same_Some i j (sym here ∙ ap (slice_get (named set)) same ∙ at) in
-          let inside : place < n = turn.0 in
-          let long : length g.latest ≡ n = g.long in
-          let wide : length numbers ≡ 16 = g.wide in
-          let low : j < 16 = (at_named set place j at).0 in
-          let one : k ∷ [] ≡ v ∷ [] =
-          same_Some (k ∷ []) (v ∷ []) (sym (get-set_same g.latest place (k ∷ []) (omega arith))
-          ∙ ap (slice_get (slice_set g.latest place (k ∷ []))) (sym same) ∙ e) in
-          let is : k ≡ v = cc one in (
-            ap (looked c) is_j ∙ looks.here ∙ ap (λ z. Some z) is,
-            ap (slice_index (slice_set numbers j k)) is_j
-                ∙ get_or-set_same numbers j k 0 (omega arith) ∙ is,
-          ))
+          let is_j : i ≡ j = same_Some i j (sym (rw same at here) ∙ at) in
+          let one : k ∷ [] ≡ v ∷ [] = same_Some (k ∷ []) (v ∷ [])
+          (sym (get-set_same g.latest place (k ∷ []) (omega (arith, turn.0, g.long))) ∙ (rw same at e)) in
+          let is : k ≡ v = cc one in
+          let wide : j < length numbers = omega (arith, g.wide, (at_named set place j at).0) in
+          rw is_j (looks.here ∙ ap Some is, get_or-set_same numbers j k 0 wide ∙ is))
       | inr other ↦ (
           let apart : i ≡ j → ⊥ = λ same. other (at_once set q place j
           (here ∙ ap (λ z. Some z) same) at) in
@@ -314,22 +280,18 @@ module _ (a b : Known) (set : ℕ) (told numbers : List ℕ) (g : Gathers a b se
 
   is_fresh : (part : List Update) → 0 < length told → IsBeginning first_seen part
       → BeginsFresh a b part
-  is_fresh part some begins = begins_fresh a b g.sights part
-      (let e : length g.sights ≡ length told = g.all_told in omega arith) g.sights_are begins
+  is_fresh part some begins =
+      begins_fresh a b g.sights part (omega (arith, g.all_told)) g.sights_are begins
 
   -- so the scan used up looks, and no more than a scan might
   pub takes_looks : 0 < length told → TakesLooksOf (size set) a b
-  takes_looks l = record {
-    some = omega (arith, g.left);
-    few = omega (arith, g.left, g.bound);
-  }
+  takes_looks l = omega (arith, g.left, g.bound)
 
   pub clean_some : IsClean (size set) told → 0 < length told
   clean_some clean = (
-      let long : length told ≡ (clean.rounds.0 + 2) * size set = clean.rounds.1 in
       let more : size set * 1 ≤ size set * (clean.rounds.0 + 2) =
       mul-le-mul_left (size set) (omega arith) in
-      omega (arith, g.some))
+      omega (arith, g.some, clean.rounds.1))
 
   pub borrow_some : (j : ℕ) → IsBorrow (size set) told j → 0 < length told
   borrow_some j borrowed = omega (arith, borrowed.last.1)
@@ -353,14 +315,13 @@ module _ (a b : Known) (set : ℕ) (told numbers : List ℕ) (g : Gathers a b se
         → (looked b i ≡ Some (number_in b (take moment.0 b.seen) i))
         × (slice_index numbers i ≡ number_in b (take moment.0 b.seen) i)
     last_at i l named =
-        let few : i < 16 = names_below set 16 (omega arith) g.short i named in
-        let place = named_at set i few named in
+        let place = named_at set i (names_below set 16 (omega arith) g.short i named) named in
         let last = g.last_looks place.0 i _ place.1
         (moment.2 place.0 (at_within set place.0 i place.1)) in
         let is : seen_at moment.0 place.0 ≡ number_in b (take moment.0 b.seen) i =
         ap (number_after (starts a.plan) (take moment.0 b.seen)) (at_is set place.0 i place.1)
         ∙ sym (from_start (take moment.0 b.seen) i) in
-        (last.0 ∙ ap (λ z. Some z) is, last.1 ∙ is)
+        (last.0 ∙ ap Some is, last.1 ∙ is)
 
     pub clean_scan : IsCleanScan set a b
     clean_scan = record {
@@ -373,17 +334,9 @@ module _ (a b : Known) (set : ℕ) (told numbers : List ℕ) (g : Gathers a b se
 
     pub numbers_are : (i : ℕ) → i < segments b.plan → Names set i
         → looked b i ≡ Some (slice_index numbers i)
-    numbers_are i l named =
-        let last = last_at i l named in
-        last.0 ∙ ap (λ z. Some z) (sym last.1)
+    numbers_are i l named = let last = last_at i l named in last.0 ∙ ap Some (sym last.1)
 
-  module _ (j : ℕ) (from : Borrows set told j) where
-    abbrev place_of : ℕ
-    place_of = from.0
-
-    borrowed : IsBorrow (size set) told place_of
-    borrowed = from.2
-
+  module _ (j place_of : ℕ) (at : IsAt set place_of j) (borrowed : IsBorrow (size set) told place_of) where
     abbrev m : ℕ
     m = borrowed.last.0
 
@@ -395,7 +348,7 @@ module _ (a b : Known) (set : ℕ) (told numbers : List ℕ) (g : Gathers a b se
 
     -- the number at the place is that of the segment
     of_segment : (t : ℕ) → seen_at t place_of ≡ number_after (starts a.plan) (take t b.seen) j
-    of_segment t = ap (number_after (starts a.plan) (take t b.seen)) (at_is set place_of j from.1)
+    of_segment t = ap (number_after (starts a.plan) (take t b.seen)) (at_is set place_of j at)
 
     told_last : last ≡ seen_at (g.collects.moment (m * size set + place_of)) place_of
     told_last = ap (slice_index told)
@@ -404,10 +357,10 @@ module _ (a b : Known) (set : ℕ) (told numbers : List ℕ) (g : Gathers a b se
 
     looked_last : looked b j ≡ Some last
     looked_last =
-        (g.last_looks place_of j _ from.1
+        (g.last_looks place_of j _ at
         (g.collects.entries m place_of borrowed.segment (omega (arith, ends_at))
         (omega (arith, ends_at, g.some)))).0
-        ∙ ap (λ z. Some z) (sym told_last)
+        ∙ ap Some (sym told_last)
 
     -- the segment rose by two since the scan's first look
     rose : seen_at (length first_seen) place_of + 2 ≤ last
@@ -415,8 +368,7 @@ module _ (a b : Known) (set : ℕ) (told numbers : List ℕ) (g : Gathers a b se
         let low = first_low (List ℕ) (size set) seen_at (entry_at set (starts a.plan) b.seen)
         (length first_seen) (length b.seen) told g.latest g.collects
         (rising set (starts a.plan) b.seen) place_of borrowed.segment (omega (arith, ends_at)) in
-        let moved = borrowed.moved in
-        omega arith
+        omega (arith, borrowed.moved)
 
     -- so each list that lacks only its last update has all that there was at the first look
     inside : (part : List Update) → IsBeginning part b.seen
@@ -428,31 +380,28 @@ module _ (a b : Known) (set : ℕ) (told numbers : List ℕ) (g : Gathers a b se
         from_start part j ∙ ap (λ h. number_after (starts a.plan) h j)
         (sym (beginning-take part b.seen within)) ∙ sym (of_segment (length part)) in
         elim (cases_lt (length part) (length first_seen)) [
-          | inl lt ↦ (
-              let down = rising set (starts a.plan) b.seen place_of (length part)
-              (length first_seen) (omega arith) in
-              absurd (omega (arith, rose)))
+          | inl lt ↦ absurd (omega (
+            arith,
+            rose,
+            rising set (starts a.plan) b.seen place_of (length part)
+                (length first_seen) (omega arith),
+          ))
           | inr ge ↦ ge
         ]
 
     begins_last : (part : List Update) → IsBeginning part b.seen
         → looked b j ≡ Some (number_in b part j + 1) → IsBeginning first_seen part
     begins_last part within before =
-        subst (IsBeginning first_seen) (beginning-take part b.seen within)
-        (take-begins first_seen b.seen (length part) g.within (inside part within before))
+        rw (beginning-take part b.seen within)
+        at (take-begins first_seen b.seen (length part) g.within (inside part within before))
 
     pub borrowed_scan : IsBorrowedScan a b j
     borrowed_scan = record {
-      inside = subst (λ (p : Plan). j < segments p) (sym g.grows.plan)
-          (at_below set (segments a.plan) place_of j g.among from.1);
+      inside = rw g.grows.plan (at_below set (segments a.plan) place_of j g.among at);
       found = record {
         told = last;
         is = looked_last;
-        above = (
-            let same = of_segment (length first_seen) in
-            let f : (starts b.plan j).0 ≡ (starts a.plan j).0 =
-            ap (λ (p : Plan). (starts p j).0) g.grows.plan in
-            omega (arith, rose));
+        above = rw g.grows.plan (omega (arith, rose, of_segment (length first_seen)));
       };
       begins = λ part within before. begins_all part (begins_last part within before);
       fresh = λ part within before. is_fresh part (borrow_some place_of borrowed)

@@ -1,12 +1,12 @@
 -- What a scanner has cached stays valid as its seat sees more.
 use Rattle.std.proofs.Common.{◌≡◌, ℕ, ◌<◌, inl, inr, List, Option, Some, length, slice_get, slice_set, get_or, refl, ap}
-use Rattle.std.proofs.Common.{sym, subst, ◌∙◌, arith}
+use Rattle.std.proofs.Common.{sym, ◌∙◌, arith}
 use Rattle.std.proofs.lemmas.{Bool.cases_eq, Option.same_Some, Option.slice_get_read}
 use Rattle.snap_history.specs.History.{number_after, value_after}
 use Rattle.snap_history.proofs.{Beginnings.beginning-trans, Lists.get-set_same, Lists.get-set_other}
 use Rattle.snap_register.specs.{declared.plan.Plan.Plan, History.starts, Rule.segments, Seat.Known, Seat.Grows}
-use Rattle.snap_scan.specs.{Values.pair_of, declared.segment_value.SegmentValue.SegmentValue}
-use Rattle.snap_memory.specs.Rooms.{WasSeen, IsAnswerable, IsKeptOf, AreKept, Fits}
+use Rattle.snap_scan.specs.{declared.segment_value.SegmentValue.SegmentValue}
+use Rattle.snap_memory.specs.Rooms.{WasSeen, IsKeptOf, AreKept, Fits}
 use Rattle.snap_memory.specs.declared.room.Room.{Room, TheVariants.Absent, TheVariants.Kept}
 
 pub seen_grown : (a b : Known) (i : ℕ) (x : ℕ × List ℕ) → Grows a b → WasSeen a i x → WasSeen b i x
@@ -36,9 +36,8 @@ kept_set : (seat : Known) (room : List (Option SegmentValue)) (k : ℕ)
     (kept : Option SegmentValue) → AreKept seat room → k < length room → IsKeptOf seat k kept
     → AreKept seat (slice_set room k kept)
 kept_set seat room k kept all inside new i x at = elim (cases_eq i k) [
-  | inl is ↦ subst (λ j. IsAnswerable seat j (pair_of x)) (sym is)
-      (new x (same_Some kept (Some x) (sym (get-set_same room k kept inside)
-      ∙ ap (slice_get (slice_set room k kept)) (sym is) ∙ at)))
+  | inl is ↦ rw is
+      (new x (same_Some kept (Some x) (sym (get-set_same room k kept inside) ∙ (rw is at at))))
   | inr other ↦ all i x (sym (get-set_other room k i kept other) ∙ at)
 ]
 
@@ -47,10 +46,9 @@ module _ (a b : Known) (room : List (Option SegmentValue)) (n i end : ℕ) (long
     (fits : n ≡ segments a.plan) (count : end ≡ segments a.plan) (test : i < end) where
   pub kept_in : (kept : Option SegmentValue) → b ≡ a → AreKept a room → IsKeptOf b i kept
       → AreKept a (slice_set room i kept)
-  kept_in kept same all new = kept_set a room i kept all (omega arith)
-      (subst (λ (z : Known). IsKeptOf z i kept) same new)
+  kept_in kept same all new = kept_set a room i kept all (omega arith) (rw same at new)
 
   pub kept_of : (kept : Option SegmentValue) → b ≡ a → AreKept a room → kept ≡ get_or room i kept
       → IsKeptOf b i kept
-  kept_of kept same all at = subst (λ (z : Known). IsKeptOf z i kept) (sym same)
+  kept_of kept same all at = rw same
       (kept_at a room i kept all (slice_get_read room (length room) i kept refl (omega arith) at))

@@ -1,6 +1,6 @@
 -- The answer of a scan is the memory of one moment.
 use Rattle.std.proofs.Common.{◌≡◌, ℕ, inl, inr, ◌+◌, ◌-◌, ◌^◌, ◌<◌, ◌≤◌, List, [], length, map, All, Some, slice_get}
-use Rattle.std.proofs.Common.{get_or, ap, sym, subst, ◌∙◌, arith, Result, Ok, Err, OnOk, IfOk}
+use Rattle.std.proofs.Common.{get_or, ap, sym, ◌∙◌, arith, Result, Ok, Err, OnOk, IfOk}
 use Rattle.std.proofs.lemmas.Option.{same_Some, slice_get-get_or, slice_get-map}
 use Rattle.std.proofs.lemmas.{List.length-map, Nat.pow_below, Bool.cases_lt}
 use Rattle.std.specs.Option.{option_map}
@@ -86,7 +86,7 @@ module _ (set : ℕ) (a b : Known) where
           same_Some x.0.0 _ (sym x.2 ∙ s.each i li named) in
           let value : x.0.1 ≡ value_in b s.part i =
           value_told b i x.0.0 x.0.1 s.part x.3 x.2 s.within number in
-          x.1 ∙ ap (λ (z : ℕ × List ℕ). Some z) (λ t. (number t, value t)));
+          x.1 ∙ ap Some (λ t. (number t, value t)));
     };
   }
 
@@ -108,22 +108,18 @@ module _ (set : ℕ) (a b : Known) where
         let number : x.0.0 ≡ number_in b part i =
         x.2.0 ∙ numbers i low (at_named set p i at).1 in
         let value : x.0.1 ≡ value_in b part i = seen_value b i x.0 part x.2.1.0 within number in
-        x.1 ∙ ap (λ (z : ℕ × List ℕ). Some z) (λ t. (number t, value t)));
+        x.1 ∙ ap Some (λ t. (number t, value t)));
   }
 
   -- the entries found can be returned
   pub entries_short : (found : Found) (values : List SegmentValue)
       → AreEntries (named set) b found (map pair_of values) → All (λ v. IsShort v.value) values
   entries_short found values e k d l =
-      let count : length (map pair_of values) ≡ size set = e.count in
-      let long : length (map pair_of values) ≡ length values = length-map values pair_of in
-      let x = e.each k _ (at_some set k (omega arith)) in
+      let x = e.each k _ (at_some set k (omega (arith, e.count, length-map values pair_of))) in
       let v = get_or values k d in
       let at : slice_get (map pair_of values) k ≡ Some (pair_of v) =
-      slice_get-map pair_of values k
-      ∙ ap (option_map pair_of) (slice_get-get_or values k d l) in
-      let same : x.0 ≡ pair_of v = same_Some x.0 (pair_of v) (sym x.1 ∙ at) in
-      subst (λ (y : ℕ × List ℕ). IsShort y.1) same x.2.1.1
+      slice_get-map pair_of values k ∙ ap (option_map pair_of) (slice_get-get_or values k d l) in
+      rw (same_Some x.0 (pair_of v) (sym x.1 ∙ at)) at x.2.1.1
 
   pub list_clean : (found : Found) (values : List (ℕ × List ℕ)) → set < 2 ^ segments b.plan
       → IsCleanScan set a b → AreEntries (named set) b found values
@@ -161,10 +157,8 @@ module _ (a : Known) (n set : ℕ) (count : n ≡ segments a.plan) (is : set ≡
   all_is = is ∙ ap (λ v. 2 ^ v - 1) count
 
   pub all_set : 0 < n → IsSetOf a set
-  all_set some = record {
-    some = (let more : 2 ^ 0 < 2 ^ n = pow_below 0 n some in omega arith);
-    among = subst (λ v. set < 2 ^ v) count (let more : 2 ^ 0 < 2 ^ n = pow_below 0 n some in omega arith);
-  }
+  all_set some = let more : 2 ^ 0 < 2 ^ n = pow_below 0 n some in
+      record { some = omega arith; among = rw (← count) (omega arith) }
 
   pub all_count : n ≤ 16 → size set ≡ segments a.plan
   all_count few = ap size is ∙ all_size n few ∙ count
@@ -175,7 +169,7 @@ module _ (a b : Known) (g : Grows a b) where
   all_same = ap (λ (p : Plan). 2 ^ segments p - 1) (sym g.plan)
 
   pub all_grown : (n : ℕ) → n ≡ segments a.plan → n ≤ 16 → segments b.plan ≤ 16
-  all_grown n count few = subst (λ (p : Plan). segments p ≤ 16) (sym g.plan) (subst (λ v. v ≤ 16) count few)
+  all_grown n count few = rw (g.plan, ← count) few
 
 -- A scan of all segments:
 module _ (a b : Known) (few : segments b.plan ≤ 16) where
@@ -215,11 +209,8 @@ module _ (a b : Known) (g : Grows a b) (alone : a.high ≡ a.low + 1)
   has_all : (part : List Update) → IsBeginning a.seen part → IsBeginning part b.seen
       → number_in b part (own_of b) ≡ number_in b b.seen (own_of b)
   has_all part begins within =
-      let own = g.own a.low (omega arith) (omega arith) in
-      let same : (h : List Update) → number_in b h b.low ≡ number_in a h a.low =
-      λ h t. number_after (starts (g.plan t)) h (g.low t) in
-      let early = same a.seen in
-      let late = same b.seen in
+      let own : number_in b b.seen b.low ≡ number_in b a.seen b.low =
+      rw (g.plan, g.low) (g.own a.low (omega arith) (omega arith)) in
       let low = number-beginning (starts b.plan) a.seen part b.low begins in
       let high = number-beginning (starts b.plan) part b.seen b.low within in
       omega arith
@@ -228,13 +219,11 @@ module _ (a b : Known) (g : Grows a b) (alone : a.high ≡ a.low + 1)
   may_publish Collected s = record {
     part = s.part;
     beginning = s.within;
-    whole =
-        has_all s.part s.begins s.within;
+    whole = has_all s.part s.begins s.within;
     each = λ i l. s.each i l (all_names a b few i l);
   }
   may_publish (Borrowed j) s = record {
     inside = s.inside;
     found = s.found;
-    whole =
-        λ part within before. has_all part (s.begins part within before) within;
+    whole = λ part within before. has_all part (s.begins part within before) within;
   }

@@ -1,10 +1,8 @@
-use Rattle.std.proofs.Common.{◌≡◌, ℕ, ◌^◌, ◌<◌, List, slice_set, sym, subst, ◌∙◌, arith}
+use Rattle.std.proofs.Common.{◌≡◌, ℕ, ◌^◌, ◌<◌, List, ◌∙◌, arith}
 use Rattle.snap_scan.proofs.Sets.{at_some, at_below, at_named, some}
 use Rattle.snap_scan.specs.{declared.next.Next.Next, declared.next.Next.TheVariants.Clean}
-use Rattle.snap_scan.specs.{declared.next.Next.TheVariants.Borrow, Looks.IsBorrow, Sets.Names, Sets.size, Course.IsNext}
-use Rattle.snap_register.specs.{Rule.segments, declared.plan.Plan.Plan}
-use Rattle.snap_memory.specs.Scans.{IsCleanScan, TakesLooksOf}
-use Rattle.snap_memory.proofs.Collects.{Gathers, Gathers-none, Gathers-look, told_fits, takes_looks, clean_some}
+use Rattle.snap_scan.specs.{declared.next.Next.TheVariants.Borrow, Looks.IsBorrow, Sets.size, Course.IsNext}
+use Rattle.snap_memory.proofs.Collects.{Gathers-none, Gathers-look, told_fits, takes_looks, clean_some}
 use Rattle.snap_memory.proofs.Collects.{borrow_some, clean_scan, numbers_are, borrowed_scan}
 use Rattle.snap_memory.proofs.looks.gather.Goals as goal
 
@@ -23,11 +21,9 @@ looks-init g c =
     let set = c.args.set.bits in
     let short : set < 2 ^ 16 = omega (arith, c.well_formed, c.of-scan.type_inv) in
     record {
-      gathers = subst (λ v. Gathers a a v c.of-scan.result.told c.args.numbers.now)
-          (sym c.of-scan.ensures.set)
-          (subst (λ L. Gathers a a set L c.args.numbers.now) (sym c.of-scan.ensures.told)
+      gathers = rw (c.of-scan.ensures.set, c.of-scan.ensures.told)
           (Gathers-none a set c.args.numbers.now c.requires.set.among short
-          (some set short c.requires.set.some) c.told-numbers));
+          (some set short c.requires.set.some) c.told-numbers);
       set = c.of-scan.ensures.set;
     }
 
@@ -36,7 +32,7 @@ pub look-number-requires-clause-segment : goal.look-number-requires-clause-segme
 look-number-requires-clause-segment g c =
     let gathers = c.looks.invariant.gathers in
     let turn = c.next.ensures.decides.look c.in-Look.segment c.in-Look.is in
-    subst (λ (p : Plan). c.in-Look.segment < segments p) (sym gathers.grows.plan)
+    rw gathers.grows.plan
     (at_below c.looks.scan.set _ turn.0 c.in-Look.segment gathers.among turn.1)
 
 pub bounds-numbers-segment : goal.bounds-numbers-segment
@@ -47,33 +43,23 @@ bounds-numbers-segment g c =
 pub offset_bounds-numbers-segment : goal.offset_bounds-numbers-segment
 offset_bounds-numbers-segment g c =
     let turn = c.next.ensures.decides.look c.in-Look.segment c.in-Look.is in
-    let low = (at_named c.looks.scan.set turn.0 c.in-Look.segment turn.1).0 in
-    omega arith
+    omega (arith, (at_named c.looks.scan.set turn.0 c.in-Look.segment turn.1).0)
 
 pub told-requires-clause-rising : goal.told-requires-clause-rising
 told-requires-clause-rising g c =
-    told_fits (g.L.Looker.known c.args.seat.now) (g.L.Looker.known c.looks.seat)
-    (g.L.Looker.known c.look-number.new.self) c.looks.scan.set c.looks.scan.told c.looks.numbers
-    c.in-Look.segment c.look-number.result
-    c.looks.invariant.gathers (c.next.ensures.decides.look c.in-Look.segment c.in-Look.is)
-    c.look-number.ensures.seen c.look-number.ensures.number
+    let turn = c.next.ensures.decides.look c.in-Look.segment c.in-Look.is in
+    told_fits _ _ _ _ _ _ _ _ c.looks.invariant.gathers turn.0 turn.1 turn.2 c.look-number.ensures.seen
+    c.look-number.ensures.number
 
 pub looks-preserved : goal.looks-preserved
 looks-preserved g c =
-    let a = g.L.Looker.known c.args.seat.now in
-    let b = g.L.Looker.known c.look-number.new.self in
-    let set = c.looks.scan.set in
-    let told = c.told.new.self.told in
-    let numbers = slice_set c.looks.numbers c.in-Look.segment c.look-number.result in
+    let turn = c.next.ensures.decides.look c.in-Look.segment c.in-Look.is in
+    let look = c.look-number.ensures in
     record {
-      gathers = subst (λ v. Gathers a b v told numbers) (sym c.told.ensures.set)
-          (subst (λ L. Gathers a b set L numbers) (sym c.told.ensures.told)
-          (Gathers-look a (g.L.Looker.known c.looks.seat) b set c.looks.scan.told c.looks.numbers
-          c.in-Look.segment c.look-number.result c.looks.invariant.gathers
-          (c.next.ensures.decides.look c.in-Look.segment c.in-Look.is) c.look-number.ensures.seen
-          c.look-number.ensures.number
-          (c.next.ensures.decides.bound c.in-Look.segment c.in-Look.is) c.look-number.ensures.looked
-          c.look-number.ensures.sights c.look-number.ensures.left c.look-number.ensures.below));
+      gathers = rw (c.told.ensures.set, c.told.ensures.told)
+          (Gathers-look _ _ _ _ _ _ _ _ c.looks.invariant.gathers turn.0 turn.1 turn.2 look.seen look.number
+          (c.next.ensures.decides.bound c.in-Look.segment c.in-Look.is) look.looked look.sights look.left
+          look.below);
       set = c.told.ensures.set ∙ c.looks.invariant.set;
     }
 
@@ -85,16 +71,14 @@ returns-in-Clean-clause-below g c =
 
 pub returns-in-Clean-clause-scan : goal.returns-in-Clean-clause-scan
 returns-in-Clean-clause-scan g c =
-    subst (λ v. IsCleanScan v (g.L.Looker.known c.args.seat.now) (g.L.Looker.known c.looks.seat))
-    c.looks.invariant.set
+    rw (← c.looks.invariant.set)
     (clean_scan _ _ _ _ _ c.looks.invariant.gathers (c.next.ensures.decides.clean.0 c.in-Clean.is)
     (no_borrow _ _ _ c.next.ensures.decides c.in-Clean.is))
 
 pub returns-in-Clean-clause-left : goal.returns-in-Clean-clause-left
 returns-in-Clean-clause-left g c =
     let gathers = c.looks.invariant.gathers in
-    subst (λ v. TakesLooksOf (size v) (g.L.Looker.known c.args.seat.now)
-    (g.L.Looker.known c.looks.seat)) c.looks.invariant.set
+    rw (← c.looks.invariant.set)
     (takes_looks _ _ _ _ _ gathers
     (clean_some _ _ _ _ _ gathers (c.next.ensures.decides.clean.0 c.in-Clean.is)))
 
@@ -102,7 +86,7 @@ pub returns-in-Clean-clause-numbers : goal.returns-in-Clean-clause-numbers
 returns-in-Clean-clause-numbers g c = λ _ i l named.
     numbers_are _ _ _ _ _ c.looks.invariant.gathers (c.next.ensures.decides.clean.0 c.in-Clean.is)
     (no_borrow _ _ _ c.next.ensures.decides c.in-Clean.is) i l
-    (subst (λ v. Names v i) (sym c.looks.invariant.set) named)
+    (rw c.looks.invariant.set named)
 
 pub returns-in-Borrow-clause-below : goal.returns-in-Borrow-clause-below
 returns-in-Borrow-clause-below g c =
@@ -112,13 +96,12 @@ returns-in-Borrow-clause-below g c =
 
 pub returns-in-Borrow-clause-scan : goal.returns-in-Borrow-clause-scan
 returns-in-Borrow-clause-scan g c =
-    borrowed_scan _ _ _ _ _ c.looks.invariant.gathers c.in-Borrow.segment
-    ((c.next.ensures.decides.borrow c.in-Borrow.segment).0 c.in-Borrow.is)
+    let from = (c.next.ensures.decides.borrow c.in-Borrow.segment).0 c.in-Borrow.is in
+    borrowed_scan _ _ _ _ _ c.looks.invariant.gathers _ from.0 from.1 from.2
 
 pub returns-in-Borrow-clause-left : goal.returns-in-Borrow-clause-left
 returns-in-Borrow-clause-left g c =
     let from = (c.next.ensures.decides.borrow c.in-Borrow.segment).0 c.in-Borrow.is in
     let gathers = c.looks.invariant.gathers in
-    subst (λ v. TakesLooksOf (size v) (g.L.Looker.known c.args.seat.now)
-    (g.L.Looker.known c.looks.seat)) c.looks.invariant.set
+    rw (← c.looks.invariant.set)
     (takes_looks _ _ _ _ _ gathers (borrow_some _ _ _ _ _ gathers from.0 from.2))

@@ -1,5 +1,4 @@
-use Rattle.std.proofs.Common.{sym, subst, ◌∙◌}
-use Rattle.snap_memory.specs.Scans.{HasLooks, HasPart, TakesLooksOf}
+use Rattle.std.proofs.Common.{◌∙◌}
 use Rattle.snap_memory.proofs.ScanAnswer.{snapshot_all, all_set, all_is, all_count, all_grown, all_same}
 use Rattle.snap_memory.proofs.looks.scan.Goals as goal
 
@@ -10,10 +9,8 @@ scan_some-requires-clause-set g c =
 
 pub scan_some-requires-clause-left : goal.scan_some-requires-clause-left
 scan_some-requires-clause-left g c =
-    let a = g.L.Looker.known c.args.seat.now in
     let n = c.segments.ensures in
-    subst (λ n. HasLooks n a) (sym (all_count a _ _ n.count c.all.ensures.all n.some.1))
-    c.requires.left
+    rw (all_count (g.L.Looker.known c.args.seat.now) _ _ n.count c.all.ensures.all n.some.1) c.requires.left
 
 pub returns-clause-snapshot : goal.returns-clause-snapshot
 returns-clause-snapshot g c =
@@ -22,12 +19,10 @@ returns-clause-snapshot g c =
     let n = c.segments.ensures in
     let seen = c.scan_some.ensures.seen in
     snapshot_all a b (all_grown a b seen _ n.count n.some.1) c.scan_some.new.out
-    (subst (λ v. HasPart v a b c.scan_some.new.out)
-    (all_is a _ _ n.count c.all.ensures.all ∙ all_same a b seen) c.scan_some.ensures.part)
+    (rw (all_is a _ _ n.count c.all.ensures.all ∙ all_same a b seen) at c.scan_some.ensures.part)
 
 pub returns-clause-left : goal.returns-clause-left
 returns-clause-left g c =
-    let a = g.L.Looker.known c.args.seat.now in
     let n = c.segments.ensures in
-    subst (λ n. TakesLooksOf n a (g.L.Looker.known c.scan_some.new.seat))
-    (all_count a _ _ n.count c.all.ensures.all n.some.1) c.scan_some.ensures.left
+    rw (all_count (g.L.Looker.known c.args.seat.now) _ _ n.count c.all.ensures.all n.some.1)
+    at c.scan_some.ensures.left

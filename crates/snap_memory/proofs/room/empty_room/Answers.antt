@@ -12,8 +12,7 @@ loop-i-preserved c =
     let inv = c.loop-i.invariant in
     let items = c.in_ok-push.ensures.items in
     record {
-      long = ap length items ∙ (let more = length_push c.loop-i.room.items None in
-          let long = inv.long in omega arith);
+      long = ap length items ∙ omega (arith, length_push c.loop-i.room.items None, inv.long);
       none = λ i x e. get-push IsNothing c.loop-i.room.items None
           (λ j kept f y g. inv.none j y (f ∙ ap (λ v. Some v) g)) (λ y f. cc) i (Some x)
           (ap (λ l. slice_get l i) (sym items) ∙ e) x refl;

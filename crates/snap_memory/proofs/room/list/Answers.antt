@@ -1,9 +1,9 @@
-use Rattle.std.proofs.Common.{◌≡◌, ◌+◌, [], ◌∷◌, ◌++◌, None, map, Some, refl, ap, sym, subst, ◌∙◌, arith}
+use Rattle.std.proofs.Common.{◌≡◌, [], ◌∷◌, ◌++◌, None, map, Some, refl, ap, ◌∙◌, arith}
 use Rattle.std.proofs.lemmas.{Bool.iff_false, List.length-set, List.map-append}
-use Rattle.snap_register.specs.{Rule.segments, Seat.Known}
+use Rattle.snap_register.specs.{Rule.segments}
 use Rattle.snap_scan.proofs.Sets.{list_named, list_unnamed, named_all}
 use Rattle.snap_scan.specs.{Sets.named_below, Values.pair_of}
-use Rattle.snap_memory.specs.Rooms.{AreEntries, IsEntry}
+use Rattle.snap_memory.specs.Rooms.{IsEntry}
 use Rattle.snap_memory.proofs.{Kept.kept_of, Kept.kept_in, ScanAnswer.entries_short}
 use Rattle.snap_memory.proofs.room.list.Goals.{then-has+in_ok-entry+in_ok-push, else-has}
 use Rattle.snap_memory.proofs.room.list.Goals as goal
@@ -16,12 +16,10 @@ loop-i-init g c = record {
   found = refl;
   room = refl;
   kept = c.requires.kept;
-  entries = subst (λ l. AreEntries [] (g.L.Looker.known c.args.seat.now) c.args.found (map pair_of l))
-      (sym c.in_ok-values.ensures.items) (record {
-        count = refl;
-        each = λ p i at. absurd (let none : None ≡ Some i = at
-            in cc);
-      });
+  entries = rw c.in_ok-values.ensures.items (record {
+    count = refl;
+    each = λ p i at. absurd (let none : None ≡ Some i = at in cc);
+  });
 }
 
 -- the segment's cached entry was seen
@@ -54,8 +52,7 @@ loop-i-preserved g c =
     let before = map pair_of c.loop-i.values.items in
     elim c.if-has.branch [
       | then-has+in_ok-entry+in_ok-push w ↦ (
-          let entry = subst (λ (z : Known). IsEntry z c.args.found c.loop-i.i (pair_of w.in_ok-entry.entry))
-          inv.same w.in_ok-entry.ensures.entry in
+          let entry = rw inv.same at w.in_ok-entry.ensures.entry in
           let listed = list_named (IsEntry a c.args.found) c.args.set.bits c.loop-i.i before
           (c.has.ensures.names.0 w.if-has.true) (pair_of w.in_ok-entry.entry) entry
           (inv.entries.count, inv.entries.each) in
@@ -70,8 +67,7 @@ loop-i-preserved g c =
             kept = kept_in a (g.L.Looker.known c.loop-i.seat) _ _ _ _ inv.room c.requires.room
                 c.segments-i-end.ensures.count c.loop-i-test.true w.take_entry.new.kept inv.same
                 inv.kept w.take_entry.ensures.kept;
-            entries = subst (AreEntries (named_below c.args.set.bits (c.loop-i.i + 1)) a c.args.found)
-                (sym values) (record { count = listed.0; each = listed.1 });
+            entries = rw values (record { count = listed.0; each = listed.1 });
           }))))
       | else-has w ↦ (
           let listed = list_unnamed (IsEntry a c.args.found) c.args.set.bits c.loop-i.i before
@@ -95,9 +91,8 @@ returns g c =
     let done = c.loop-i-test.false in
     let end = c.loop-i.auto.i-end in
     let is : c.loop-i.i ≡ segments a.plan = omega arith in
-    let entries = subst (λ l. AreEntries l a c.args.found (map pair_of c.loop-i.values.items))
-    (ap (named_below c.args.set.bits) is ∙ named_all c.args.set.bits (segments a.plan) (omega arith)
-    c.requires.set) inv.entries in
+    let entries = rw (is, named_all c.args.set.bits (segments a.plan) (omega arith) c.requires.set)
+    at inv.entries in
     record {
       entries = entries;
       short = entries_short c.args.set.bits a a c.args.found c.loop-i.values.items entries;

@@ -1,9 +1,9 @@
-use Rattle.std.proofs.Common.{◌^◌, ◌<◌, [], IfOk, get_or, map, refl, sym, subst, arith}
-use Rattle.snap_register.specs.Seat.{Known, IsView}
-use Rattle.snap_register.specs.{declared.plan.Plan.Plan, Rule.segments, declared.view.View.TheVariants.Borrowed}
+use Rattle.std.proofs.Common.{◌^◌, ◌<◌, map, refl, sym, subst, arith}
+use Rattle.snap_register.specs.Seat.{Known}
+use Rattle.snap_register.specs.{Rule.segments, declared.view.View.TheVariants.Borrowed}
 use Rattle.snap_scan.{specs.Values.pair_of, proofs.Sets.names_below}
 use Rattle.snap_memory.proofs.ScanAnswer.{list_clean, list_borrowed, view_seen, map_ok}
-use Rattle.snap_memory.specs.{Rooms.AreKept, Rooms.WasSeen, Scans.IsScan, Scans.IsPart}
+use Rattle.snap_memory.specs.{Scans.IsScan}
 use Rattle.snap_memory.proofs.Kept.{kept_grown}
 use Rattle.snap_memory.proofs.room.scan_kept.Goals as goal
 
@@ -28,15 +28,15 @@ pub list-requires-in-Borrowed-clause-found : goal.list-requires-in-Borrowed-clau
 list-requires-in-Borrowed-clause-found g c = λ i l named.
     let b = g.L.Looker.known c.gather.new.seat in
     let seen = c.view.ensures.view in
-    let low = subst (λ (z : Known). i < segments z.plan) c.view.ensures.same l in (
-      (let size = seen.memory.size in omega arith),
-      subst (λ (z : Known). WasSeen z i (get_or c.view.new.out i (0, []))) (sym c.view.ensures.same)
+    let low = rw c.view.ensures.same at l in (
+      omega (arith, low, seen.memory.size),
+      rw c.view.ensures.same
           (view_seen b c.in-Borrowed.segment c.args.set.bits c.view.new.out i seen low named),
     )
 
 pub list-requires-in-Borrowed-clause-kept : goal.list-requires-in-Borrowed-clause-kept
 list-requires-in-Borrowed-clause-kept g c =
-    subst (λ (z : Known). AreKept z c.args.room.now.items) (sym c.view.ensures.same)
+    rw c.view.ensures.same
     (kept_grown (g.L.Looker.known c.args.seat.now) (g.L.Looker.known c.gather.new.seat)
     c.args.room.now.items c.gather.ensures.seen c.requires.kept)
 
@@ -45,11 +45,10 @@ returns-in-Collected-clause-part g c =
     let a = g.L.Looker.known c.args.seat.now in
     let b = g.L.Looker.known c.gather.new.seat in
     let set = c.args.set.bits in
-    subst (λ (z : Known). IfOk c.list.result (λ values. IsPart set a z (map pair_of values.items)))
-    (sym c.list.ensures.same)
+    rw c.list.ensures.same
     (map_ok c.list.result _ _ (λ values e. list_clean set a b _ (map pair_of values.items)
-    (subst (λ (p : Plan). set < 2 ^ segments p) (sym c.gather.ensures.seen.plan) c.requires.set.among)
-    (subst (IsScan set a b) c.in-Collected.is c.gather.ensures.scan) e
+    (rw c.gather.ensures.seen.plan c.requires.set.among)
+    (rw c.in-Collected.is at c.gather.ensures.scan) e
     (λ i l named. c.gather.ensures.numbers c.in-Collected.is i l named)) c.list.ensures.entries)
 
 pub returns-in_ok-view-in-Borrowed-clause-part : goal.returns-in_ok-view-in-Borrowed-clause-part
@@ -58,26 +57,20 @@ returns-in_ok-view-in-Borrowed-clause-part g c =
     let b = g.L.Looker.known c.gather.new.seat in
     let d = g.L.Looker.known c.view.new.self in
     let set = c.args.set.bits in
-    let same = sym c.view.ensures.same in
-    let scan = subst (λ (z : Known). IsScan set a z (Borrowed c.in-Borrowed.segment)) same
-    (subst (IsScan set a b) c.in-Borrowed.is c.gather.ensures.scan) in
-    let view = subst (λ (z : Known). IsView z c.in-Borrowed.segment set c.view.new.out) same
-    c.view.ensures.view in
-    let among = subst (λ (z : Known). set < 2 ^ segments z.plan) same
-    (subst (λ (p : Plan). set < 2 ^ segments p) (sym c.gather.ensures.seen.plan)
-    c.requires.set.among) in
-    subst (λ (z : Known). IfOk c.list-in-Borrowed.result (λ values.
-    IsPart set a z (map pair_of values.items))) (sym c.list-in-Borrowed.ensures.same)
+    let scan = subst (λ (z : Known). IsScan set a z (Borrowed c.in-Borrowed.segment))
+    (sym c.view.ensures.same) (rw c.in-Borrowed.is at c.gather.ensures.scan) in
+    let view = rw (← c.view.ensures.same) at c.view.ensures.view in
+    let among : set < 2 ^ segments d.plan =
+    rw (c.view.ensures.same, c.gather.ensures.seen.plan) c.requires.set.among in
+    rw c.list-in-Borrowed.ensures.same
     (map_ok c.list-in-Borrowed.result _ _ (λ values e. list_borrowed set a d c.in-Borrowed.segment
     c.view.new.out _ (map pair_of values.items) among scan view e (λ i. refl))
     c.list-in-Borrowed.ensures.entries)
 
 pub returns-in-Collected-clause-kept : goal.returns-in-Collected-clause-kept
 returns-in-Collected-clause-kept g c =
-    subst (λ (z : Known). AreKept z c.list.new.room.items) (sym c.list.ensures.same)
-    c.list.ensures.kept
+    rw c.list.ensures.same c.list.ensures.kept
 
 pub returns-in_ok-view-in-Borrowed-clause-kept : goal.returns-in_ok-view-in-Borrowed-clause-kept
 returns-in_ok-view-in-Borrowed-clause-kept g c =
-    subst (λ (z : Known). AreKept z c.list-in-Borrowed.new.room.items)
-    (sym c.list-in-Borrowed.ensures.same) c.list-in-Borrowed.ensures.kept
+    rw c.list-in-Borrowed.ensures.same c.list-in-Borrowed.ensures.kept

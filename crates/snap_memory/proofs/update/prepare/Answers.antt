@@ -1,5 +1,4 @@
-use Rattle.std.proofs.Common.{sym, subst, ◌∙◌}
-use Rattle.snap_memory.specs.Scans.{HasLooks, IsScan, TakesLooksOf}
+use Rattle.std.proofs.Common.{◌∙◌}
 use Rattle.snap_memory.proofs.ScanAnswer.{may_publish, all_set, all_is, all_count, all_grown, all_same}
 use Rattle.snap_memory.proofs.update.prepare.Goals as goal
 
@@ -9,15 +8,12 @@ gather-requires c =
     let n = c.segments.ensures in
     record {
       set = all_set a _ _ n.count c.all.ensures.all n.some.0;
-      left = subst (λ n. HasLooks n a) (sym (all_count a _ _ n.count c.all.ensures.all n.some.1))
-          c.requires.left;
+      left = rw (all_count a _ _ n.count c.all.ensures.all n.some.1) c.requires.left;
     }
 
 pub returns-clause-scan : goal.returns-clause-scan
 returns-clause-scan c =
-    let a = c.args.seat.now in
-    subst (λ v. IsScan v a c.gather.new.seat c.gather.result)
-    (all_is a _ _ c.segments.ensures.count c.all.ensures.all) c.gather.ensures.scan
+    rw (all_is c.args.seat.now _ _ c.segments.ensures.count c.all.ensures.all) at c.gather.ensures.scan
 
 pub returns-clause-view : goal.returns-clause-view
 returns-clause-view c =
@@ -26,12 +22,9 @@ returns-clause-view c =
     let g = c.gather.ensures.seen in
     let n = c.segments.ensures in
     may_publish a b g c.segment-own.ensures.alone (all_grown a b g _ n.count n.some.1)
-    c.gather.result (subst (λ v. IsScan v a b c.gather.result)
-    (all_is a _ _ n.count c.all.ensures.all ∙ all_same a b g) c.gather.ensures.scan)
+    c.gather.result (rw (all_is a _ _ n.count c.all.ensures.all ∙ all_same a b g) at c.gather.ensures.scan)
 
 pub returns-clause-left : goal.returns-clause-left
 returns-clause-left c =
-    let a = c.args.seat.now in
     let n = c.segments.ensures in
-    subst (λ n. TakesLooksOf n a c.gather.new.seat)
-    (all_count a _ _ n.count c.all.ensures.all n.some.1) c.gather.ensures.left
+    rw (all_count c.args.seat.now _ _ n.count c.all.ensures.all n.some.1) at c.gather.ensures.left

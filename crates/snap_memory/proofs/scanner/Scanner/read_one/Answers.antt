@@ -1,13 +1,12 @@
-use Rattle.std.proofs.Common.{take, sym, ap, subst, ◌∙◌}
+use Rattle.std.proofs.Common.{take, sym, ap, ◌∙◌}
 use Rattle.snap_history.proofs.Beginnings.{beginning-self}
 use Rattle.snap_register.specs.Seat.{Known, value_in}
-use Rattle.snap_memory.{specs.Rooms.Fits, proofs.ScanAnswer.value_told, proofs.Kept.fits_grown}
+use Rattle.snap_memory.{proofs.ScanAnswer.value_told, proofs.Kept.fits_grown}
 use Rattle.snap_memory.proofs.scanner.Scanner.read_one.Goals as goal
 
 pub invariant_of-self : goal.invariant_of-self
 invariant_of-self c =
-    subst (λ (z : Known). Fits z c.self.inside.room) (sym c.value-length.ensures.same)
-    (fits_grown c.self.inside.seat c.look-number.new.self c.self.inside.room
+    rw c.value-length.ensures.same (fits_grown c.self.inside.seat c.look-number.new.self c.self.inside.room
     c.look-number.ensures.seen c.self.invariant)
 
 pub returns-clause-value : goal.returns-clause-value

@@ -1,7 +1,4 @@
-use Rattle.std.proofs.Common.{◌≡◌, ◌<◌, OnOk, IfErr, subst, ◌∙◌}
-use Rattle.snap_disk.specs.declared.refusal.Refusal.TheVariants.{Worn}
-use Rattle.snap_scan.specs.Looks.{most_looks}
-use Rattle.snap_memory.specs.Scans.{HasLooks, HasPart, TakesLooksOf}
+use Rattle.std.proofs.Common.{◌∙◌}
 use Rattle.snap_memory.proofs.ScanAnswer.{snapshot_all, all_set, all_is, all_count, all_grown, all_same, both_ok}
 use Rattle.snap_memory.proofs.scanner.Scanner.scan_into.Goals as goal
 
@@ -12,17 +9,13 @@ scan_some-requires-clause-set c =
 
 pub returns-clause-enough : goal.returns-clause-enough
 returns-clause-enough c =
-    let a = c.args.self.now in
     let n = c.segments.ensures in
-    subst (λ n. OnOk c.scan_some.result (HasLooks n a))
-    (all_count a _ _ n.count c.all.ensures.all n.some.1) c.scan_some.ensures.enough
+    rw (all_count c.args.self.now _ _ n.count c.all.ensures.all n.some.1) at c.scan_some.ensures.enough
 
 pub returns-clause-worn : goal.returns-clause-worn
 returns-clause-worn c =
-    let a = c.args.self.now in
     let n = c.segments.ensures in
-    subst (λ n. IfErr c.scan_some.result (λ why. (why ≡ Worn) × (a.left < most_looks n)))
-    (all_count a _ _ n.count c.all.ensures.all n.some.1) c.scan_some.ensures.worn
+    rw (all_count c.args.self.now _ _ n.count c.all.ensures.all n.some.1) at c.scan_some.ensures.worn
 
 pub returns-clause-snapshot : goal.returns-clause-snapshot
 returns-clause-snapshot c =
@@ -31,13 +24,10 @@ returns-clause-snapshot c =
     let n = c.segments.ensures in
     both_ok c.scan_some.result _ _ _ (λ part seen.
     snapshot_all a b (all_grown a b seen _ n.count n.some.1) c.scan_some.new.out
-    (subst (λ v. HasPart v a b c.scan_some.new.out)
-    (all_is a _ _ n.count c.all.ensures.all ∙ all_same a b seen) part))
+    (rw (all_is a _ _ n.count c.all.ensures.all ∙ all_same a b seen) at part))
     c.scan_some.ensures.part c.scan_some.ensures.seen
 
 pub returns-clause-left : goal.returns-clause-left
 returns-clause-left c =
-    let a = c.args.self.now in
     let n = c.segments.ensures in
-    subst (λ n. OnOk c.scan_some.result (TakesLooksOf n a c.scan_some.new.self))
-    (all_count a _ _ n.count c.all.ensures.all n.some.1) c.scan_some.ensures.left
+    rw (all_count c.args.self.now _ _ n.count c.all.ensures.all n.some.1) at c.scan_some.ensures.left
