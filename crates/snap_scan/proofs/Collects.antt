@@ -79,21 +79,19 @@ module _ (A : Type 0) (n : ℕ) (number : Numbers) (entry : Entries A) (b e : �
           → Collects A n number entry b t (L ++ k ∷ []) (slice_set latest j (entry t j))
       Collects-push start size = record {
         moment = moment2;
-        after = λ s l. elim (cases_lt s (length L)) [
-          | inl lt ↦ omega (arith, was s lt, c.after s lt)
-          | inr ge ↦ omega (arith, is s ge)
-        ];
-        until = λ s l. elim (cases_lt s (length L)) [
-          | inl lt ↦ omega (arith, was s lt, c.until s lt)
-          | inr ge ↦ omega (arith, is s ge)
-        ];
-        order = λ r s rs l. elim (cases_lt s (length L)) [
-          | inl lt ↦ omega (arith, was s lt, was r (omega arith), c.order r s rs lt)
-          | inr ge ↦ elim (cases_lt r (length L)) [
-            | inl lt ↦ omega (arith, is s ge, was r lt, c.until r lt)
-            | inr late ↦ omega (arith, is s ge, is r late)
-          ]
-        ];
+        after = λ s l. grind (arith, cases_lt s (length L), was s, is s, c.after s);
+        until = λ s l. grind (arith, cases_lt s (length L), was s, is s, c.until s);
+        order = λ r s rs l. grind (
+          arith,
+          cases_lt s (length L),
+          cases_lt r (length L),
+          was s,
+          is s,
+          was r,
+          is r,
+          c.order r s rs,
+          c.until r,
+        );
         numbers = λ p i hi l. elim (cases_lt (p * n + i) (length L)) [
           | inl lt ↦ rw (was (p * n + i) lt) (old (p * n + i) lt ∙ c.numbers p i hi lt)
           | inr ge ↦ (

@@ -134,11 +134,7 @@ module _ (s : Machine) (L : List ℕ) (j k : ℕ) (st : StandsFor s L) (e : s.ne
   module _ (may : MayTell s j k) (near : IsClose s j k) where
     -- in the first collect the segment has no earlier look
     at_start : s.looks < s.segments → length L ≡ j
-    at_start lt = elim (cases_eq q.m 0) [
-      | inl zero ↦ omega (arith, place, ap (λ x. x * s.segments) zero)
-      | inr more ↦ (let f : s.segments * 1 ≤ s.segments * q.m =
-          mul-le-mul_left s.segments (omega arith) in absurd (omega (arith, place, looks)))
-    ]
+    at_start lt = grind (arith, place, looks, q.m)
 
     small : (j < length L) → k < slice_index L j + 2
     small l = elim near [
@@ -148,32 +144,39 @@ module _ (s : Machine) (L : List ℕ) (j k : ℕ) (st : StandsFor s L) (e : s.ne
 
     first_after : (i : ℕ) → i < s.segments → i < length (L ++ k ∷ [])
         → slice_index (firsts_after s j k) i ≡ slice_index (L ++ k ∷ []) i
-    first_after i hi l = elim (cases_lt s.looks s.segments) [
-      | inl early ↦ (
-          let at = at_start early in
-          rw (if_lt s.looks s.segments (slice_set s.first j k) s.first early) (elim (cases_lt i j) [
-            | inl lt ↦ get_or-set_other s.first j i k 0 (omega arith)
-                ∙ q.first i hi (omega arith) ∙ sym (old i (omega arith))
-            | inr ge ↦ (
-                let is_j : i ≡ j = omega (arith, long) in
-                rw is_j (get_or-set_same s.first j k 0 (omega (arith, within, most, st.firsts))
-                ∙ sym (now j (omega arith))))
-          ]))
-      | inr late ↦ rw (if_ge s.looks s.segments (slice_set s.first j k) s.first late)
-          (q.first i hi (omega (arith, looks)) ∙ sym (old i (omega (arith, looks))))
-    ]
+    first_after i hi l = grind (
+      arith,
+      nat_tests,
+      at_start,
+      long,
+      looks,
+      within,
+      most,
+      st.firsts,
+      cases_lt i j,
+      get_or-set_other s.first j i k 0,
+      get_or-set_same s.first j k 0,
+      q.first i hi,
+      old i,
+      now i,
+    )
 
     -- the latest numbers of the current collect, with this one
     here_after : (i : ℕ) → i < j + 1
         → slice_index (slice_set s.latest j k) i ≡ slice_index (L ++ k ∷ []) (q.m * s.segments + i)
-    here_after i l = elim (cases_lt i j) [
-      | inl lt ↦ get_or-set_other s.latest j i k 0 (omega arith) ∙ q.here i lt
-          ∙ sym (old (q.m * s.segments + i) (omega (arith, place)))
-      | inr ge ↦ (
-          let is_j : i ≡ j = omega arith in
-          rw is_j (get_or-set_same s.latest j k 0 (omega (arith, within, most, st.latests))
-          ∙ sym (now (q.m * s.segments + j) (sym place))))
-    ]
+    here_after i l = grind (
+      arith,
+      place,
+      within,
+      most,
+      st.latests,
+      cases_lt i j,
+      get_or-set_other s.latest j i k 0,
+      get_or-set_same s.latest j k 0,
+      q.here i,
+      old (q.m * s.segments + i),
+      now (q.m * s.segments + i),
+    )
 
     undecided_after : ((c : ℕ) → (c + 2) * s.segments ≡ length L + 1
         → Same s.segments (L ++ k ∷ []) c s.segments → ⊥)

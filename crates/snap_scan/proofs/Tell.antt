@@ -18,30 +18,31 @@ module _ (n : ℕ) (L : List ℕ) (m j k : ℕ) (within : j < n) (place : length
 
   pub low_push : AllLow n L (length L) → ((j < length L) → k < slice_index L j + 2)
       → AllLow n (L ++ k ∷ []) (length (L ++ k ∷ []))
-  low_push low small p i hi lt =
-      let len : length (L ++ k ∷ []) ≡ length L + 1 = long in
-      elim (cases_lt (p * n + i) (length L)) [
-        | inl was ↦ omega (arith, old (p * n + i) was, old i (omega arith), low p i hi was)
-        | inr ge ↦ (
-            let a = now (p * n + i) (omega arith) in
-            let is_j : i ≡ j = same_segment n p i m j hi within (omega arith) in
-            elim (cases_lt i (length L)) [
-              | inl before ↦ omega (arith, old i before, ap (slice_index L) is_j, small (omega arith))
-              | inr first ↦ omega (arith, now i (omega arith))
-            ])
-      ]
+  low_push low small p i hi lt = grind (
+    arith,
+    long,
+    cases_lt (p * n + i) (length L),
+    cases_lt i (length L),
+    old (p * n + i),
+    old i,
+    now (p * n + i),
+    now i,
+    low p i hi,
+    same_segment n p i m j hi within,
+  )
 
   pub rising_push : IsRising n L → IsNoFall n L j k → IsRising n (L ++ k ∷ [])
-  rising_push rising fall p i hi lt =
-      let len : length (L ++ k ∷ []) ≡ length L + 1 = long in
-      let a = old (p * n + i) (omega arith) in
-      elim (cases_lt ((p + 1) * n + i) (length L)) [
-        | inl was ↦ omega (arith, old ((p + 1) * n + i) was, rising p i hi was)
-        | inr ge ↦ (
-            let b = now ((p + 1) * n + i) (omega arith) in
-            let is_j : i ≡ j = same_segment n (p + 1) i m j hi within (omega arith) in
-            omega (arith, ap (λ x. slice_index L (p * n + x)) is_j, fall p (omega arith)))
-      ]
+  rising_push rising fall p i hi lt = grind (
+    arith,
+    long,
+    cases_lt ((p + 1) * n + i) (length L),
+    old (p * n + i),
+    old ((p + 1) * n + i),
+    now ((p + 1) * n + i),
+    rising p i hi,
+    same_segment n (p + 1) i m j hi within,
+    fall p,
+  )
 
   pub Same-old : (p t : ℕ) → t ≤ n → (p + 1) * n + t ≤ length L → Same n (L ++ k ∷ []) p t
       → Same n L p t
