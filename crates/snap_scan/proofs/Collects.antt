@@ -79,26 +79,20 @@ module _ (A : Type 0) (n : ℕ) (number : Numbers) (entry : Entries A) (b e : �
           → Collects A n number entry b t (L ++ k ∷ []) (slice_set latest j (entry t j))
       Collects-push start size = record {
         moment = moment2;
-        after = λ s l. grind (arith, cases_lt s (length L), was s, is s, c.after s);
-        until = λ s l. grind (arith, cases_lt s (length L), was s, is s, c.until s);
-        order = λ r s rs l. grind (
+        after = λ s l. grind (arith, was, is, c.after s, cases_lt s (length L));
+        until = λ s l. grind (arith, was, is, c.until s, cases_lt s (length L));
+        order = λ r s rs l. grind (arith, was, is, c.order r s rs, c.until r, cases_lt s (length L), cases_lt r (length L));
+        numbers = λ p i hi l. grind (
           arith,
-          cases_lt s (length L),
-          cases_lt r (length L),
-          was s,
-          is s,
-          was r,
-          is r,
-          c.order r s rs,
-          c.until r,
+          len,
+          old,
+          was,
+          is,
+          c.numbers p i hi,
+          get_or_push L k 0 (p * n + i),
+          same_segment n p i m j hi within,
+          cases_lt (p * n + i) (length L),
         );
-        numbers = λ p i hi l. elim (cases_lt (p * n + i) (length L)) [
-          | inl lt ↦ rw (was (p * n + i) lt) (old (p * n + i) lt ∙ c.numbers p i hi lt)
-          | inr ge ↦ (
-              let at : length L ≡ p * n + i = omega (arith, len) in
-              let same : i ≡ j = same_segment n p i m j hi within (omega arith) in
-              rw (is (p * n + i) ge) (get_or_push L k 0 (p * n + i) at ∙ ap (number t) (sym same)))
-        ];
         entries = λ p i hi l late. elim (cases_lt (p * n + i) (length L)) [
           | inl lt ↦ elim (cases_eq i j) [
             | inl e2 ↦ elim (cases_lt p m) [

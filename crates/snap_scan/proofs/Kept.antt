@@ -42,12 +42,10 @@ turn_fits s j k e may = ∥∥₁_elim may (hlevel props) (λ r.
 
 -- the changed flag, off and on
 flag_off : (a : Bool) (x y : ℕ) → (a || not (x == y)) ≡ false → (a ≡ false) × (x ≡ y)
-flag_off true x y e = cc
-flag_off false x y e = (refl, grind (arith, nat_tests))
+flag_off a x y e = grind (arith, nat_tests)
 
 flag_on : (a : Bool) (x y : ℕ) → (a || not (x == y)) ≡ true → (a ≡ true) ⊎ (x ≢ y)
-flag_on true x y e = inl refl
-flag_on false x y e = inr (grind (arith, nat_tests))
+flag_on a x y e = grind (arith, nat_tests)
 
 -- The machine after a number that isn't a borrow:
 
@@ -72,13 +70,7 @@ IsClose s j k = (s.looks < s.segments) ⊎ (k < slice_index s.first j + 2)
 
 pub close : (s : Machine) (j k : ℕ) (b : Bool) → b ≡ false
     → (IsTrue b ↔ ((s.segments ≤ s.looks) × (slice_index s.first j + 2 ≤ k))) → IsClose s j k
-close s j k b off h = elim (cases_lt s.looks s.segments) [
-  | inl lt ↦ inl lt
-  | inr late ↦ elim (cases_lt k (slice_index s.first j + 2)) [
-    | inl lt ↦ inr lt
-    | inr far ↦ (let on : b ≡ true = h.1 (late, far) in cc)
-  ]
-]
+close s j k b off h = grind (arith, cases_lt s.looks s.segments, cases_lt k (slice_index s.first j + 2))
 
 module _ (s : Machine) (L : List ℕ) (j k : ℕ) (st : StandsFor s L) (e : s.next ≡ Look j) where
   q : IsLooking s L j
@@ -134,13 +126,10 @@ module _ (s : Machine) (L : List ℕ) (j k : ℕ) (st : StandsFor s L) (e : s.ne
   module _ (may : MayTell s j k) (near : IsClose s j k) where
     -- in the first collect the segment has no earlier look
     at_start : s.looks < s.segments → length L ≡ j
-    at_start lt = grind (arith, place, looks, q.m)
+    at_start lt = grind (arith, place, looks)
 
     small : (j < length L) → k < slice_index L j + 2
-    small l = elim near [
-      | inl lt ↦ absurd (omega (arith, at_start lt))
-      | inr far ↦ omega (arith, q.first j within l)
-    ]
+    small l = grind (arith, at_start, q.first j within)
 
     first_after : (i : ℕ) → i < s.segments → i < length (L ++ k ∷ [])
         → slice_index (firsts_after s j k) i ≡ slice_index (L ++ k ∷ []) i
@@ -153,12 +142,11 @@ module _ (s : Machine) (L : List ℕ) (j k : ℕ) (st : StandsFor s L) (e : s.ne
       within,
       most,
       st.firsts,
-      cases_lt i j,
-      get_or-set_other s.first j i k 0,
-      get_or-set_same s.first j k 0,
+      get_or-set_other {A = ℕ},
+      get_or-set_same {A = ℕ},
       q.first i hi,
-      old i,
-      now i,
+      old,
+      now,
     )
 
     -- the latest numbers of the current collect, with this one
@@ -170,12 +158,11 @@ module _ (s : Machine) (L : List ℕ) (j k : ℕ) (st : StandsFor s L) (e : s.ne
       within,
       most,
       st.latests,
-      cases_lt i j,
-      get_or-set_other s.latest j i k 0,
-      get_or-set_same s.latest j k 0,
+      get_or-set_other {A = ℕ},
+      get_or-set_same {A = ℕ},
       q.here i,
-      old (q.m * s.segments + i),
-      now (q.m * s.segments + i),
+      old,
+      now,
     )
 
     undecided_after : ((c : ℕ) → (c + 2) * s.segments ≡ length L + 1
@@ -204,11 +191,7 @@ module _ (s : Machine) (L : List ℕ) (j k : ℕ) (st : StandsFor s L) (e : s.ne
     stands changed next says = record {
       least = st.least;
       most = st.most;
-      firsts = elim (cases_lt s.looks s.segments) [
-        | inl early ↦ rw (if_lt s.looks s.segments (slice_set s.first j k) s.first early)
-            (length-set s.first j k ∙ st.firsts)
-        | inr late ↦ rw (if_ge s.looks s.segments (slice_set s.first j k) s.first late) st.firsts
-      ];
+      firsts = grind (arith, nat_tests, length-set {A = ℕ}, st.firsts);
       latests = length-set s.latest j k ∙ st.latests;
       looks = omega (arith, looks, long);
       says = says;

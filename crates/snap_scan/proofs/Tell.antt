@@ -18,48 +18,26 @@ module _ (n : ℕ) (L : List ℕ) (m j k : ℕ) (within : j < n) (place : length
 
   pub low_push : AllLow n L (length L) → ((j < length L) → k < slice_index L j + 2)
       → AllLow n (L ++ k ∷ []) (length (L ++ k ∷ []))
-  low_push low small p i hi lt = grind (
-    arith,
-    long,
-    cases_lt (p * n + i) (length L),
-    cases_lt i (length L),
-    old (p * n + i),
-    old i,
-    now (p * n + i),
-    now i,
-    low p i hi,
-    same_segment n p i m j hi within,
-  )
+  low_push low small p i hi lt =
+      grind (arith, long, old, now, low p i hi, same_segment n p i m j hi within)
 
   pub rising_push : IsRising n L → IsNoFall n L j k → IsRising n (L ++ k ∷ [])
-  rising_push rising fall p i hi lt = grind (
-    arith,
-    long,
-    cases_lt ((p + 1) * n + i) (length L),
-    old (p * n + i),
-    old ((p + 1) * n + i),
-    now ((p + 1) * n + i),
-    rising p i hi,
-    same_segment n (p + 1) i m j hi within,
-    fall p,
-  )
+  rising_push rising fall p i hi lt =
+      grind (arith, long, old, now, rising p i hi, same_segment n (p + 1) i m j hi within, fall p)
 
   pub Same-old : (p t : ℕ) → t ≤ n → (p + 1) * n + t ≤ length L → Same n (L ++ k ∷ []) p t
       → Same n L p t
-  Same-old p t tn h same i l =
-      sym (old (p * n + i) (omega arith)) ∙ same i l ∙ old ((p + 1) * n + i) (omega arith)
+  Same-old p t tn h same i l = grind (arith, old (p * n + i), same i l, old ((p + 1) * n + i))
 
   pub undecided_push : IsUndecided n L (length L) → ((j < length L) → k < slice_index L j + 2)
       → ((c : ℕ) → (c + 2) * n ≡ length L + 1 → Same n (L ++ k ∷ []) c n → ⊥)
       → IsUndecided n (L ++ k ∷ []) (length (L ++ k ∷ []))
   undecided_push u small fresh = record {
     low = low_push u.low small;
-    no_clean = λ c h same. (
-        let len : length (L ++ k ∷ []) ≡ length L + 1 = long in
-        elim (cases_lt (length L) ((c + 2) * n)) [
-          | inl lt ↦ fresh c (omega arith) same
-          | inr le ↦ u.no_clean c le (Same-old c n (omega arith) (omega arith) same)
-        ]);
+    no_clean = λ c h same. elim (cases_lt (length L) ((c + 2) * n)) [
+      | inl lt ↦ fresh c (omega (arith, long)) same
+      | inr le ↦ u.no_clean c le (Same-old c n (omega arith) (omega arith) same)
+    ];
   }
 
   -- the earlier numbers still decide nothing
@@ -68,8 +46,7 @@ module _ (n : ℕ) (L : List ℕ) (m j k : ℕ) (within : j < n) (place : length
   undecided_before u b e =
       let at : b ≡ length L = omega (arith, long) in
       record {
-        low = λ p i hi lt.
-            omega (arith, old (p * n + i) (omega arith), old i (omega arith), u.low p i hi (omega arith));
+        low = λ p i hi lt. grind (arith, old, u.low p i hi);
         no_clean = λ c h same. u.no_clean c (omega arith)
             (Same-old c n (omega arith) (omega arith) same);
       }
@@ -83,12 +60,7 @@ module _ (n : ℕ) (L : List ℕ) (m j k : ℕ) (within : j < n) (place : length
       let f : m * n ≡ (p + 1) * n = ap (λ x. x * n) was.1 in (
         p,
         was.1,
-        λ i l. elim (cases_lt i j) [
-          | inl lt ↦ old (p * n + i) (omega arith) ∙ was.2 i lt
-              ∙ sym (old ((p + 1) * n + i) (omega arith))
-          | inr ge ↦ (let is_j : i ≡ j = omega arith in rw is_j (old (p * n + j) (omega arith)
-              ∙ same p was.1 ∙ sym (now ((p + 1) * n + j) (omega arith))))
-        ],
+        λ i l. grind (arith, old, now, was.2 i, same p was.1, cases_lt i j),
       )
 
   -- different so far, or different with the new number
