@@ -1,5 +1,5 @@
 -- What one look adds to a scan, and why a scan that ends shows one moment.
-use Rattle.std.proofs.Common.{◌≡◌, ℕ, ◌+◌, ◌-◌, ◌*◌, ◌<◌, ◌≤◌, inl, inr, List, [], ◌∷◌, ◌++◌, length, Some, slice_index}
+use Rattle.std.proofs.Common.{◌≡◌, ℕ, ◌+◌, ◌-◌, ◌*◌, ◌<◌, ◌≤◌, inl, inr, List, [], ◌∷◌, ◌++◌, length, Some, slice_index, mul-le-mul_right}
 use Rattle.std.proofs.Common.{slice_set, ap, sym, ◌∙◌, arith}
 use Rattle.std.proofs.lemmas.List.{length_push, get_or_push, get_or_append_left}
 use Rattle.std.specs.Prelude.{nat_lt, if◌then◌else◌}
@@ -7,13 +7,20 @@ use Rattle.std.proofs.{Math.Nat.mul-le-mul_left, lemmas.Bool.cases_lt, lemmas.Bo
 use Rattle.snap_history.proofs.Lists.{get-set_same, get-set_other}
 use Rattle.snap_scan.specs.Looks.{IsClean, IsBorrow, IsTurn, IsNoFall}
 use Rattle.snap_scan.specs.Collects.{Numbers, Entries, IsRising, IsKept, Collects, IsMoment, IsThen}
-use Rattle.snap_scan.proofs.{Choices.if_lt, Choices.if_ge, Places.same_segment, Verdict.Same-from_clean}
+use Rattle.snap_scan.proofs.{Choices.if_lt, Choices.if_ge, Places.same_segment, Places.pushed, Verdict.Same-from_clean}
 
 -- a borrow is from the segment of the last look
 pub same_turn : (n : ℕ) (L : List ℕ) (k i j : ℕ) → IsTurn n L j → IsBorrow n (L ++ k ∷ []) i → i ≡ j
 same_turn n L k i j turn borrowed =
     same_segment n borrowed.last.0 i turn.1.0 j borrowed.segment turn.0
     (omega (arith, turn.1.1, length_push L k, borrowed.last.1))
+
+-- less than a collect apart are looks at two segments
+apart : (n m p i j : ℕ) → p * n + i < m * n + j → m * n + j < p * n + i + n → i ≡ j → ⊥
+apart n m p i j before behind same = elim (cases_lt p m) [
+  | inl lt ↦ omega (arith, mul-le-mul_right n lt)
+  | inr ge ↦ omega (arith, mul-le-mul_right n ge)
+]
 
 module _ (A : Type 0) (n : ℕ) (number : Numbers) (entry : Entries A) (b e : ℕ) where
   -- before the first look
@@ -94,15 +101,8 @@ module _ (A : Type 0) (n : ℕ) (number : Numbers) (entry : Entries A) (b e : �
           cases_lt (p * n + i) (length L),
         );
         entries = λ p i hi l late. elim (cases_lt (p * n + i) (length L)) [
-          | inl lt ↦ elim (cases_eq i j) [
-            | inl e2 ↦ elim (cases_lt p m) [
-              | inl pm ↦ (let a : n * (p + 1) ≤ n * m = mul-le-mul_left n (omega arith) in
-                  absurd (omega (arith, len, place)))
-              | inr mp ↦ absurd (omega (arith, len, place, mul-le-mul_left n mp))
-            ]
-            | inr ne ↦ rw (was (p * n + i) lt)
-                (get-set_other latest j i _ ne ∙ c.entries p i hi lt (omega (arith, len)))
-          ]
+          | inl lt ↦ rw (was (p * n + i) lt) (get-set_other latest j i _ (apart n m p i j (omega (arith, place)) (omega (arith, len, place)))
+              ∙ c.entries p i hi lt (omega (arith, len)))
           | inr ge ↦ (
               let same : i ≡ j = same_segment n p i m j hi within (omega (arith, len, place)) in
               rw (is (p * n + i) ge, same) (get-set_same latest j _ (omega arith)))
@@ -112,16 +112,12 @@ module _ (A : Type 0) (n : ℕ) (number : Numbers) (entry : Entries A) (b e : �
     module _ (rising : IsRising number) where
       pub no_fall : (t j : ℕ) → e ≤ t → j < n → IsNoFall n L j (number t j)
       no_fall t j end l m place =
-          let early : m * n + j < length L = omega arith in
-          let until = c.until (m * n + j) early in
-          omega (arith, c.numbers m j l early, rising j (c.moment (m * n + j)) t (omega arith))
+          grind (arith, c.numbers m j l, c.until (m * n + j), rising j (c.moment (m * n + j)) t)
 
       -- the first number found for a segment is at least the one it had when the scan began
       pub first_low : (j : ℕ) → j < n → j < length L → number b j ≤ slice_index L j
       first_low j within early =
-          let at : 0 * n + j ≡ j = omega arith in
-          let low = rising j b (c.moment (0 * n + j)) (c.after (0 * n + j) (omega arith)) in
-          omega (arith, ap (slice_index L) at, c.numbers 0 j within (omega arith))
+          grind (arith, c.numbers 0 j within, rising j b (c.moment (0 * n + j)), c.after (0 * n + j))
 
       module _ (t j : ℕ) (end : e ≤ t) (turn : IsTurn n L j) (borrowed : IsBorrow n (L
           ++ number t j ∷ []) j) where
@@ -133,14 +129,7 @@ module _ (A : Type 0) (n : ℕ) (number : Numbers) (entry : Entries A) (b e : �
         -- a segment that rose by two since the scan's first look has risen by two since the scan
         -- began
         pub rose : number b j + 2 ≤ number t j
-        rose =
-            let last = last_is in
-            let moved = borrowed.moved in
-            let early : j < length L = elim (cases_lt j (length L)) [
-              | inl lt ↦ lt
-              | inr ge ↦ absurd (omega (arith, get_or_push L (number t j) 0 j (omega (arith, turn.1.1))))
-            ] in
-            omega (arith, get_or_append_left L (number t j ∷ []) 0 j early, first_low j turn.0 early)
+        rose = grind (arith, pushed, last_is, borrowed.moved, first_low j turn.0, turn.1.1)
 
         -- so the moment of its view is within the scan
         pub borrow_moment : (p : ℕ) → p ≤ t → number p j + 1 ≡ number t j
@@ -148,15 +137,11 @@ module _ (A : Type 0) (n : ℕ) (number : Numbers) (entry : Entries A) (b e : �
             → IsMoment n number b t (L ++ number t j ∷ []) p
         borrow_moment p pl before not_clean =
             record {
-              after = elim (cases_lt b p) [
-                | inl lt ↦ omega arith
-                | inr ge ↦ absurd (omega (arith, rose, rising j p b ge))
-              ];
+              after = grind (arith, rose, rising j p b);
               until = pl;
               tells = record {
                 clean = λ cl. absurd (not_clean cl);
-                borrow = λ i br. ap (λ v. number p v + 1) (same_turn n L (number t j) i j turn br)
-                    ∙ before ∙ sym last_is;
+                borrow = λ i br. grind (arith, last_is, same_turn n L (number t j) i j turn br);
               };
             }
 
@@ -169,25 +154,24 @@ module _ (A : Type 0) (n : ℕ) (number : Numbers) (entry : Entries A) (b e : �
           let long : length L ≡ (d + 2) * n = clean.rounds.1 in
           let mid = (d + 1) * n + 0 in
           let p = c.moment mid in
-          let second : (i : ℕ) → i < n
-          → slice_index L ((d + 1) * n + i) ≡ number (c.moment ((d + 1) * n + i)) i =
-          λ i l. c.numbers (d + 1) i l (omega arith) in
           let later : (i : ℕ) → i < n → p ≤ c.moment ((d + 1) * n + i) =
           λ i l. c.order mid ((d + 1) * n + i) (omega arith) (omega arith) in
           let equal : (i : ℕ) → i < n → number p i ≡ number (c.moment ((d + 1) * n + i)) i =
-          λ i l. (
-          let a = rising i (c.moment (d * n + i)) p
-          (c.order (d * n + i) mid (omega arith) (omega arith)) in
-          let z = rising i p (c.moment ((d + 1) * n + i)) (later i l) in
-          let same = Same-from_clean n L clean i l in
-          omega (arith, c.numbers d i l (omega arith), second i l)) in (
+          λ i l. grind (
+            arith,
+            rising i (c.moment (d * n + i)) p,
+            c.order (d * n + i) mid,
+            rising i p (c.moment ((d + 1) * n + i)) (later i l),
+            Same-from_clean n L clean i l,
+            c.numbers d i l,
+            c.numbers (d + 1) i l,
+          ) in (
             p,
             record {
               after = c.after mid (omega arith);
               until = c.until mid (omega arith);
               tells = record {
-                clean = λ _ i l. let at : length L - n + i ≡ (d + 1) * n + i = omega arith in
-                    rw at (equal i l ∙ sym (second i l));
+                clean = λ _ i l. grind (arith, equal i l, c.numbers (d + 1) i l);
                 borrow = λ j br. absurd (not_borrow j br);
               };
             },

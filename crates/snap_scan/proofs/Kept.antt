@@ -10,7 +10,7 @@ use Rattle.snap_scan.specs.Stands.{StandsFor, MayTell, Says, IsLooking, IsUndeci
 use Rattle.snap_scan.specs.declared.next.Next.TheVariants.{Look, Clean, Borrow}
 use Rattle.snap_scan.proofs.Tell.{low_push, rising_push, undecided_push, undecided_before, same_push, changed_push}
 use Rattle.snap_scan.specs.{Looks.IsNoFall, declared.machine.Machine.Machine, declared.next.Next.Next}
-use Rattle.snap_scan.proofs.{Choices.if_lt, Choices.if_ge, Places.same_collect, Places.same_segment, Verdict.said}
+use Rattle.snap_scan.proofs.{Choices.if_lt, Choices.if_ge, Places.same_collect, Places.same_segment, Places.pushed, Verdict.said}
 use Rattle.snap_scan.proofs.Verdict.{looks-lt}
 
 -- the number that the latest look found for the segment whose turn it is
@@ -76,48 +76,23 @@ module _ (s : Machine) (L : List ℕ) (j k : ℕ) (st : StandsFor s L) (e : s.ne
   q : IsLooking s L j
   q = said s L (Look j) st e
 
-  within : j < s.segments
-  within = q.within
-
-  place : length L ≡ q.m * s.segments + j
-  place = q.place
-
-  looks : s.looks ≡ length L
-  looks = st.looks
-
-  most : s.segments ≤ 16
-  most = st.most
-
-  long : length (L ++ k ∷ []) ≡ length L + 1
-  long = length_push L k
-
-  now : (i : ℕ) → i ≡ length L → slice_index (L ++ k ∷ []) i ≡ k
-  now i at = get_or_push L k 0 i (sym at)
-
-  old : (i : ℕ) → i < length L → slice_index (L ++ k ∷ []) i ≡ slice_index L i
-  old i l = get_or_append_left L (k ∷ []) 0 i l
-
   undecided_then : (b : ℕ) → length (L ++ k ∷ []) ≡ b + 1 → IsUndecided s.segments (L ++ k ∷ []) b
-  undecided_then = undecided_before s.segments L q.m j k within place q.undecided
+  undecided_then = undecided_before s.segments L q.m j k q.within q.place q.undecided
 
   pub StandsFor-borrow : s.segments ≤ s.looks → slice_index s.first j + 2 ≤ k
       → StandsFor (record s { looks = s.looks + 1; next = Borrow j }) (L ++ k ∷ [])
   StandsFor-borrow late far =
-      let early : j < length L = omega (arith, within, looks) in
-      let first = q.first j within early in
-      let same = old j early in
-      let last = now (length (L ++ k ∷ []) - 1) (omega (arith, long)) in
       record {
         least = st.least;
         most = st.most;
         firsts = st.firsts;
         latests = st.latests;
-        looks = omega (arith, looks, long);
+        looks = omega (arith, st.looks, length_push L k);
         says = (
           record {
-            last = (q.m, omega (arith, place, long));
-            segment = within;
-            moved = omega arith;
+            last = (q.m, omega (arith, q.place, length_push L k));
+            segment = q.within;
+            moved = grind (arith, pushed, q.first j q.within, q.within, st.looks);
           },
           undecided_then,
         );
@@ -126,27 +101,25 @@ module _ (s : Machine) (L : List ℕ) (j k : ℕ) (st : StandsFor s L) (e : s.ne
   module _ (may : MayTell s j k) (near : IsClose s j k) where
     -- in the first collect the segment has no earlier look
     at_start : s.looks < s.segments → length L ≡ j
-    at_start lt = grind (arith, place, looks)
+    at_start lt = grind (arith, q.place, st.looks)
 
     small : (j < length L) → k < slice_index L j + 2
-    small l = grind (arith, at_start, q.first j within)
+    small l = grind (arith, at_start, q.first j q.within)
 
     first_after : (i : ℕ) → i < s.segments → i < length (L ++ k ∷ [])
         → slice_index (firsts_after s j k) i ≡ slice_index (L ++ k ∷ []) i
     first_after i hi l = grind (
       arith,
       nat_tests,
+      pushed,
       at_start,
-      long,
-      looks,
-      within,
-      most,
+      st.looks,
+      q.within,
+      st.most,
       st.firsts,
       get_or-set_other {A = ℕ},
       get_or-set_same {A = ℕ},
       q.first i hi,
-      old,
-      now,
     )
 
     -- the latest numbers of the current collect, with this one
@@ -154,34 +127,33 @@ module _ (s : Machine) (L : List ℕ) (j k : ℕ) (st : StandsFor s L) (e : s.ne
         → slice_index (slice_set s.latest j k) i ≡ slice_index (L ++ k ∷ []) (q.m * s.segments + i)
     here_after i l = grind (
       arith,
-      place,
-      within,
-      most,
+      pushed,
+      q.place,
+      q.within,
+      st.most,
       st.latests,
       get_or-set_other {A = ℕ},
       get_or-set_same {A = ℕ},
       q.here i,
-      old,
-      now,
     )
 
     undecided_after : ((c : ℕ) → (c + 2) * s.segments ≡ length L + 1
         → Same s.segments (L ++ k ∷ []) c s.segments → ⊥)
         → IsUndecided s.segments (L ++ k ∷ []) (length (L ++ k ∷ []))
-    undecided_after = undecided_push s.segments L q.m j k within place q.undecided small
+    undecided_after = undecided_push s.segments L q.m j k q.within q.place q.undecided small
 
     changed_after : (f : Bool) → flag_after s j k ≡ f
         → IsChanged f s.segments (L ++ k ∷ []) q.m (j + 1)
     changed_after false off =
         let is = flag_off s.changed (slice_index s.latest j) k off in
-        same_push s.segments L q.m j k within place
+        same_push s.segments L q.m j k q.within q.place
         (subst (λ f. IsChanged f s.segments L q.m j) is.0 q.changed)
-        (λ p f. sym (q.before p j f (omega arith) within) ∙ is.1)
+        (λ p f. sym (q.before p j f (omega arith) q.within) ∙ is.1)
     changed_after true on =
-        changed_push s.segments L q.m j k within place
+        changed_push s.segments L q.m j k q.within q.place
         (elim (flag_on s.changed (slice_index s.latest j) k on) [
           | inl is ↦ inl (subst (λ f. IsChanged f s.segments L q.m j) is q.changed)
-          | inr other ↦ inr (λ p f g. other (q.before p j f (omega arith) within ∙ g))
+          | inr other ↦ inr (λ p f g. other (q.before p j f (omega arith) q.within ∙ g))
         ])
 
     -- so the machine represents the longer list, if its next step is right
@@ -193,12 +165,12 @@ module _ (s : Machine) (L : List ℕ) (j k : ℕ) (st : StandsFor s L) (e : s.ne
       most = st.most;
       firsts = grind (arith, nat_tests, length-set {A = ℕ}, st.firsts);
       latests = length-set s.latest j k ∙ st.latests;
-      looks = omega (arith, looks, long);
+      looks = omega (arith, st.looks, length_push L k);
       says = says;
     }
 
     rising_after : IsRising s.segments (L ++ k ∷ [])
-    rising_after = rising_push s.segments L q.m j k within place q.rising
+    rising_after = rising_push s.segments L q.m j k q.within q.place q.rising
         (∥∥₁_elim may (hlevel props) (λ r. same_fall s r.0 L j k r.1 st e r.2))
 
     -- the next segment of this collect
@@ -206,19 +178,16 @@ module _ (s : Machine) (L : List ℕ) (j k : ℕ) (st : StandsFor s L) (e : s.ne
         → StandsFor (record (kept s j k) { next = Look (j + 1) }) (L ++ k ∷ [])
     StandsFor-next_segment more = stands (flag_after s j k) (Look (j + 1)) (record {
       m = q.m;
-      place = omega (arith, place, long);
+      place = omega (arith, q.place, length_push L k);
       within = more;
       first = first_after;
       here = here_after;
-      before = λ p i f l hi. (
-          let g : q.m * s.segments ≡ (p + 1) * s.segments = ap (λ x. x * s.segments) f in
-          get_or-set_other s.latest j i k 0 (omega arith) ∙ q.before p i f (omega arith) hi
-          ∙ sym (old (p * s.segments + i) (omega (arith, place))));
+      before = λ p i f l hi. grind (arith, pushed, get_or-set_other {A = ℕ}, q.before p i f, q.place);
       changed = changed_after (flag_after s j k) refl;
       rising = rising_after;
       undecided = undecided_after (λ c f _. omega (
         arith,
-        same_segment s.segments q.m (j + 1) (c + 2) 0 more st.least (omega (arith, place)),
+        same_segment s.segments q.m (j + 1) (c + 2) 0 more st.least (omega (arith, q.place)),
       ));
     })
 
@@ -230,7 +199,7 @@ module _ (s : Machine) (L : List ℕ) (j k : ℕ) (st : StandsFor s L) (e : s.ne
         (StandsFor (record (kept s j k) { next = Clean }) (L ++ k ∷ []))
     StandsFor-end_collect full = by_flag (flag_after s j k) refl where
       last : j + 1 ≡ s.segments
-      last = omega (arith, within)
+      last = omega (arith, q.within)
 
       by_flag : (f : Bool) → flag_after s j k ≡ f
           → MatchBool f
@@ -238,7 +207,7 @@ module _ (s : Machine) (L : List ℕ) (j k : ℕ) (st : StandsFor s L) (e : s.ne
           (StandsFor (record (kept s j k) { next = Clean }) (L ++ k ∷ []))
       by_flag true on = stands false (Look 0) (record {
         m = q.m + 1;
-        place = omega (arith, place, long, last);
+        place = omega (arith, q.place, length_push L k, last);
         within = st.least;
         first = first_after;
         here = λ i l. absurd (omega arith);
@@ -248,26 +217,20 @@ module _ (s : Machine) (L : List ℕ) (j k : ℕ) (st : StandsFor s L) (e : s.ne
         rising = rising_after;
         undecided = undecided_after (λ c f g.
             let d = same_collect s.segments (q.m + 1) 0 (c + 2) 0 st.least st.least
-            (omega (arith, place, last)) in
+            (omega (arith, q.place, last)) in
             changed_after true on c (omega arith) (λ i l. g i (omega (arith, last))));
       })
       by_flag false off =
           let was = changed_after false off in
-          let before : q.m * s.segments ≡ (was.0 + 1) * s.segments =
-          ap (λ x. x * s.segments) was.1 in
+          let before = ap (λ x. x * s.segments) was.1 in
           let len : length (L ++ k ∷ []) ≡ (was.0 + 2) * s.segments =
-          omega (arith, place, long, last) in
+          omega (arith, q.place, length_push L k, last) in
           stands (flag_after s j k) Clean (
             record {
               rounds = (was.0, len);
-              same = λ i l. (
-                  let a : length (L ++ k ∷ []) - 2 * s.segments + i ≡ was.0 * s.segments + i =
-                  omega arith in
-                  let b : length (L ++ k ∷ []) - s.segments + i ≡ (was.0 + 1) * s.segments + i =
-                  omega arith in
-                  rw (a, b) (was.2 i (omega (arith, last))));
+              same = λ i l. grind (arith, was.2 i, last);
             },
-            low_push s.segments L q.m j k within place q.undecided.low small,
+            low_push s.segments L q.m j k q.within q.place q.undecided.low small,
             undecided_then,
           )
 

@@ -4,30 +4,21 @@ use Rattle.std.proofs.Common.{slice_index, ap, sym, ◌∙◌, arith}
 use Rattle.std.proofs.lemmas.List.{length_push, get_or_push, get_or_append_left}
 use Rattle.std.proofs.lemmas.Bool.{cases_lt}
 use Rattle.snap_scan.specs.Stands.{IsUndecided, IsRising, AllLow, Same, IsChanged}
-use Rattle.snap_scan.{specs.Looks.IsNoFall, proofs.Places.same_segment}
+use Rattle.snap_scan.{specs.Looks.IsNoFall, proofs.Places.same_segment, proofs.Places.pushed}
 
 module _ (n : ℕ) (L : List ℕ) (m j k : ℕ) (within : j < n) (place : length L ≡ m * n + j) where
-  now : (i : ℕ) → i ≡ length L → slice_index (L ++ k ∷ []) i ≡ k
-  now i e = get_or_push L k 0 i (sym e)
-
-  old : (i : ℕ) → i < length L → slice_index (L ++ k ∷ []) i ≡ slice_index L i
-  old i l = get_or_append_left L (k ∷ []) 0 i l
-
-  long : length (L ++ k ∷ []) ≡ length L + 1
-  long = length_push L k
-
   pub low_push : AllLow n L (length L) → ((j < length L) → k < slice_index L j + 2)
       → AllLow n (L ++ k ∷ []) (length (L ++ k ∷ []))
   low_push low small p i hi lt =
-      grind (arith, long, old, now, low p i hi, same_segment n p i m j hi within)
+      grind (arith, pushed, low p i hi, same_segment n p i m j hi within)
 
   pub rising_push : IsRising n L → IsNoFall n L j k → IsRising n (L ++ k ∷ [])
   rising_push rising fall p i hi lt =
-      grind (arith, long, old, now, rising p i hi, same_segment n (p + 1) i m j hi within, fall p)
+      grind (arith, pushed, rising p i hi, same_segment n (p + 1) i m j hi within, fall p)
 
   pub Same-old : (p t : ℕ) → t ≤ n → (p + 1) * n + t ≤ length L → Same n (L ++ k ∷ []) p t
       → Same n L p t
-  Same-old p t tn h same i l = grind (arith, old (p * n + i), same i l, old ((p + 1) * n + i))
+  Same-old p t tn h same i l = grind (arith, pushed, same i l)
 
   pub undecided_push : IsUndecided n L (length L) → ((j < length L) → k < slice_index L j + 2)
       → ((c : ℕ) → (c + 2) * n ≡ length L + 1 → Same n (L ++ k ∷ []) c n → ⊥)
@@ -35,7 +26,7 @@ module _ (n : ℕ) (L : List ℕ) (m j k : ℕ) (within : j < n) (place : length
   undecided_push u small fresh = record {
     low = low_push u.low small;
     no_clean = λ c h same. elim (cases_lt (length L) ((c + 2) * n)) [
-      | inl lt ↦ fresh c (omega (arith, long)) same
+      | inl lt ↦ fresh c (omega (arith, length_push L k)) same
       | inr le ↦ u.no_clean c le (Same-old c n (omega arith) (omega arith) same)
     ];
   }
@@ -44,9 +35,9 @@ module _ (n : ℕ) (L : List ℕ) (m j k : ℕ) (within : j < n) (place : length
   pub undecided_before : IsUndecided n L (length L) → (b : ℕ) → length (L ++ k ∷ []) ≡ b + 1
       → IsUndecided n (L ++ k ∷ []) b
   undecided_before u b e =
-      let at : b ≡ length L = omega (arith, long) in
+      let at : b ≡ length L = omega (arith, length_push L k) in
       record {
-        low = λ p i hi lt. grind (arith, old, u.low p i hi);
+        low = λ p i hi lt. grind (arith, pushed, u.low p i hi);
         no_clean = λ c h same. u.no_clean c (omega arith)
             (Same-old c n (omega arith) (omega arith) same);
       }
@@ -56,12 +47,7 @@ module _ (n : ℕ) (L : List ℕ) (m j k : ℕ) (within : j < n) (place : length
       → ((p : ℕ) → m ≡ p + 1 → slice_index L (p * n + j) ≡ k)
       → IsChanged false n (L ++ k ∷ []) m (j + 1)
   same_push was same =
-      let p = was.0 in
-      let f : m * n ≡ (p + 1) * n = ap (λ x. x * n) was.1 in (
-        p,
-        was.1,
-        λ i l. grind (arith, old, now, was.2 i, same p was.1, cases_lt i j),
-      )
+      (was.0, was.1, λ i l. grind (arith, pushed, was.2 i, same was.0 was.1, cases_lt i j))
 
   -- different so far, or different with the new number
   pub changed_push : IsChanged true n L m j
@@ -71,6 +57,5 @@ module _ (n : ℕ) (L : List ℕ) (m j k : ℕ) (within : j < n) (place : length
       let f : m * n ≡ (p + 1) * n = ap (λ x. x * n) e in
       elim why [
         | inl was ↦ was p e (Same-old p j (omega arith) (omega arith) (λ i l. same i (omega arith)))
-        | inr other ↦ other p e (sym (old (p * n + j) (omega arith)) ∙ same j (omega arith)
-            ∙ now ((p + 1) * n + j) (omega arith))
+        | inr other ↦ other p e (grind (arith, pushed, same j))
       ]
