@@ -3,11 +3,12 @@ use Rattle.std.proofs.Common.{◌≡◌, ℕ, ◌+◌, ◌-◌, ◌*◌, ◌<◌
 use Rattle.std.proofs.Common.{slice_set, ap, sym, ◌∙◌, arith}
 use Rattle.std.proofs.lemmas.List.{length_push, get_or_push, get_or_append_left}
 use Rattle.std.specs.Prelude.{nat_lt, if◌then◌else◌}
-use Rattle.std.proofs.{Math.Nat.mul-le-mul_left, lemmas.Bool.cases_lt, lemmas.Bool.cases_eq}
+use Rattle.std.proofs.{lemmas.Bool.cases_lt}
 use Rattle.snap_history.proofs.Lists.{get-set_same, get-set_other}
 use Rattle.snap_scan.specs.Looks.{IsClean, IsBorrow, IsTurn, IsNoFall}
+use Rattle.std.proofs.lemmas.Bool.Decides.{nat_tests}
 use Rattle.snap_scan.specs.Collects.{Numbers, Entries, IsRising, IsKept, Collects, IsMoment, IsThen}
-use Rattle.snap_scan.proofs.{Choices.if_lt, Choices.if_ge, Places.same_segment, Places.pushed, Verdict.Same-from_clean}
+use Rattle.snap_scan.proofs.{Places.same_segment, Places.pushed, Verdict.Same-from_clean}
 
 -- a borrow is from the segment of the last look
 pub same_turn : (n : ℕ) (L : List ℕ) (k i j : ℕ) → IsTurn n L j → IsBorrow n (L ++ k ∷ []) i → i ≡ j
@@ -75,11 +76,11 @@ module _ (A : Type 0) (n : ℕ) (number : Numbers) (entry : Entries A) (b e : �
 
       was : (s : ℕ) → s < length L → moment2 s ≡ c.moment s
       unfolding moment2
-      was s l = if_lt s (length L) (c.moment s) t l
+      was s l = grind (arith, nat_tests)
 
       is : (s : ℕ) → length L ≤ s → moment2 s ≡ t
       unfolding moment2
-      is s l = if_ge s (length L) (c.moment s) t l
+      is s l = grind (arith, nat_tests)
 
       -- one look more
       pub Collects-push : b ≤ t → length latest ≡ n

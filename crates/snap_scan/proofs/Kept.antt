@@ -1,16 +1,16 @@
 -- The machine after one more number represents the list with that number.
-use Rattle.std.proofs.Common.{◌≡◌, ◌≢◌, ℕ, ◌+◌, ◌-◌, ◌*◌, ◌<◌, ◌≤◌, ◌⊎◌, inl, inr, Bool, true, false, List, [], ◌∷◌}
+use Rattle.std.proofs.Common.{◌≡◌, ◌≢◌, ℕ, ◌+◌, ◌*◌, ◌<◌, ◌≤◌, ◌⊎◌, inl, inr, Bool, true, false, List, [], ◌∷◌}
 use Rattle.std.proofs.Common.{◌++◌, length, slice_index, slice_set, refl, ap, sym, ◌∙◌, subst, arith}
 use Rattle.std.specs.Prelude.{nat_lt, IsTrue, MatchBool, ◌↔◌, not, ◌==◌, ◌||◌, if◌then◌else◌}
-use Rattle.std.proofs.lemmas.List.{length_push, get_or_push, get_or_append_left, get_or-set_same, get_or-set_other}
+use Rattle.std.proofs.lemmas.List.{length_push, get_or-set_same, get_or-set_other}
 use Rattle.std.proofs.lemmas.List.{length-set}
-use Rattle.std.proofs.lemmas.Bool.{cases_lt, cases_eq}
+use Rattle.std.proofs.lemmas.Bool.{cases_lt}
 use Rattle.std.proofs.{Math.Logic.∥∥₁_elim, Math.Nat.mul-le-mul_left, Props.props, lemmas.Bool.Decides.nat_tests}
 use Rattle.snap_scan.specs.Stands.{StandsFor, MayTell, Says, IsLooking, IsUndecided, IsRising, Same, IsChanged}
 use Rattle.snap_scan.specs.declared.next.Next.TheVariants.{Look, Clean, Borrow}
 use Rattle.snap_scan.proofs.Tell.{low_push, rising_push, undecided_push, undecided_before, same_push, changed_push}
 use Rattle.snap_scan.specs.{Looks.IsNoFall, declared.machine.Machine.Machine, declared.next.Next.Next}
-use Rattle.snap_scan.proofs.{Choices.if_lt, Choices.if_ge, Places.same_collect, Places.same_segment, Places.pushed, Verdict.said}
+use Rattle.snap_scan.proofs.{Places.same_collect, Places.same_segment, Places.pushed, Verdict.said}
 use Rattle.snap_scan.proofs.Verdict.{looks-lt}
 
 -- the number that the latest look found for the segment whose turn it is

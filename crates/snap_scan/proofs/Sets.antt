@@ -96,8 +96,7 @@ up_to_push k xs up = record {
   count = omega (arith, length_push xs k, up.count);
   each = λ p l. elim (cases_lt p k) [
     | inl lt ↦ get-append_left xs (k ∷ []) p (omega (arith, up.count)) ∙ up.each p lt
-    | inr ge ↦ (let at : p ≡ length xs = omega (arith, up.count) in
-        ap (slice_get (xs ++ k ∷ [])) at ∙ get-append_last xs k ∙ ap Some (omega (arith, up.count)))
+    | inr ge ↦ (let at : p ≡ k = omega arith in rw (at, ← up.count) (get-append_last xs (length xs)))
   ];
 }
 

@@ -12,23 +12,14 @@ use Rattle.snap_scan.proofs.{Places.same_segment, Sets.at_some, Sets.at_is}
 
 -- the last two collects of a clean list are equal
 pub Same-from_clean : (n : ℕ) (L : List ℕ) (clean : IsClean n L) → Same n L clean.rounds.0 n
-Same-from_clean n L clean i l =
-    let c = clean.rounds.0 in
-    let e : length L ≡ (c + 2) * n = clean.rounds.1 in
-    let a : length L - 2 * n + i ≡ c * n + i = omega arith in
-    let b : length L - n + i ≡ (c + 1) * n + i = omega arith in
-    sym (ap (slice_index L) a) ∙ clean.same i l ∙ ap (slice_index L) b
+Same-from_clean n L clean i l = grind (arith, clean.same i l, clean.rounds.1)
 
 not_clean : (n : ℕ) (L : List ℕ) → IsUndecided n L (length L) → IsClean n L → ⊥
 not_clean n L u clean =
     u.no_clean clean.rounds.0 (omega (arith, clean.rounds.1)) (Same-from_clean n L clean)
 
 not_borrow : (n : ℕ) (L : List ℕ) (j : ℕ) → AllLow n L (length L) → IsBorrow n L j → ⊥
-not_borrow n L j low b =
-    let m = b.last.0 in
-    let e : length L ≡ m * n + j + 1 = b.last.1 in
-    let at : length L - 1 ≡ m * n + j = omega arith in
-    omega (arith, low m j b.segment (omega arith), ap (slice_index L) at, b.moved)
+not_borrow n L j low b = grind (arith, low b.last.0 j b.segment, b.last.1, b.moved)
 
 borrow_not_clean : (n : ℕ) (L : List ℕ) (j : ℕ) → 0 < n → IsBorrow n L j → IsFirst n L
     → IsClean n L → ⊥
@@ -38,11 +29,9 @@ borrow_not_clean n L j pos b before clean =
     let e : length L ≡ (c + 2) * n = clean.rounds.1 in
     let f : length L ≡ m * n + j + 1 = b.last.1 in
     let within : n - 1 < n = omega arith in
-    let j-is : j ≡ n - 1 = same_segment n m j (c + 1) (n - 1) b.segment within (omega arith) in
-    let at : length L - 1 ≡ (c + 1) * n + (n - 1) = omega arith in
     let small = (before (m * n + j) f).low c (n - 1) within (omega arith) in
     let same = Same-from_clean n L clean (n - 1) within in
-    omega (arith, ap (slice_index L) at, ap (slice_index L) j-is, b.moved)
+    grind (arith, same_segment n m j (c + 1) (n - 1) b.segment within (omega arith), b.moved)
 
 same_borrow : (n : ℕ) (L : List ℕ) (j k : ℕ) → IsBorrow n L j → IsBorrow n L k → j ≡ k
 same_borrow n L j k a b =
@@ -69,9 +58,7 @@ total-lt n L c up u h =
 
 total-cap : (n : ℕ) (L : List ℕ) (m : ℕ) → IsUndecided n L (length L) → (m + 1) * n ≤ length L
     → total n L m ≤ total n L 0 + n * 1
-total-cap n L m u h =
-    sum_cap _ _ 1 n (λ i l. let low = u.low m i l (omega arith) in
-    let first = ap (slice_index L) (let at : 0 * n + i ≡ i = omega arith in at) in omega arith)
+total-cap n L m u h = sum_cap _ _ 1 n (λ i l. grind (arith, u.low m i l))
 
 total-rises : (n : ℕ) (L : List ℕ) (m : ℕ) → IsRising n L → IsUndecided n L (length L)
     → (m + 1) * n ≤ length L → total n L 0 + m ≤ total n L m
@@ -105,12 +92,8 @@ undecided_at : (n : ℕ) (L : List ℕ) (b k : ℕ) → IsUndecided n L b → k 
 undecided_at n L b k u kb bl =
     let len = length-take-le k L (omega arith) in
     none_of n (take k L) (record {
-      low = λ m i hi lt.
-          let at = get_or-take k L (m * n + i) 0 (omega arith) in
-          omega (arith, u.low m i hi (omega arith), get_or-take k L i 0 (omega arith));
-      no_clean = λ c h same. u.no_clean c (omega arith) (λ i l.
-          sym (get_or-take k L (c * n + i) 0 (omega arith)) ∙ same i l
-          ∙ get_or-take k L ((c + 1) * n + i) 0 (omega arith));
+      low = λ m i hi lt. grind (arith, u.low m i hi, get_or-take {A = ℕ});
+      no_clean = λ c h same. u.no_clean c (omega arith) (λ i l. grind (arith, same i l, get_or-take {A = ℕ}));
     })
 
 first_of : (n : ℕ) (L : List ℕ) → IsFirst n L → (k : ℕ) → k < length L → IsDecided n (take k L) → ⊥
@@ -120,7 +103,7 @@ first_of n L first k l = undecided_at n L (length L - 1) k (first (length L - 1)
 -- the machine's next place, as a segment of its set
 pub at_look : (set j : ℕ) (v : Next) → next_at set v ≡ Look j
     → (p : ℕ) × (v ≡ Look p) × (slice_index (named set) p ≡ j)
-at_look set j (Look p) e = (p, refl, (let same : slice_index (named set) p ≡ j = cc in same))
+at_look set j (Look p) e = (p, refl, cc)
 at_look set j Clean e = cc
 at_look set j (Borrow p) e = cc
 
@@ -159,7 +142,7 @@ module _ (set : ℕ) (s : Machine) (L : List ℕ) (count : s.segments ≡ size s
     );
     look = λ j e. (
       p,
-      at_place p j q.within (let is : slice_index (named set) p ≡ j = cc in is),
+      at_place p j q.within cc,
       subst (λ n. IsTurn n L p) count (q.within, (q.m, q.place)),
     );
     bound = λ j e. subst (λ n. length L < most_looks n) count (looks-lt s L p q);
@@ -181,8 +164,8 @@ module _ (set : ℕ) (s : Machine) (L : List ℕ) (count : s.segments ≡ size s
     borrow = λ j. (
       λ e. (
         p,
-        at_place p j q.0.segment (let is : slice_index (named set) p ≡ j = cc in is),
-        subst (λ n. IsBorrow n L p) count q.0,
+        at_place p j q.0.segment cc,
+        rw count at q.0,
       ),
       λ b. ap (λ v. Borrow (slice_index (named set) v))
           (same_borrow s.segments L p b.0 q.0 (borrow_here b.0 b.2))
