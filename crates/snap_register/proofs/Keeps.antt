@@ -66,21 +66,10 @@ register_stays {p} {h} {h'} {ws} {ws'} {vs} {vs'} {i} {d} {x} words pins lefts l
     let few = other d.current d.found_pinned in
     let beyonds : total (beyond i few d.current) vs' ≡ total (beyond i few d.current) vs =
     pins (far few d.current) (far_none few d.current 0 (omega arith)) in
-    record {
-      word = words.word ∙ r.word;
-      current = r.current;
-      number = omega (arith, ap length line);
-      balance = λ b lb. omega (arith, ons b);
-      wears = omega arith;
-      free_buffer = λ lt. omega (arith, ons d.free_buffer);
-      found_pinned = omega arith;
-      counts = r.counts;
-      short = r.short;
-      draft = omega arith;
-      latest = subst (λ (l : List Entry). Holds p ws' i d.current
-          (get_or (entry i (start_at p i).words ∷ l) (length l) (entry i [])).words) (sym line)
-          (λ q lq lw. words.cells d.current q r.current lq ∙ r.latest q lq lw);
-    }
+    let latest = subst (λ (l : List Entry). Holds p ws' i d.current
+    (get_or (entry i (start_at p i).words ∷ l) (length l) (entry i [])).words) (sym line)
+    (λ q lq lw. words.cells d.current q r.current lq ∙ r.latest q lq lw) in
+    grind (arith, ap length line)
 
 -- a register whose words don't change, when one view changes but not its pin there
 pub register_beside : {p : Plan} {h h' : List Entry} {ws ws' : List ℕ} {vs : List SeatView} {i : ℕ}
@@ -315,31 +304,17 @@ module _ (S : Type 0) where
       λ i b q. get_or-set_other s.words j (cell p i b q) y 0 (apart i b q) in
       let less_left : total (λ u. u.left) vs + 1 ≡ total (λ u. u.left) s.views =
       omega (arith, total_set (λ u. u.left) s.views id v w at) in
+      let sums : (b : ℕ) → total (on j b) vs + on j b v ≡ total (on j b) s.views + on j b w =
+      λ b. total_set (on j b) s.views id v w at in
       let own : Register p h ws vs j d (x + 1) = record {
         word = get_or-set_same s.words j y 0 (omega (arith, k.wide)) ∙ omega (arith, r.word);
         current = r.current;
         number = r.number;
-        balance = λ b lb. grind (
-          arith,
-          nat_tests,
-          r.balance b lb,
-          total_set (on j b) s.views id v w at,
-          get_or-set_other s.words j (given p j b) y 0,
-        );
+        balance = λ b lb. grind (arith, nat_tests, r.balance b lb, sums b, get_or-set_other {A = ℕ});
         wears = λ b lb. grind (arith, nat_tests, r.wears b lb);
-        free_buffer = λ lt. grind (
-          arith,
-          nat_tests,
-          r.free_buffer lt,
-          total_set (on j d.free_buffer) s.views id v w at,
-        );
+        free_buffer = λ lt. grind (arith, nat_tests, r.free_buffer lt, sums d.free_buffer);
         found_pinned = let t = other d.current d.found_pinned in
-            omega (
-              arith,
-              r.found_pinned,
-              total_set (beyond j t d.current) s.views id v w at,
-              far_here t d.current (get_or w.pins j 0) pin,
-            );
+            grind (arith, nat_tests, r.found_pinned, total_set (beyond j t d.current) s.views id v w at);
         counts = r.counts;
         short = r.short;
         draft = λ q lt lq. cells j d.free_buffer q ∙ r.draft q lt lq;
@@ -401,27 +376,17 @@ module _ (S : Type 0) where
       let gone : get_or w.pins j 0 ≡ 0 = get_or-set_same v.pins j 0 0 wide_pins in
       let elsewhere : (i : ℕ) → i ≢ j → get_or v.pins i 0 ≡ get_or w.pins i 0 =
       λ i ne. sym (get_or-set_other v.pins j i 0 0 ne) in
+      let sums : (b : ℕ) → total (on j b) vs + on j b v ≡ total (on j b) s.views + on j b w =
+      λ b. total_set (on j b) s.views id v w at in
       let own : Register p h ws vs j d x = record {
         word = get_or-set_other s.words at_b j y 0 (given_behind p j b j lj) ∙ r.word;
         current = r.current;
         number = r.number;
-        balance = λ a la. grind (
-          arith,
-          nat_tests,
-          r.balance a la,
-          total_set (on j a) s.views id v w at,
-          get_or-set_other s.words at_b (given p j a) y 0,
-        );
+        balance = λ a la. grind (arith, nat_tests, r.balance a la, sums a, get_or-set_other {A = ℕ});
         wears = λ a la. omega (arith, r.wears a la, total_same (λ u. u.left) s.views id v w at refl);
-        free_buffer = λ lt.
-            omega (arith, r.free_buffer lt, total_set (on j d.free_buffer) s.views id v w at, on_not j d.free_buffer w);
+        free_buffer = λ lt. grind (arith, nat_tests, r.free_buffer lt, sums d.free_buffer);
         found_pinned = let t = other d.current d.found_pinned in
-            omega (
-              arith,
-              r.found_pinned,
-              total_set (beyond j t d.current) s.views id v w at,
-              far_none t d.current (get_or w.pins j 0) (omega arith),
-            );
+            grind (arith, nat_tests, r.found_pinned, total_set (beyond j t d.current) s.views id v w at);
         counts = r.counts;
         short = r.short;
         draft = λ q lt lq. cells j d.free_buffer q ∙ r.draft q lt lq;

@@ -3,15 +3,6 @@ use Rattle.std.specs.Prelude.{replicate}
 use Rattle.std.proofs.lemmas.{List.drop-replicate, Slice.take-put_mid, Slice.drop-put_mid}
 use Rattle.snap_register.proofs.words.tail_word.Goals as goal
 
-pub returns-clause-front : goal.returns-clause-front
-returns-clause-front c =
-    let n : ℕ = length c.args.bytes.now in
-    ap (take n) c.word_of.ensures
-    ∙ (take-put_mid 0 _ (replicate 8 0) c.copy_from_slice.new.self n
-    (let e : length c.copy_from_slice.new.self ≡ n =
-    ap length c.copy_from_slice.ensures.after in omega arith) (omega arith)
-    ∙ c.copy_from_slice.ensures.after)
-
 pub returns-clause-zeros : goal.returns-clause-zeros
 returns-clause-zeros c =
     let n : ℕ = length c.args.bytes.now in
