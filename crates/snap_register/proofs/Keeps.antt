@@ -306,20 +306,10 @@ module _ (S : Type 0) where
       omega (arith, total_set (λ u. u.left) s.views id v w at) in
       let sums : (b : ℕ) → total (on j b) vs + on j b v ≡ total (on j b) s.views + on j b w =
       λ b. total_set (on j b) s.views id v w at in
-      let own : Register p h ws vs j d (x + 1) = record {
-        word = get_or-set_same s.words j y 0 (omega (arith, k.wide)) ∙ omega (arith, r.word);
-        current = r.current;
-        number = r.number;
-        balance = λ b lb. grind (arith, nat_tests, r.balance b lb, sums b, get_or-set_other {A = ℕ});
-        wears = λ b lb. grind (arith, nat_tests, r.wears b lb);
-        free_buffer = λ lt. grind (arith, nat_tests, r.free_buffer lt, sums d.free_buffer);
-        found_pinned = let t = other d.current d.found_pinned in
-            grind (arith, nat_tests, r.found_pinned, total_set (beyond j t d.current) s.views id v w at);
-        counts = r.counts;
-        short = r.short;
-        draft = λ q lt lq. cells j d.free_buffer q ∙ r.draft q lt lq;
-        latest = λ q lq lw. cells j d.current q ∙ r.latest q lq lw;
-      } in
+      let t = other d.current d.found_pinned in
+      let beyonds = total_set (beyond j t d.current) s.views id v w at in
+      let word = get_or-set_same s.words j y 0 (omega (arith, k.wide)) in
+      let own : Register p h ws vs j d (x + 1) = grind (arith, nat_tests, get_or-set_other {A = ℕ}) in
       let elsewhere : (i : ℕ) → i ≢ j → get_or v.pins i 0 ≡ get_or w.pins i 0 =
       λ i ne. sym (get_or-set_other v.pins j i (get_or s.words j 0 / 2 ^ 56 + 1) 0 ne) in
       let there : Pinned p h ws j d.current (get_or w.records j 0) =
@@ -378,20 +368,11 @@ module _ (S : Type 0) where
       λ i ne. sym (get_or-set_other v.pins j i 0 0 ne) in
       let sums : (b : ℕ) → total (on j b) vs + on j b v ≡ total (on j b) s.views + on j b w =
       λ b. total_set (on j b) s.views id v w at in
-      let own : Register p h ws vs j d x = record {
-        word = get_or-set_other s.words at_b j y 0 (given_behind p j b j lj) ∙ r.word;
-        current = r.current;
-        number = r.number;
-        balance = λ a la. grind (arith, nat_tests, r.balance a la, sums a, get_or-set_other {A = ℕ});
-        wears = λ a la. omega (arith, r.wears a la, total_same (λ u. u.left) s.views id v w at refl);
-        free_buffer = λ lt. grind (arith, nat_tests, r.free_buffer lt, sums d.free_buffer);
-        found_pinned = let t = other d.current d.found_pinned in
-            grind (arith, nat_tests, r.found_pinned, total_set (beyond j t d.current) s.views id v w at);
-        counts = r.counts;
-        short = r.short;
-        draft = λ q lt lq. cells j d.free_buffer q ∙ r.draft q lt lq;
-        latest = λ q lq lw. cells j d.current q ∙ r.latest q lq lw;
-      } in
+      let t = other d.current d.found_pinned in
+      let beyonds = total_set (beyond j t d.current) s.views id v w at in
+      let lefts = total_same (λ u. u.left) s.views id v w at refl in
+      let word = get_or-set_other s.words at_b j y 0 (given_behind p j b j lj) in
+      let own : Register p h ws vs j d x = grind (arith, nat_tests, get_or-set_other {A = ℕ}) in
       let not_here : (i : ℕ) → 0 < get_or w.pins i 0 → i ≢ j = λ i some_pin e. omega (arith, gone, rw e at some_pin) in (
         w,
         pin_step k id w at refl j at_b y x (le_refl v.left)

@@ -186,19 +186,18 @@ module _ (p : Plan) (ready : IsReady p) where
     shares = omega arith;
     few = ready.few;
     legal = legal_none p;
-    registers = λ i li. record {
-      word = zero_at i (omega arith);
-      current = omega arith;
-      number = omega (arith, (ready.each i li).1);
-      balance = λ b lb. grind (arith, nat_tests, none_counted b, zero_given i b li lb, no_pin i);
-      wears = λ b lb. omega (arith, none_counted b, ready.looks);
-      free_buffer = λ lt. absurd (omega arith);
-      found_pinned = grind (arith, nat_tests, no_pin i);
-      counts = length-replicate (buffers p) 0;
-      short = omega arith;
-      draft = λ q lt lq. absurd (omega arith);
-      latest = λ q lq lw. record_at i q li lq;
-    };
+    registers = λ i li. grind (
+      arith,
+      nat_tests,
+      length-replicate {A = ℕ},
+      none_counted,
+      zero_given i,
+      no_pin i,
+      zero_at i,
+      record_at i,
+      ready.each i li,
+      ready.looks,
+    );
     each_seat = seated;
   }
 

@@ -121,29 +121,15 @@ module _ (S : Type 0) where
         let apart = (r.free_buffer free).0 in
         let long = length-append l (y ∷ []) in
         let there = cell_inside p i d.free_buffer n inside free short in
+        let word = get_or-set_other s.words at_n i y 0 (cell_behind p i d.free_buffer n i inside) in
+        let last = get_or-set_same s.words at_n y 0 (omega (arith, k.wide)) in
+        let givens : (b : ℕ) → b < buffers p → get_or ws (given p i b) 0 ≡ get_or s.words (given p i b) 0 =
+        λ b lb. get_or-set_other s.words at_n _ y 0 (given_cell p i b i d.free_buffer n inside lb) in
         rw place (pool_step ws v.seen k.history e (k.pinned i) (length-set s.words at_n y)
         (prefix_self k.history) k.legal known.seen all (λ a ne. refl)
         (λ a la ne. words_beside s.words at_n y a (cell_apart p a i d.free_buffer n la free short ne))
         (λ b q lb lq ne. cells b q lb lq (λ e _. ne e))
-        record {
-          word = get_or-set_other s.words at_n i y 0 (cell_behind p i d.free_buffer n i inside) ∙ r.word;
-          current = r.current;
-          number = r.number;
-          balance = λ b lb. rw (get_or-set_other s.words at_n (given p i b) y 0
-              (given_cell p i b i d.free_buffer n inside lb)) (r.balance b lb);
-          wears = r.wears;
-          free_buffer = r.free_buffer;
-          found_pinned = r.found_pinned;
-          counts = r.counts;
-          short = omega arith;
-          draft = λ q lt lq. dite (ℕ_discrete q n)
-              (λ last. rw last (get_or-set_same s.words at_n y 0 (omega (arith, k.wide))
-              ∙ sym (get_or_push l y 0 n refl)))
-              (λ not_last. cells d.free_buffer q free (omega arith) (λ _ e. not_last e)
-              ∙ (r.draft q free (omega arith)
-              ∙ (same q (omega arith) ∙ sym (get_or_append_left l (y ∷ []) 0 q (omega arith)))));
-          latest = λ q lq lw. cells d.current q r.current lq (λ e _. apart (sym e)) ∙ r.latest q lq lw;
-        })
+        (grind (arith, get_or_push, get_or_append_left)))
 
   pub checks : (p : Plan) (slots id : ℕ) (m : M) (i c : ℕ) → m.0.spent ≡ false → IsWriter m.0 i
       → i < segments m.0.plan → next_other m.0.pool < buffers m.0.plan
