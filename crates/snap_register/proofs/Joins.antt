@@ -71,9 +71,7 @@ module _ (S : Type 0) where
       over k writer (set s.views id a ++ b ∷ [])
       (omega (arith, cut (λ u. u.pin_quota) s.views id v a b at))
       (omega (arith, cut (λ u. u.left) s.views id v a b at))
-      (λ i f none. let e = cut (λ u. f (get_or u.pins i 0)) s.views id v a b at in
-      let same : f (get_or a.pins i 0) ≡ f (get_or v.pins i 0) = ap f (pins i) in
-      let new : f (get_or b.pins i 0) ≡ 0 = ap f (bare i) ∙ none in omega arith)
+      (λ i f none. grind (arith, cut (λ u. f (get_or u.pins i 0)) s.views id v a b at, pins i, bare i))
       (λ j u e. ⊎_elim (seats_stay S K s.views id a first others j u)
       (λ t. rw (t.0 ∙ length-set s.views id a, ← t.1) second)
       (at_end (set s.views id a) b u j e))
@@ -178,8 +176,7 @@ module _ (S : Type 0) where
       let sums = λ (f : SeatView → ℕ). bound f s.views id other v u a spent at there in
       over k k.writer (set (set s.views id a) other spent)
       (omega (arith, sums (λ x. x.pin_quota))) (omega (arith, sums (λ x. x.left)))
-      (λ i f none. let e = sums (λ x. f (get_or x.pins i 0)) in
-      let left_out : f (get_or u.pins i 0) ≡ 0 = ap f (bare i) ∙ none in omega arith)
+      (λ i f none. grind (arith, sums (λ x. f (get_or x.pins i 0)), bare i))
       (seats_stay S K (set s.views id a) other spent
       record {
         plan = λ e. absurd cc;

@@ -18,14 +18,9 @@ pub prefix_trans : {A : Type 0} (xs ys zs : List A) → IsPrefix xs ys → IsPre
 prefix_trans xs ys zs p q =
     (p.0 ++ q.0, sym (append_assoc xs p.0 q.0) ∙ (ap (λ w. w ++ q.0) p.1 ∙ q.1))
 
-both : {A : Type 0} (t : Bool) (x : A) (a b c : List A) → a ≡ b ++ c
-    → cond t (x ∷ a) a ≡ cond t (x ∷ b) b ++ c
-both true x a b c e = ap (λ w. x ∷ w) e
-both false x a b c e = e
-
 pub only-append : (i : ℕ) (a b : List Entry) → only i (a ++ b) ≡ only i a ++ only i b
 only-append i [] b = refl
-only-append i (x ∷ xs) b = both (x.segment == i) x _ _ _ (only-append i xs b)
+only-append i (x ∷ xs) b = grind (arith, nat_tests, only-append i xs b)
 
 -- one entry in front, of this segment or of another
 only_first : (i : ℕ) (x : Entry) (h : List Entry) → x.segment ≡ i → only i (x ∷ h) ≡ x ∷ only i h
@@ -65,19 +60,12 @@ count_prefix i a h p = omega (arith, count_rest i a h p)
 pub record_prefix : (p : Plan) (a h : List Entry) (i r : ℕ) → IsPrefix a h → r ≤ count i a
     → record_words p h i r ≡ record_words p a i r
 record_prefix p a h i r pre le =
-    ap (λ (l : List Entry). (get_or (entry i (start_at p i).words ∷ l) r (entry i [])).words)
-    (ap (only i) (sym pre.1) ∙ only-append i a pre.0)
-    ∙ ap (λ (e : Entry). e.words)
-    (get_or_append_left (line p a i) (only i pre.0) (entry i []) r (omega arith))
+    grind (arith, only-append i a pre.0, pre.1, get_or_append_left)
 
 -- the record of the last update
 pub record_last : (p : Plan) (h : List Entry) (i : ℕ) (ws : List ℕ)
     → record_words p (h ++ entry i ws ∷ []) i (count i h + 1) ≡ ws
-record_last p h i ws = ap (λ (l : List Entry).
-    (get_or (entry i (start_at p i).words ∷ l) (count i h + 1) (entry i [])).words)
-    (only_push_same i h (entry i ws) refl)
-    ∙ ap (λ (e : Entry). e.words)
-    (get_or_push (line p h i) (entry i ws) (entry i []) (count i h + 1) (omega arith))
+record_last p h i ws = grind (arith, only_push_same i h (entry i ws) refl, get_or_push)
 
 pub none_between : (i : ℕ) (a h : List Entry) (p : IsPrefix a h) → count i a ≡ count i h
     → only i p.0 ≡ []

@@ -94,17 +94,13 @@ module _ {X : Type 0} (f : X → List ℕ) (d : X) (b : ℕ) where
       → i < length xs → j < b → get_or (flat_map f xs) (i * b + j) 0
       ≡ get_or (f (get_or xs i d)) j 0
   even_get [] i j even li lj = absurd (omega arith)
-  even_get (x ∷ xs) zero j even li lj =
-      let this : length (f x) ≡ b = even 0 (omega arith) in
-      let at : zero * b + j ≡ j = omega arith in
-      ap (λ (z : ℕ). get_or (f x ++ flat_map f xs) z 0) at
-      ∙ get_or_append_left (f x) (flat_map f xs) 0 j (omega arith)
-  even_get (x ∷ xs) (suc i) j even li lj =
-      let this : length (f x) ≡ b = even 0 (omega arith) in
-      let at : suc i * b + j ≡ length (f x) + (i * b + j) = omega arith in
-      ap (λ (z : ℕ). get_or (f x ++ flat_map f xs) z 0) at
-      ∙ (get_or-append-add (f x) (flat_map f xs) (i * b + j) 0
-      ∙ even_get xs i j (λ k lk. even (suc k) (omega arith)) (omega arith) lj)
+  even_get (x ∷ xs) zero j even li lj = grind (arith, even 0, get_or_append_left)
+  even_get (x ∷ xs) (suc i) j even li lj = grind (
+    arith,
+    even 0,
+    get_or-append-add (f x) (flat_map f xs) (i * b + j) 0,
+    even_get xs i j (λ k lk. even (suc k) (omega arith)) (omega arith) lj,
+  )
 
 module _ (p : Plan) (ready : IsReady p) where
   abbrev front : ℕ

@@ -22,6 +22,8 @@ use Rattle.snap_register.proofs.Keeps.{pinned_stays, knows_stays, allowed, after
 use Rattle.std.proofs.lemmas.Bool.Decides.{nat_tests}
 use Rattle.snap_register.specs.declared.plan.{Entry.Entry, Plan.Plan, Pool.Pool, SeatView.SeatView}
 use mathlib.Core.List.{IsPrefix}
+use Rattle.snap_register.specs.Rule.{Holds}
+use Rattle.snap_register.specs.History.{record_words}
 use mathlib.Core.Logic.{dite}
 use mathlib.Core.Option as maybe
 use mathlib.Core.Option.{some}
@@ -235,35 +237,17 @@ module _ (S : Type 0) where
       (omega (arith, r.current, r.counts)) (omega arith) in
       let t : ℕ = other d.free_buffer 0 in
       let few_far = total_le (beyond i t d.free_buffer) (λ u. u.pin_quota) s.views
-      (λ j u at_j. grind (arith, nat_tests, (k.each_seat j u at_j).pin_quota i)) in (
+      (λ j u at_j. grind (arith, nat_tests, (k.each_seat j u at_j).pin_quota i)) in
+      let latest : Holds p ws i d.free_buffer (record_words p h' i (count i h')) =
+      rw (one_more, record_last p h i d.draft) (λ q lq lw. cells d.free_buffer q ∙ r.draft q free lw) in
+      let word = get_or-set_same s.words i y 0 (omega (arith, k.wide)) in
+      let far_same = total_same (beyond i t d.free_buffer) s.views id v w at refl in (
         w,
         pool_step id k at role inside ws h' h' d' 0 (length-set s.words i y) (e ∷ [], refl)
             legal' (prefix_self h') refl (λ a ne. only_push_other a h e (λ z. ne (sym z)))
             (λ a la ne. words_beside s.words i y a (word_apart p a i inside ne))
             (λ b q lb lq ne. cells b q)
-            record {
-              word = get_or-set_same s.words i y 0 (omega (arith, k.wide)) ∙ (is ∙ omega arith);
-              current = free;
-              number = number';
-              balance = λ b lb. omega (
-                arith,
-                r.balance b lb,
-                same_pins b,
-                get_or-set_other s.words i (given p i b) y 0,
-              );
-              wears = λ b lb. omega (arith, r.wears b lb, same_pins b);
-              free_buffer = λ lt. absurd (omega arith);
-              found_pinned = omega (
-                arith,
-                k.shares,
-                total_same (beyond i t d.free_buffer) s.views id v w at refl,
-              );
-              counts = length-set d.counted d.current c' ∙ r.counts;
-              short = omega arith;
-              draft = λ q lt lq. absurd (omega arith);
-              latest = rw (one_more, record_last p h i d.draft)
-                  (λ q lq lw. cells d.free_buffer q ∙ r.draft q free lw);
-            },
+            (grind (arith, length-set {A = ℕ}, get_or-set_other {A = ℕ})),
         (
           record {
             same = refl;

@@ -33,8 +33,7 @@ total_one f (x ∷ xs) (suc k) v e = let h = total_one f xs k v e in omega arith
 pub total_le : (f g : SeatView → ℕ) (vs : List SeatView)
     → ((k : ℕ) (v : SeatView) → get_elem? vs k ≡ some v → f v ≤ g v) → total f vs ≤ total g vs
 total_le f g [] le = omega arith
-total_le f g (x ∷ xs) le = let a = le zero x refl in let h =
-    total_le f g xs (λ k v e. le (suc k) v e) in omega arith
+total_le f g (x ∷ xs) le = omega (arith, le zero x refl, total_le f g xs (λ k v e. le (suc k) v e))
 
 pub total_add : (f g h : SeatView → ℕ) (vs : List SeatView) → ((v : SeatView) → f v + g v ≡ h v)
     → total f vs + total g vs ≡ total h vs

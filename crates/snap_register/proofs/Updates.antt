@@ -23,30 +23,17 @@ use mathlib.Core.Logic.{dite}
 use native.Mathlib.Decide.{ℕ_discrete}
 use Rattle.snap_register.specs.Rule as rule
 
-counted : (b : Bool) (x : Entry) (l : List Entry) (n : ℕ) → n ≡ length l
-    → (if b then 1 else 0) + n ≡ length (cond b (x ∷ l) l)
-counted true x l n e = omega arith
-counted false x l n e = omega arith
-
 pub updates_count : (i : ℕ) (h : List Entry) → updates_of i (updates h) ≡ count i h
 updates_count i [] = refl
-updates_count i (x ∷ h) = counted (x.segment == i) x (only i h) (updates_of i (updates h))
-    (updates_count i h)
+updates_count i (x ∷ h) = grind (arith, nat_tests, updates_count i h)
 
 abbrev last_of : ℕ → Entry → List Entry → List ℕ
 last_of i e l = value_at (get_or (e ∷ l) (length l) (entry i [])).words 0
 
-last_step : (i : ℕ) (h : List Entry) (b : Bool) (e x : Entry)
-    → ((e : Entry) → last_value (value_at e.words 0) i (updates h) ≡ last_of i e (only i h))
-    → last_value (if b then value_at x.words 0 else value_at e.words 0) i (updates h)
-    ≡ last_of i e (cond b (x ∷ only i h) (only i h))
-last_step i h true e x old = old x
-last_step i h false e x old = old e
-
 last_is : (i : ℕ) (h : List Entry) (e : Entry)
     → last_value (value_at e.words 0) i (updates h) ≡ last_of i e (only i h)
 last_is i [] e = refl
-last_is i (x ∷ h) e = last_step i h (x.segment == i) e x (last_is i h)
+last_is i (x ∷ h) e = grind (arith, nat_tests, last_is i h e, last_is i h x)
 
 pub number_is : (p : Plan) (h : List Entry) (i : ℕ)
     → number_after (starts p) (updates h) i ≡ number p h i
@@ -89,14 +76,11 @@ looked_some z v j some = grind (arith, nat_tests)
 
 pub pinned_looked : (z : TableId) (v : SeatView) (j : ℕ) → HasLooked (known z v) j
     → 0 < get_or v.pins j 0
-pinned_looked z v j some = dite (ℕ_discrete (get_or v.pins j 0) 0)
-    (λ e. absurd (some (grind (arith, nat_tests)))) (λ ne. omega arith)
+pinned_looked z v j some = grind (arith, nat_tests)
 
 pub last_look_is : (z : TableId) (v : SeatView) (j k : ℕ) → looked (known z v) j ≡ Some k
     → (0 < get_or v.pins j 0) × ((start_at v.plan j).number + get_or v.records j 0 ≡ k)
-last_look_is z v j k is =
-    let some : 0 < get_or v.pins j 0 = pinned_looked z v j (λ none. absurd (cc (none, is))) in
-    (some, same_Some _ _ (sym (looked_some z v j some) ∙ is))
+last_look_is z v j k is = grind (arith, nat_tests)
 
 pub update_found : (z : TableId) (v : SeatView) (j : ℕ) → HasFoundUpdate (known z v) j
     → (0 < get_or v.pins j 0) × (0 < get_or v.records j 0)
