@@ -115,9 +115,6 @@ blocks_push d w at from k f old whole is =
       last = behind_more e at k ∙ rw behind_k (omega (arith, new.size));
     }
 
-pub no_blocks : (d : List ℕ) (f : Start) → AreBlocks d (length d) 0 f
-no_blocks d f = record { each = λ i li. absurd (omega arith); last = refl }
-
 -- the words of an update: its own block and those of its view
 pub record_of : (d e : List ℕ) (n k : ℕ) (v : List ℕ) (f g : Start) → IsBlock d 0 k v
     → length d ≡ size_at d 0 → IsPrefix d e → AreBlocks e (length d) n f

@@ -12,7 +12,7 @@ use Rattle.snap_register.specs.Rule.{heard, read}
 use Rattle.snap_register.proofs.Lines.{prefix_self, prefix_trans, count_prefix, record_prefix, legal_prefix}
 use Rattle.snap_register.proofs.Places.{Apart, word_apart, given_apart, given_same, given_behind, cell_behind}
 use Rattle.snap_register.proofs.Places.{given_cell, given_inside}
-use Rattle.snap_register.proofs.Sums.{total_set, total_same, total_one, on_not, far_none, far_here, pins_at}
+use Rattle.snap_register.proofs.Sums.{total_set, total_same, total_one, far_none, pins_at}
 use Rattle.snap_register.specs.declared.plan.{Entry.Entry, Plan.Plan, Pool.Pool, SeatView.SeatView}
 use mathlib.Core.List.{IsPrefix}
 use mathlib.Core.Logic.{dite}

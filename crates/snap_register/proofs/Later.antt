@@ -142,9 +142,6 @@ publishes_count v w i x s =
     let c = count_push_same i (v.seen ++ s.between) (entry i v.pool.draft) refl in
     omega (arith, count-append i v.seen s.between, ap (count i) s.seen ∙ c)
 
-pub same_none : (l : List ℕ) (j : ℕ) → get_or l j 0 ≡ 0 → set l j 0 ≡ l
-same_none l j e = ap (set l j) (sym e) ∙ set-get_or l j 0
-
 pub some_words : {n s block_words whole words : ℕ} {p : Plan} → IsSized n s block_words whole p
     → words ≡ size p → 0 < words
 some_words sized is = omega (arith, sized.some, sized.segments_are, is)

@@ -225,27 +225,6 @@ base_of [] i li = absurd (omega arith)
 base_of (x ∷ xs) zero li = refl
 base_of (x ∷ xs) (suc i) li = base_of xs i (omega arith)
 
-pub sized_is : (n scanners looks block_words : ℕ) (xs : List Opening) → n ≡ length xs
-    → 0 < length xs → length xs ≤ 16 → scanners ≤ 16
-    → IsReady (plan_with scanners looks block_words xs)
-    → IsSized n scanners block_words
-    (n + (n * (n + scanners + 2) + n * (n + scanners + 2) * ((n + 1) * block_words)))
-    (plan_with scanners looks block_words xs)
-sized_is n scanners looks block_words xs e any few few_scanners ready =
-    let c : n ≡ segments (plan_with scanners looks block_words xs) = e ∙ count_of xs in
-    record {
-      segments_are = c;
-      scanners_are = refl;
-      block_words_are = refl;
-      words_are = λ i. c i + (c i * (c i + scanners + 2)
-          + c i * (c i + scanners + 2) * ((c i + 1) * block_words));
-      some = omega arith;
-      few = omega arith;
-      few_scanners = few_scanners;
-      block_words_is = ready.block_words_is;
-      starts = λ i li. (ready.each i li).0;
-    }
-
 -- at the start a seat may read each record
 start_readable : (p : Plan) → IsReady p → (i : ℕ) → i < segments p
     → Readable p [] i (get_or (replicate (segments p) 0) i 0)

@@ -43,9 +43,6 @@ total_add f g h (x ∷ xs) e = let a = e x in let r = total_add f g h xs e in om
 pub on_here : (i b : ℕ) (v : SeatView) → get_or v.pins i 0 ≡ b + 1 → on i b v ≡ 1
 on_here i b v e = grind (arith, nat_tests)
 
-pub on_not : (i b : ℕ) (v : SeatView) → get_or v.pins i 0 ≢ b + 1 → on i b v ≡ 0
-on_not i b v e = grind (arith, nat_tests)
-
 -- if the sum is 0, no view pins the buffer
 pub none_on : (i b : ℕ) (vs : List SeatView) (k : ℕ) (v : SeatView) → total (on i b) vs ≡ 0
     → get_elem? vs k ≡ some v → get_or v.pins i 0 ≢ b + 1
@@ -54,12 +51,6 @@ none_on i b vs k v none at e = let a = on_here i b v e in let t = total_one (on 
 
 pub far_none : (t c x : ℕ) → x ≤ t → far t c x ≡ 0
 far_none t c x le = grind (arith, nat_tests)
-
-pub far_here : (t c x : ℕ) → x ≡ c + 1 → far t c x ≡ 0
-far_here t c x e = grind (arith, nat_tests)
-
-pub far_le : (t c x : ℕ) → far t c x ≤ 1
-far_le t c x = grind (arith, nat_tests)
 
 pub other_ne : (c k : ℕ) → other c k ≢ c
 other_ne c k e = grind (arith, nat_tests)
@@ -81,11 +72,6 @@ pins_at d x b e = grind (arith, nat_tests)
 
 pub pins_else : (d : Pool) (x b : ℕ) → d.current ≢ b → pins_of d x b ≡ get_or d.counted b 0
 pins_else d x b e = grind (arith, nat_tests)
-
--- one pin more on the current buffer, by this view
-pub pin_more : (d : Pool) (x b j : ℕ) (w : SeatView) → get_or w.pins j 0 ≡ d.current + 1
-    → (pins_of d (x + 1) b ≡ pins_of d x b + on j b w) × (pins_of d (x + 1) b ≤ pins_of d x b + 1)
-pin_more d x b j w pin = (grind (arith, nat_tests), grind (arith, nat_tests))
 
 -- the pins on each buffer, after the current word's were added and buffer f became current
 pub pins_moved : (d : Pool) (x c f : ℕ) → d.current < length d.counted

@@ -116,14 +116,6 @@ meets_is z z' v w h same is later own = rw is (record {
 pub below_is : (z : TableId) (v : SeatView) → rule.IsBelow v.plan v.seen → IsBelow (known z v)
 below_is z v b i li = omega (arith, number_is v.plan v.seen i, b i li)
 
-pub looks_is : (z z' : TableId) (v w : SeatView) (j k : ℕ) → w.plan ≡ v.plan → IsPinned v w j
-    → k ≡ number w.plan w.seen j → Looks (known z v) (known z' w) j k
-looks_is z z' v w j k plan pin is = record {
-  here = looked_some z' w j pin.pinned ∙ ap Some (omega (arith, pin.last));
-  others = λ i ne. let o = pin.others i ne in
-      λ t. cond (o.0 t == 0) None (Some ((start_at (plan t) i).number + o.1 t));
-}
-
 pub value_shown : (z : TableId) (v : SeatView) (j : ℕ) (value : List ℕ) → HasLooked (known z v) j
     → get_or v.records j 0 ≤ count j v.seen → value ≡ value_at (held v j) 0
     → IsValue (known z v) j value
