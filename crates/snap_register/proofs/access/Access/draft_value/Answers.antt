@@ -30,10 +30,8 @@ loop-q-preserved c =
         drafted a n (d ++ x ∷ []) by,
       );
       long = ap length new ∙ omega arith;
-      number = ap (λ (l : List ℕ). get_or l 0 0) new
-          ∙ (get_or_append_left d (x ∷ []) 0 0 (omega arith) ∙ inv.number);
-      length_is = ap (λ (l : List ℕ). get_or l 1 0) new
-          ∙ (get_or_append_left d (x ∷ []) 0 1 (omega arith) ∙ inv.length_is);
+      number = rw new (get_or_append_left d (x ∷ []) 0 0 (omega arith) ∙ inv.number);
+      length_is = rw new (get_or_append_left d (x ∷ []) 0 1 (omega arith) ∙ inv.length_is);
       bytes = ap (λ (l : List ℕ). bytes_at l 2 (q + 1)) new
           ∙ bytes_push d c.args.value.now q x long inv.bytes chunk;
     }

@@ -18,9 +18,7 @@ read_of c = c.pin.new.self.seated.readable c.args.j (in_plan c)
 pub read-requires-clause-place : goal.read-requires-clause-place
 read-requires-clause-place c =
     let r = read_of (goal.at.read-requires-clause-place c).After-pin in
-    let inside : 0 + (2 + (get_or (held (view_of c.pin.new.self) c.args.j) 1 0 + 7) / 8)
-    ≤ length (held (view_of c.pin.new.self) c.args.j) = r.own.whole.inside in
-    omega arith
+    omega (arith, r.own.whole.inside)
 
 -- a look changes nothing else
 looked_from : (c : After-read) → HasLookedFrom (view_of c.args.self.now) (view_of c.read.new.self)
@@ -41,7 +39,7 @@ returns-clause-seen c =
     grows_is a.seat.table_id b.seat.table_id (view_of a) (view_of b) (search rules)
     (ap (λ (u : SeatView). u.plan) view) (ap (λ (u : SeatView). u.low) view)
     (ap (λ (u : SeatView). u.high) view) l.later
-    (λ i has. let x = has.1 in let all = a.seated.seen_end_is in l.own i has (omega arith))
+    (λ i has. l.own i has (omega (arith, has.1, a.seated.seen_end_is)))
 
 pub returns-clause-below : goal.returns-clause-below
 returns-clause-below c =
@@ -57,13 +55,14 @@ returns-clause-number c =
     let w : SeatView = view_of c.read.new.self in
     let j : ℕ = c.args.j in
     let r = read_of (goal.at.returns-clause-number c).After-pin in
-    let n : get_or (held v j) 0 0 ≡ (start_at v.plan j).number + get_or v.records j 0 =
-    ap (λ (x : ℕ × List ℕ). x.0) r.own.is in
-    let last = c.pin.ensures.looks.last in
-    let is : (start_at v.plan j).number + get_or v.records j 0 ≡ number v.plan v.seen j =
-    ap (λ (z : ℕ). (start_at v.plan j).number + z) last in
-    c.read.ensures.word ∙ (n ∙ (is ∙ (ap (λ (m : Mine). number m.0.plan m.0.seen j)
-    (sym c.read.ensures.same.2) ∙ sym (number_is w.plan w.seen j))))
+    grind (
+      arith,
+      c.read.ensures.word,
+      ap (λ (x : ℕ × List ℕ). x.0) r.own.is,
+      c.pin.ensures.looks.last,
+      ap (λ (m : Mine). number m.0.plan m.0.seen j) c.read.ensures.same.2,
+      number_is w.plan w.seen j,
+    )
 
 pub returns-clause-learns : goal.returns-clause-learns
 returns-clause-learns c = learns (goal.at.returns-clause-learns c).After-read

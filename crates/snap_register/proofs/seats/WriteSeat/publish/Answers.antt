@@ -49,34 +49,28 @@ invariant_of-self c =
     let v : SeatView = view_of c.self.inside.access in
     let w : SeatView = view_of c.publish-current.new.self in
     let pool = l.pool.1 in
-    let at = inv.current_is in
-    let la = inv.current_inside in
-    let lc = inv.counts in
     let plan : w.plan ≡ v.plan = ap (λ (u : SeatView). u.plan) s.same in
-    let few : buffers w.plan ≡ buffers v.plan = ap buffers plan in
-    let most = few_buffers c.self.inside.access.sized in
     let mine : ℕ = c.self.inside.current in
-    let sum : ℕ = get_or v.pool.counted v.pool.current 0 + c.publish-current.result.1 in
+    let wide : mine < length c.self.inside.counted = search rules in
     record {
       role = rw s.same inv.role;
       inside = rw plan inv.inside;
       number_is = sym s.number_is;
       current_is = sym (ap (λ (x : Pool). x.current) pool);
-      current_inside = let a = l.pool.0 in omega arith;
+      current_inside = rw plan l.pool.0;
       found_pinned_is = ap (λ (x : Pool). x.found_pinned) pool;
-      counts = ap (λ (x : Pool). length x.counted) pool
-          ∙ (length-set v.pool.counted v.pool.current sum ∙ (inv.counts ∙ sym few));
-      counted_are = λ b lb.
-          set_each (λ i y. i < buffers v.plan
-          → y ≡ get_or (set v.pool.counted v.pool.current sum) i 0) c.self.inside.counted mine
-          (get_or c.self.inside.counted mine 0 + c.publish-current.result.1) (search rules)
-          (λ _. ap (λ (z : ℕ). z + c.publish-current.result.1)
-          (inv.counted_are mine la ∙ ap (λ (z : ℕ). get_or v.pool.counted z 0) at)
-          ∙ sym (ap (λ (z : ℕ). get_or (set v.pool.counted v.pool.current sum) z 0) at
-          ∙ get_or-set_same v.pool.counted v.pool.current sum 0 (omega arith)))
-          (λ i ne li. inv.counted_are i li
-          ∙ sym (get_or-set_other v.pool.counted v.pool.current i sum 0 (λ e. ne (e ∙ sym at))))
-          b (omega arith) ∙ sym (ap (λ (x : Pool). get_or x.counted b 0) pool);
+      counts = ap (λ (x : Pool). length x.counted) pool ∙ rw plan (length-set _ _ _ ∙ inv.counts);
+      counted_are = λ b lb. grind (
+        arith,
+        get_or-set_same {A = ℕ},
+        get_or-set_other {A = ℕ},
+        ap (λ (x : Pool). get_or x.counted b 0) pool,
+        inv.counted_are b (rw plan at lb),
+        inv.counted_are mine inv.current_inside,
+        inv.current_is,
+        inv.counts,
+        wide,
+      );
     }
 
 pub returns-clause-shown : goal.returns-clause-shown
