@@ -66,11 +66,11 @@ begins_fresh a b (x ∷ xs) part l is begins =
     record { first = x; later = xs; looks = is; begins = begins }
 
 -- a scan's looks are also valid for an earlier begin, and before the first look for any begin
-collects_from : (n : ℕ) (number : Numbers) (entry : Entries (List ℕ)) (f f' e : ℕ) (told : List ℕ)
-    (latest : List (List ℕ)) → (0 < length told → f' ≤ f)
+collects_from : {n : ℕ} {number : Numbers} {entry : Entries (List ℕ)} {f f' e : ℕ} {told : List ℕ}
+    {latest : List (List ℕ)} → (0 < length told → f' ≤ f)
     → Collects (List ℕ) n number entry f e told latest
     → Collects (List ℕ) n number entry f' e told latest
-collects_from n number entry f f' e told latest late c = record {
+collects_from late c = record {
   moment = c.moment;
   after = λ t l. omega (arith, c.after t l, late (omega arith));
   until = c.until;
@@ -151,9 +151,7 @@ Gathers-none a set numbers among short some wide = record {
   within = beginning-self a.seen;
   latest = replicate (size set) [];
   long = length-replicate (size set) [];
-  collects = Collects-none (List ℕ) (size set) (number_at set (starts a.plan) a.seen)
-      (entry_at set (starts a.plan) a.seen) (length a.seen) (length a.seen)
-      (replicate (size set) []);
+  collects = Collects-none _ _ _ _ _ _ _;
   last_looks = λ p j k at e. absurd (cc (get-replicate (size set) p [] (k ∷ []) e));
   left = omega arith;
   bound = omega arith;
@@ -170,61 +168,39 @@ module _ (a b c : Known) (set : ℕ) (told numbers : List ℕ) (j k : ℕ)
   abbrev first : List Update
   first = first_of a.seen sights
 
-  abbrev n : ℕ
-  n = size set
-
-  abbrev start : Start
-  start = starts a.plan
-
   abbrev number : Numbers
-  number = number_at set start c.seen
-
-  abbrev entry : Entries (List ℕ)
-  entry = entry_at set start c.seen
+  number = number_at set (starts a.plan) c.seen
 
   seen_within : IsBeginning first c.seen
   seen_within = first_within a.seen c.seen g.sights
       (beginning-trans (first_of a.seen g.sights) b.seen c.seen g.within later.later)
 
-  -- after the first look, the first stays the same
-  late : 0 < length told → length first ≤ length (first_of a.seen g.sights)
-  late l = omega (arith, ap length (first_stays a.seen c.seen g.sights (omega (arith, g.all_told))))
-
-  number_same : (t p : ℕ) → t ≤ length b.seen → number t p ≡ number_at set start b.seen t p
-  number_same t p l = ap (λ h. number_after start h (slice_index (named set) p))
+  number_same : (t p : ℕ) → t ≤ length b.seen → number t p ≡ number_at set (starts a.plan) b.seen t p
+  number_same t p l = ap (λ h. number_after (starts a.plan) h (slice_index (named set) p))
       (take-beginning b.seen c.seen t later.later l)
 
   -- the number found is that of the moment of the look
   now : k ≡ number (length c.seen) place
   now = found ∙ ap (λ (p : Plan). number_after (starts p) c.seen j) (later.plan ∙ g.grows.plan)
-      ∙ ap (λ h. number_after start h j) (sym (take-length c.seen))
-      ∙ ap (number_after start (take (length c.seen) c.seen)) (sym (at_is set place j at))
+      ∙ ap (λ h. number_after (starts a.plan) h j) (sym (take-length c.seen))
+      ∙ ap (number_after (starts a.plan) (take (length c.seen) c.seen)) (sym (at_is set place j at))
 
-  grown : Collects (List ℕ) n number entry (length first) (length b.seen) told g.latest
-  grown = collects_from n number entry (length (first_of a.seen g.sights)) (length first)
-      (length b.seen) told g.latest late
-      (Collects-same (List ℕ) n (number_at set start b.seen) (entry_at set start b.seen)
-      (length (first_of a.seen g.sights)) (length b.seen) told g.latest g.collects number entry
-      number_same (λ t p l. ap (λ v. v ∷ []) (number_same t p l)))
-
-  more : HasToldFrom set start c.seen (length first) (told ++ k ∷ [])
-      (slice_set g.latest place (k ∷ []))
-  more = rw now (Collects-push (List ℕ) n number entry (length first) (length b.seen) told g.latest grown
-      (length c.seen) place (begins-length b.seen c.seen later.later) turn
-      (begins-length first c.seen seen_within) g.long)
+  -- after the first look, the first stays the same
+  grown : Collects (List ℕ) (size set) number (entry_at set (starts a.plan) c.seen) (length first)
+      (length b.seen) told g.latest
+  grown = collects_from
+      (λ l. omega (arith, ap length (first_stays a.seen c.seen g.sights (omega (arith, g.all_told)))))
+      (Collects-same _ _ _ _ _ _ _ _ g.collects _ _ number_same (λ t p l. ap (λ v. v ∷ []) (number_same t p l)))
 
   -- the number found isn't below the last one found for the segment
   pub told_fits : (p : ℕ) → IsAt set p j → IsNoFall (size set) told p k
   told_fits p other = rw (at_once set p place j other at, now)
-      (no_fall (List ℕ) n number entry (length first) (length b.seen) told g.latest grown
-      (rising set start c.seen) (length c.seen) place (begins-length b.seen c.seen later.later) turn.0)
+      (no_fall _ _ _ _ _ _ _ _ grown (rising set (starts a.plan) c.seen) (length c.seen) place
+      (begins-length b.seen c.seen later.later) turn.0)
 
   module _ (bound : length told < most_looks (size set)) (looks : Looks b c j k)
       (sighted : c.sights ≡ b.sights ++ c.seen ∷ []) (left : c.left + 1 ≡ b.left)
       (below : IsBelow c) where
-    long : length (told ++ k ∷ []) ≡ length told + 1
-    long = length_push told k
-
     last_looks : (q i v : ℕ) → IsAt set q i
         → slice_get (slice_set g.latest place (k ∷ [])) q ≡ Some (v ∷ [])
         → (looked c i ≡ Some v) × (slice_index (slice_set numbers j k) i ≡ v)
@@ -254,16 +230,17 @@ module _ (a b c : Known) (set : ℕ) (told numbers : List ℕ) (j k : ℕ)
       sights = sights;
       sights_are = sighted ∙ ap (λ (l : List (List Update)). l ++ c.seen ∷ []) g.sights_are
           ∙ append_assoc a.sights g.sights (c.seen ∷ []);
-      all_told = length_push g.sights c.seen ∙ ap (λ m. m + 1) g.all_told ∙ sym long;
+      all_told = omega (arith, length_push g.sights c.seen, g.all_told, length_push told k);
       opens = first_opens a.seen c.seen g.sights g.opens
           (beginning-trans a.seen b.seen c.seen g.grows.later later.later);
       within = seen_within;
       latest = slice_set g.latest place (k ∷ []);
       long = length-set g.latest place (k ∷ []) ∙ g.long;
-      collects = more;
+      collects = rw now (Collects-push _ _ _ _ _ _ _ _ grown (length c.seen) place
+          (begins-length b.seen c.seen later.later) turn (begins-length first c.seen seen_within) g.long);
       last_looks = last_looks;
-      left = omega (arith, long, g.left);
-      bound = omega (arith, long);
+      left = omega (arith, length_push told k, g.left);
+      bound = omega (arith, length_push told k);
       below = λ _. below;
     }
 
@@ -288,10 +265,7 @@ module _ (a b : Known) (set : ℕ) (told numbers : List ℕ) (g : Gathers a b se
   takes_looks l = omega (arith, g.left, g.bound)
 
   pub clean_some : IsClean (size set) told → 0 < length told
-  clean_some clean = (
-      let more : size set * 1 ≤ size set * (clean.rounds.0 + 2) =
-      mul-le-mul_left (size set) (omega arith) in
-      omega (arith, g.some, clean.rounds.1))
+  clean_some clean = grind (arith, g.some, clean.rounds.1)
 
   pub borrow_some : (j : ℕ) → IsBorrow (size set) told j → 0 < length told
   borrow_some j borrowed = omega (arith, borrowed.last.1)
@@ -303,9 +277,8 @@ module _ (a b : Known) (set : ℕ) (told numbers : List ℕ) (g : Gathers a b se
       (not_borrow : (j : ℕ) → IsBorrow (size set) told j → ⊥) where
     moment : (p : ℕ) × IsMoment (size set) seen_at (length first_seen) (length b.seen) told p
         × IsThen (List ℕ) (size set) (entry_at set (starts a.plan) b.seen) p g.latest
-    moment = clean_moment (List ℕ) (size set) seen_at (entry_at set (starts a.plan) b.seen)
-        (length first_seen) (length b.seen) told g.latest g.collects
-        (rising set (starts a.plan) b.seen) (λ i t u l e. ap (λ v. v ∷ []) e) g.some clean not_borrow
+    moment = clean_moment _ _ _ _ _ _ _ _ g.collects (rising set (starts a.plan) b.seen)
+        (λ i t u l e. ap (λ v. v ∷ []) e) g.some clean not_borrow
 
     begins_first : IsBeginning first_seen (take moment.0 b.seen)
     begins_first = take-begins first_seen b.seen moment.0 g.within moment.1.after
@@ -365,9 +338,8 @@ module _ (a b : Known) (set : ℕ) (told numbers : List ℕ) (g : Gathers a b se
     -- the segment rose by two since the scan's first look
     rose : seen_at (length first_seen) place_of + 2 ≤ last
     rose =
-        let low = first_low (List ℕ) (size set) seen_at (entry_at set (starts a.plan) b.seen)
-        (length first_seen) (length b.seen) told g.latest g.collects
-        (rising set (starts a.plan) b.seen) place_of borrowed.segment (omega (arith, ends_at)) in
+        let low = first_low _ _ _ _ _ _ _ _ g.collects (rising set (starts a.plan) b.seen) place_of
+        borrowed.segment (omega (arith, ends_at)) in
         omega (arith, borrowed.moved)
 
     -- so each list that lacks only its last update has all that there was at the first look
@@ -379,15 +351,7 @@ module _ (a b : Known) (set : ℕ) (told numbers : List ℕ) (g : Gathers a b se
         let f : number_in b part j ≡ seen_at (length part) place_of =
         from_start part j ∙ ap (λ h. number_after (starts a.plan) h j)
         (sym (beginning-take part b.seen within)) ∙ sym (of_segment (length part)) in
-        elim (cases_lt (length part) (length first_seen)) [
-          | inl lt ↦ absurd (omega (
-            arith,
-            rose,
-            rising set (starts a.plan) b.seen place_of (length part)
-                (length first_seen) (omega arith),
-          ))
-          | inr ge ↦ ge
-        ]
+        grind (arith, rose, rising set (starts a.plan) b.seen place_of (length part) (length first_seen))
 
     begins_last : (part : List Update) → IsBeginning part b.seen
         → looked b j ≡ Some (number_in b part j + 1) → IsBeginning first_seen part
