@@ -31,13 +31,11 @@ only_behind i x h other = grind (arith, nat_tests)
 
 pub only_push_same : (i : ℕ) (h : List Entry) (e : Entry) → e.segment ≡ i
     → only i (h ++ e ∷ []) ≡ only i h ++ e ∷ []
-only_push_same i h e is = only-append i h (e ∷ []) ∙ ap (λ w. only i h ++ w) (only_first i e [] is)
+only_push_same i h e is = grind (arith, nat_tests, only-append i h (e ∷ []))
 
 pub only_push_other : (i : ℕ) (h : List Entry) (e : Entry) → e.segment ≢ i
     → only i (h ++ e ∷ []) ≡ only i h
-only_push_other i h e is =
-    only-append i h (e ∷ [])
-    ∙ (ap (λ w. only i h ++ w) (only_behind i e [] is) ∙ append-nil (only i h))
+only_push_other i h e is = grind (arith, nat_tests, only-append i h (e ∷ []), append-nil)
 
 pub count_push_same : (i : ℕ) (h : List Entry) (e : Entry) → e.segment ≡ i
     → count i (h ++ e ∷ []) ≡ count i h + 1

@@ -83,12 +83,8 @@ module _ {X : Type 0} (f : X → List ℕ) (d : X) (b : ℕ) where
   even_length : (xs : List X) → ((i : ℕ) → i < length xs → length (f (get_or xs i d)) ≡ b)
       → length (flat_map f xs) ≡ length xs * b
   even_length [] even = omega arith
-  even_length (x ∷ xs) even = omega (
-    arith,
-    even 0 (omega arith),
-    even_length xs (λ i li. even (suc i) (omega arith)),
-    length-append (f x) (flat_map f xs),
-  )
+  even_length (x ∷ xs) even =
+      grind (arith, even 0, even_length xs (λ i li. even (suc i) (omega arith)), length-append (f x) (flat_map f xs))
 
   even_get : (xs : List X) (i j : ℕ) → ((i : ℕ) → i < length xs → length (f (get_or xs i d)) ≡ b)
       → i < length xs → j < b → get_or (flat_map f xs) (i * b + j) 0
@@ -141,17 +137,18 @@ module _ (p : Plan) (ready : IsReady p) where
   record_at i q li lq =
       let words : List ℕ = (start_at p i).words in
       let long : length words ≡ p.block_words = (ready.each i li).0.0 in
-      let at : cell p i 0 q ≡ length zeros + (i * block + q) = omega (arith, count_zeros) in
       let some : 1 ≤ buffers p = omega arith in
       let in_block : q < block = omega (arith, mul-le-mul_right (width p) some) in
-      ap (λ (z : ℕ). get_or (opening_words p) z 0) at
-      ∙ (get_or-append-add zeros (flat_map piece p.start) (i * block + q) 0
-      ∙ (even_get piece no_start block p.start i q even li in_block
-      ∙ dite (dec_le (length words) q)
-      (λ past. get_or-append_right words (replicate (unused p) 0) (length words) q 0 refl past
-      ∙ (get_or-replicate (unused p) (q - length words) 0 0 (omega arith)
-      ∙ sym (get_or_past words q 0 past)))
-      (λ here. get_or_append_left words (replicate (unused p) 0) 0 q (omega arith))))
+      grind (
+        arith,
+        count_zeros,
+        get_or-append-add zeros (flat_map piece p.start) (i * block + q) 0,
+        even_get piece no_start block p.start i q even li in_block,
+        get_or-append_right words (replicate (unused p) 0) (length words) q 0 refl,
+        get_or-replicate {A = ℕ} (unused p) (q - length words) 0 0,
+        get_or_past words q 0,
+        get_or_append_left words (replicate (unused p) 0) 0 q,
+      )
 
   no_pin : (i : ℕ) → get_or (first_view p).pins i 0 ≡ 0
   no_pin = none_at (segments p)

@@ -98,8 +98,7 @@ grows_is z z' v w same plan low high later own = record {
   low = low;
   high = high;
   later = beginning_is v.seen w.seen later;
-  own = λ i l h. let c : count i w.seen ≡ count i v.seen = ap length (own i (l, h)) in
-      omega (arith, updates_count i w.seen, updates_count i v.seen);
+  own = λ i l h. grind (arith, own i (l, h), updates_count i w.seen, updates_count i v.seen);
 }
 
 -- a meeting, after which the seat has seen h
