@@ -75,12 +75,7 @@ other_is : (c : After-split_seat-answer)
       record (view_of c.args.other.now) { seen = c.split_seat-answer.new.seat.me.0.seen },
       c.args.other.now.seat.me.1,
     )
-other_is c =
-    let them = c.args.other.now in
-    let s : List Entry = c.hear.new.seat.me.0.seen in
-    rw c.split_seat-answer.ensures.2 ((λ t. (c.hear.ensures.2.2 t, c.hear.ensures.2.1 t))
-    ∙ (ap (λ (m : Mine). (record m.0 { seen = s; received = []; seen_end = m.0.high }, m.1))
-    c.join_seat.ensures.2 ∙ ap (λ (m : Mine). (record m.0 { seen = s }, m.1)) (sym (settled them.seated))))
+other_is c = search rules
 
 pub invariant_of-other : goal.invariant_of-other
 invariant_of-other c =
@@ -99,13 +94,7 @@ self_is : (c : After-join_seat-2)
       record (view_of c.args.self.now) { seen = c.split_seat-answer.new.seat.me.0.seen },
       c.args.self.now.seat.me.1,
     )
-self_is c =
-    let answer = c.split_seat-answer.ensures in
-    c.join_seat-2.ensures.2
-    ∙ (ap (λ (m : Mine). (record m.0 { seen = c.split_seat-answer.result.me.0.seen }, m.1))
-    c.split_seat-messenger.ensures.2
-    ∙ ap (λ (l : List Entry). (record (view_of c.args.self.now) { seen = l }, c.args.self.now.seat.me.1))
-    (ap (λ (m : Mine). m.0.seen) answer.4 ∙ sym (ap (λ (m : Mine). m.0.seen) answer.2)))
+self_is c = search rules
 
 self_later : (c : After-split_seat-answer)
     → IsPrefix (view_of c.args.self.now).seen c.split_seat-answer.new.seat.me.0.seen

@@ -1,4 +1,4 @@
-use Rattle.std.proofs.Common.{◌≡◌, ℕ, ◌+◌, ◌++◌, ◌∷◌, [], List, length, refl, ap, sym, subst, ◌∙◌, arith}
+use Rattle.std.proofs.Common.{rules, ◌≡◌, ℕ, ◌+◌, ◌++◌, ◌∷◌, [], List, length, refl, ap, sym, subst, ◌∙◌, arith}
 use Rattle.snap_register.specs.declared.view.View.TheVariants.{Collected, Borrowed}
 use Rattle.snap_register.specs.History.{entry, count, start_at}
 use Rattle.snap_register.specs.Rule.{segments, IsLegal, Follows}
@@ -19,29 +19,15 @@ taken_pool v p (Borrowed j) = refl
 abbrev WithPool : SeatView → Pool → SeatView
 WithPool v p = record v { pool = p }
 
-pool_then : (v u w : SeatView) (p : Pool) → u ≡ WithPool v u.pool → w ≡ WithPool u p
-    → w ≡ WithPool v w.pool
-pool_then v u w p first next =
-    let e : w ≡ WithPool v p = next ∙ ap (λ (x : SeatView). WithPool x p) first in
-    e ∙ ap (WithPool v) (sym (ap (λ (x : SeatView). x.pool) e))
-
 second_is : (c : After-copy_view)
     → view_of c.draft_value-filled.new.self
     ≡ WithPool (view_of c.args.self.now) (pool_of c.draft_value-filled.new.self)
-second_is c =
-    let v : SeatView = view_of c.args.self.now in
-    pool_then v (view_of c.find_free-b.new.self) (view_of c.draft_value-filled.new.self) _
-    (pool_then v v (view_of c.find_free-b.new.self) _ refl
-    (ap (λ (m : Mine). m.0) c.find_free-b.ensures.free.1))
-    (ap (λ (m : Mine). m.0) c.draft_value-filled.ensures.same.3)
+second_is c = search rules
 
 third_is : (c : After-copy_view)
     → view_of c.copy_view.new.self
     ≡ WithPool (view_of c.args.self.now) (pool_of c.copy_view.new.self)
-third_is c =
-    pool_then (view_of c.args.self.now) (view_of c.draft_value-filled.new.self)
-    (view_of c.copy_view.new.self) _ (second_is c)
-    (ap (λ (m : Mine). m.0) c.copy_view.ensures.same.3)
+third_is c = search rules
 
 may_follow : (c : After-copy_view)
     → IsLegal (view_of c.args.self.now).plan (view_of c.args.self.now).seen
