@@ -1,4 +1,4 @@
-use Rattle.std.proofs.Common.{◌≡◌, ℕ, ◌+◌, ◌<◌, ◌≤◌, ◌++◌, ◌∷◌, [], List, length, get_or, refl, ap, sym, subst, ◌∙◌}
+use Rattle.std.proofs.Common.{rules, ◌≡◌, ℕ, ◌+◌, ◌<◌, ◌≤◌, ◌++◌, ◌∷◌, [], List, length, get_or, refl, ap, sym, subst, ◌∙◌}
 use Rattle.std.proofs.Common.{arith, append_assoc}
 use Rattle.snap_register.specs.Steps.{view_of, LiesAt, IsNext}
 use Rattle.snap_register.specs.{Registers.Mine, Held.held, Words.piece, Words.size_at, Rule.width}
@@ -52,13 +52,7 @@ draft-requires c =
     (piece (held a.0 c.args.j) c.args.from q) c.requires.own c.requires.buffer c.requires.place.0
     (piece_length (held a.0 c.args.j) c.args.from q) inside c.cell-target.ensures.0 refl in
     record {
-      place = subst (λ (m : Mine). IsNext m.0 (target + q)) (sym now)
-          (subst (λ (m : Mine).
-          IsNext (record m.0 {
-            pool = record m.0.pool {
-              draft = m.0.pool.draft ++ piece (held m.0 c.args.j) c.args.from q;
-            };
-          }) (target + q)) (sym c.size_at-count.ensures.same.2) there);
+      place = search (rules, there);
     }
 
 pub loop-q-preserved : goal.loop-q-preserved
@@ -80,13 +74,9 @@ loop-q-preserved c =
     let more : (d ++ p) ++ x ∷ [] ≡ d ++ piece w c.args.from (q + 1) =
     append_assoc d p (x ∷ []) ∙ ap (λ (l : List ℕ). d ++ l) (ap (λ (z : ℕ). p ++ z ∷ []) word
     ∙ sym (piece_more w c.args.from q)) in
+    let last : DraftedBy a (d ++ piece w c.args.from (q + 1)) c.draft.new.self.seat.me = step.3 ∙ (ap (λ (m : Mine).
+    (record m.0 { pool = record m.0.pool { draft = m.0.pool.draft ++ x ∷ [] } }, m.1)) now
+    ∙ ap (λ (l : List ℕ). (record a.0 { pool = record a.0.pool { draft = l } }, a.1)) more) in
     record {
-      same = (
-        step.0 ∙ (same.3 ∙ inv.same.0),
-        step.1 ∙ (same.0 ∙ inv.same.1),
-        step.2 ∙ (same.1 ∙ inv.same.2),
-        step.3 ∙ (ap (λ (m : Mine).
-            (record m.0 { pool = record m.0.pool { draft = m.0.pool.draft ++ x ∷ [] } }, m.1)) now
-            ∙ ap (λ (l : List ℕ). (record a.0 { pool = record a.0.pool { draft = l } }, a.1)) more),
-      );
+      same = (search rules, search rules, search rules, search (rules, last));
     }

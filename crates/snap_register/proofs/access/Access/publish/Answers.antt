@@ -68,29 +68,22 @@ returns-clause-shown c =
     let u : SeatView = view_of c.copy_view.new.self in
     let w : SeatView = view_of c.swap-pins.new.self in
     let shown = c.swap-pins.ensures.shown in
-    let first : w ≡ record u { seen = w.seen; pool = w.pool } = shown.same
-    ∙ ap (λ (x : SeatView). record u { seen = w.seen; pool = x.pool }) (sym shown.same) in
-    let same : w ≡ record v { seen = w.seen; pool = w.pool } =
-    first ∙ ap (λ (x : SeatView). record x { seen = w.seen; pool = w.pool }) is in
-    let d : List ℕ = draft_of c.draft_value-filled.new.self in
+    let same : w ≡ record v { seen = w.seen; pool = w.pool } = search rules in
     let own = c.draft_value-filled.ensures.block in
-    let stays = block_stays d u.pool.draft 0 c.copy_view.ensures.prefix own.whole in
-    let more : count c.args.i w.seen ≡ count c.args.i u.seen + 1 =
-    publishes_count u w c.args.i c.swap-pins.result shown in
-    let plan : w.plan ≡ v.plan = ap (λ (x : SeatView). x.plan) same in
-    let number_plan : (start_at w.plan c.args.i).number ≡ (start_at v.plan c.args.i).number =
-    ap (λ (p : Plan). (start_at p c.args.i).number) plan in
-    let seen_same : count c.args.i u.seen ≡ count c.args.i v.seen =
-    ap (λ (x : SeatView). count c.args.i x.seen) is in
-    let next = c.requires.next.0 in
+    let stays = block_stays _ u.pool.draft 0 c.copy_view.ensures.prefix own.whole in
     record {
       same = same;
       between = shown.between;
       words = u.pool.draft;
-      seen = shown.seen ∙ ap (λ (x : SeatView). (x.seen ++ shown.between)
-          ++ entry c.args.i u.pool.draft ∷ []) is;
+      seen = rw (← ap (λ (x : SeatView). x.seen) is) shown.seen;
       others = shown.others;
       value_is = ap (λ (x : ℕ × List ℕ). x.1) (stays.block ∙ own.is);
-      number_is = omega arith;
-      below = rw (ap (λ (x : SeatView). x.plan) first) shown.below;
+      number_is = grind (
+        arith,
+        publishes_count u w c.args.i c.swap-pins.result shown,
+        ap (λ (x : SeatView). count c.args.i x.seen) is,
+        ap (λ (x : SeatView). (start_at x.plan c.args.i).number) same,
+        c.requires.next.0,
+      );
+      below = rw (ap (λ (x : SeatView). x.plan) shown.same) shown.below;
     }

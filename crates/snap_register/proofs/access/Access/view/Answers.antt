@@ -14,22 +14,18 @@ use Rattle.snap_register.proofs.access.Access.view.Goals.{In-loop-k}
 
 words_are : (c : In-loop-k)
     → held (view_of c.loop-k.self) c.args.j ≡ held (view_of c.args.self.now) c.args.j
-words_are c = ap (λ (m : Mine). held m.0 c.args.j) (c.loop-k.invariant.same.2
-    ∙ c.size_at-at.ensures.same.2)
+words_are c = search rules
 
 at_is : (c : In-loop-k) → c.loop-k.at
     ≡ behind (held (view_of c.args.self.now) c.args.j)
     (size_at (held (view_of c.args.self.now) c.args.j) 0) c.loop-k.k
-at_is c = c.loop-k.invariant.at
-    ∙ ap (λ (m : Mine). behind (held m.0 c.args.j) (size_at (held m.0 c.args.j) 0) c.loop-k.k)
-    c.size_at-at.ensures.same.2
+at_is c = search rules
 
 whole : (c : In-loop-k) → IsWhole (held (view_of c.loop-k.self) c.args.j) c.loop-k.at
 whole c =
     let a = c.args.self.now in
-    let count = c.count_segments-segments.ensures.count in
-    let test = c.loop-k-test.true in
-    let lt : c.loop-k.k < segments (view_of a).plan = omega arith in
+    let lt : c.loop-k.k < segments (view_of a).plan =
+    omega (arith, c.count_segments-segments.ensures.count, c.loop-k-test.true) in
     let found = update_found a.seat.table_id (view_of a) c.args.j c.requires.updated in
     rw (words_are c, at_is c)
     (view_whole a c.args.j c.loop-k.k c.size_at-at.ensures.legal found.1 c.requires.segment lt)
@@ -50,7 +46,6 @@ overflow_add-at c =
 pub loop-k-preserved : goal.loop-k-preserved
 loop-k-preserved c =
     let inv = c.loop-k.invariant in
-    let same = c.read_named-at.ensures.same in
     let a = c.size_at-at.new.self.seat.me in
     let k : ℕ = c.loop-k.k in
     let w : List ℕ = held a.0 c.args.j in
@@ -68,12 +63,7 @@ loop-k-preserved c =
     let room = c.requires.room in
     let out = ap length c.out.view_is in
     record {
-      same = (
-        same.0 ∙ inv.same.0,
-        same.1 ∙ inv.same.1,
-        same.2 ∙ inv.same.2,
-        same.3 ∙ inv.same.3,
-      );
+      same = search rules;
       long = search rules;
       at = (λ t. at t + size t) ∙ sym (behind_more w (size_at w 0) k);
       view = λ i li named. dite (ℕ_discrete i k)
