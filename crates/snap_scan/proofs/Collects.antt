@@ -41,16 +41,7 @@ module _ (A : Type 0) (n : ℕ) (number : Numbers) (entry : Entries A) (b e : �
         → ((t i : ℕ) → t ≤ e → number2 t i ≡ number t i)
         → ((t i : ℕ) → t ≤ e → entry2 t i ≡ entry t i)
         → Collects A n number2 entry2 b e L latest
-    Collects-same number2 entry2 same kept = record {
-      moment = c.moment;
-      after = c.after;
-      until = c.until;
-      order = c.order;
-      numbers = λ m i x l. c.numbers m i x l
-          ∙ sym (same (c.moment (m * n + i)) i (c.until (m * n + i) l));
-      entries = λ m i x l y. c.entries m i x l y
-          ∙ ap (λ v. Some v) (sym (kept (c.moment (m * n + i)) i (c.until (m * n + i) l)));
-    }
+    Collects-same number2 entry2 same kept = grind (arith, nat_tests)
 
     module _ (t j : ℕ) (end : e ≤ t) (turn : IsTurn n L j) where
       abbrev m : ℕ
@@ -112,8 +103,7 @@ module _ (A : Type 0) (n : ℕ) (number : Numbers) (entry : Entries A) (b e : �
 
     module _ (rising : IsRising number) where
       pub no_fall : (t j : ℕ) → e ≤ t → j < n → IsNoFall n L j (number t j)
-      no_fall t j end l m place =
-          grind (arith, c.numbers m j l, c.until (m * n + j), rising j (c.moment (m * n + j)) t)
+      no_fall t j end l m place = grind (arith, nat_tests)
 
       -- the first number found for a segment is at least the one it had when the scan began
       pub first_low : (j : ℕ) → j < n → j < length L → number b j ≤ slice_index L j
@@ -124,8 +114,7 @@ module _ (A : Type 0) (n : ℕ) (number : Numbers) (entry : Entries A) (b e : �
           ++ number t j ∷ []) j) where
         last_is : slice_index (L ++ number t j ∷ []) (length (L ++ number t j ∷ []) - 1)
             ≡ number t j
-        last_is = get_or_push L (number t j) 0 (length (L ++ number t j ∷ []) - 1)
-            (omega (arith, length_push L (number t j)))
+        last_is = grind (arith, nat_tests, get_or_push, length_push)
 
         -- a segment that rose by two since the scan's first look has risen by two since the scan
         -- began
@@ -184,11 +173,4 @@ module _ (A : Type 0) (n : ℕ) (number : Numbers) (entry : Entries A) (b e : �
 pub IsMoment-same : (n : ℕ) (number number2 : Numbers) (b e : ℕ) (L : List ℕ) (p : ℕ)
     → ((t i : ℕ) → t ≤ e → number2 t i ≡ number t i) → IsMoment n number b e L p
     → IsMoment n number2 b e L p
-IsMoment-same n number number2 b e L p same is = record {
-  after = is.after;
-  until = is.until;
-  tells = record {
-    clean = λ cl i l. same p i is.until ∙ is.tells.clean cl i l;
-    borrow = λ j br. ap (λ v. v + 1) (same p j is.until) ∙ is.tells.borrow j br;
-  };
-}
+IsMoment-same n number number2 b e L p same is = grind (arith, nat_tests, is)

@@ -25,10 +25,7 @@ latest_is s L j m st e place =
 -- a number that doesn't fall in one list doesn't fall in any list that the machine represents
 same_fall : (s : Machine) (K L : List ℕ) (j k : ℕ) → StandsFor s K → StandsFor s L
     → s.next ≡ Look j → IsNoFall s.segments K j k → IsNoFall s.segments L j k
-same_fall s K L j k sk sl e fall m place =
-    let same : length K ≡ length L = omega (arith, sk.looks, sl.looks) in
-    let u = latest_is s K j m sk e (omega arith) in
-    omega (arith, latest_is s L j m sl e place, fall m (omega arith))
+same_fall s K L j k sk sl e fall m place = grind (arith, nat_tests, latest_is)
 
 -- bounds that the code needs
 pub turn_fits : (s : Machine) (j k : ℕ) → s.next ≡ Look j → MayTell s j k
@@ -108,34 +105,12 @@ module _ (s : Machine) (L : List ℕ) (j k : ℕ) (st : StandsFor s L) (e : s.ne
 
     first_after : (i : ℕ) → i < s.segments → i < length (L ++ k ∷ [])
         → slice_index (firsts_after s j k) i ≡ slice_index (L ++ k ∷ []) i
-    first_after i hi l = grind (
-      arith,
-      nat_tests,
-      pushed,
-      at_start,
-      st.looks,
-      q.within,
-      st.most,
-      st.firsts,
-      get_or-set_other {A = ℕ},
-      get_or-set_same {A = ℕ},
-      q.first i hi,
-    )
+    first_after i hi l = grind (arith, nat_tests, pushed, at_start, q, get_or-set_other, get_or-set_same)
 
     -- the latest numbers of the current collect, with this one
     here_after : (i : ℕ) → i < j + 1
         → slice_index (slice_set s.latest j k) i ≡ slice_index (L ++ k ∷ []) (q.m * s.segments + i)
-    here_after i l = grind (
-      arith,
-      pushed,
-      q.place,
-      q.within,
-      st.most,
-      st.latests,
-      get_or-set_other {A = ℕ},
-      get_or-set_same {A = ℕ},
-      q.here i,
-    )
+    here_after i l = grind (arith, nat_tests, pushed, q, get_or-set_other, get_or-set_same)
 
     undecided_after : ((c : ℕ) → (c + 2) * s.segments ≡ length L + 1
         → Same s.segments (L ++ k ∷ []) c s.segments → ⊥)
@@ -160,14 +135,7 @@ module _ (s : Machine) (L : List ℕ) (j k : ℕ) (st : StandsFor s L) (e : s.ne
     stands : (changed : Bool) (next : Next)
         → Says (record (kept s j k) { changed = changed; next = next }) (L ++ k ∷ []) next
         → StandsFor (record (kept s j k) { changed = changed; next = next }) (L ++ k ∷ [])
-    stands changed next says = record {
-      least = st.least;
-      most = st.most;
-      firsts = grind (arith, nat_tests, length-set {A = ℕ}, st.firsts);
-      latests = length-set s.latest j k ∙ st.latests;
-      looks = omega (arith, st.looks, length_push L k);
-      says = says;
-    }
+    stands changed next says = grind (arith, nat_tests, length-set, length_push)
 
     rising_after : IsRising s.segments (L ++ k ∷ [])
     rising_after = rising_push s.segments L q.m j k q.within q.place q.rising

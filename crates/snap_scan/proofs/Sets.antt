@@ -21,15 +21,11 @@ module _ (set k : ℕ) where
 
   pub without : (Names set k → ⊥) → named_below set (suc k) ≡ below
   unfolding named_below
-  without un = cond-false (bit_at set k == 1) (below ++ k ∷ []) below
-      (ne_eqb (bit_at set k) 1 un)
+  without un = grind (arith, cond-false, bit_at, ne_eqb)
 
   pub more : (P : List ℕ → Type 0) → (Names set k → P (below ++ k ∷ [])) → ((Names set k → ⊥) → P below)
       → P (named_below set (suc k))
-  more P does un = elim (cases_eq (bit_at set k) 1) [
-    | inl is ↦ rw (with is) (does is)
-    | inr ne ↦ rw (without ne) (un ne)
-  ]
+  more P does un = grind (arith, bit_at, with, without)
 
 pub is_named : (set k p j : ℕ) → slice_get (named_below set k) p ≡ Some j → (j < k) × Names set j
 unfolding named_below
@@ -133,11 +129,7 @@ module _ (set : ℕ) where
   named_at j l is = has_place set 16 j l is
 
   pub at_once : (p q j : ℕ) → IsAt set p j → IsAt set q j → p ≡ q
-  at_once p q j a b = elim (cases_order p q) [
-    | inl same ↦ same
-    | inr (inl lt) ↦ absurd (omega (arith, ascends set 16 p q j j a b lt))
-    | inr (inr gt) ↦ absurd (omega (arith, ascends set 16 q p j j b a gt))
-  ]
+  at_once p q j a b = grind (arith, cases_order, ascends)
 
   pub at_some : (p : ℕ) → p < size set → IsAt set p (slice_index (named set) p)
   at_some p l = slice_get-get_or (named set) p 0 l
@@ -150,10 +142,7 @@ module _ (set : ℕ) where
 
   -- a set below 2 ^ n names no segment from n on
   named_low : (n j : ℕ) → set < 2 ^ n → Names set j → j < n
-  named_low n j l is = elim (cases_lt j n) [
-    | inl lt ↦ lt
-    | inr ge ↦ (let none : bit_at set j ≡ 0 = bit_at_above set n j l ge in absurd (cc))
-  ]
+  named_low n j l is = grind (arith, bit_at, bit_at_above)
 
   pub at_below : (n p j : ℕ) → set < 2 ^ n → IsAt set p j → j < n
   at_below n p j l at = named_low n j l (at_named p j at).1
@@ -173,8 +162,7 @@ module _ (set : ℕ) where
 
 -- a set among n segments, at most 16, fits in 16 bits
 below_most : (set n : ℕ) → n ≤ 16 → set < 2 ^ n → set < 2 ^ 16
-below_most set n few among =
-    let more : 2 ^ n ≤ 2 ^ 16 = pow-le-pow_right (omega arith) few in omega arith
+below_most set n few among = grind (arith, more, pow-le-pow_right, few)
 
 module _ (set n : ℕ) (few' : n ≤ 16) (among : set < 2 ^ n) where
   pub some_among : 0 < set → 0 < size set
@@ -207,8 +195,7 @@ module _ (n : ℕ) (most : n ≤ 16) where
   all_at p l = all_up_to.each p l
 
   pub all_is : (p j : ℕ) → IsAt (2 ^ n - 1) p j → j ≡ p
-  all_is p j at =
-      same_Some j p (sym at ∙ all_at p (omega (arith, all_size, at_within (2 ^ n - 1) p j at)))
+  all_is p j at = grind (arith, same_Some, all_at, all_size, at_within)
 
 -- a list with a property at each place, and one more entry with it
 module _ {A : Type 0} (P : ℕ → A → Type 0) (set k : ℕ) (xs : List A) where

@@ -23,31 +23,18 @@ module _ (n : ℕ) (L : List ℕ) (m j k : ℕ) (within : j < n) (place : length
   pub undecided_push : IsUndecided n L (length L) → ((j < length L) → k < slice_index L j + 2)
       → ((c : ℕ) → (c + 2) * n ≡ length L + 1 → Same n (L ++ k ∷ []) c n → ⊥)
       → IsUndecided n (L ++ k ∷ []) (length (L ++ k ∷ []))
-  undecided_push u small fresh = record {
-    low = low_push u.low small;
-    no_clean = λ c h same. elim (cases_lt (length L) ((c + 2) * n)) [
-      | inl lt ↦ fresh c (omega (arith, length_push L k)) same
-      | inr le ↦ u.no_clean c le (Same-old c n (omega arith) (omega arith) same)
-    ];
-  }
+  undecided_push u small fresh = grind (arith, low_push, length_push, Same-old)
 
   -- the earlier numbers still decide nothing
   pub undecided_before : IsUndecided n L (length L) → (b : ℕ) → length (L ++ k ∷ []) ≡ b + 1
       → IsUndecided n (L ++ k ∷ []) b
-  undecided_before u b e =
-      let at : b ≡ length L = omega (arith, length_push L k) in
-      record {
-        low = λ p i hi lt. grind (arith, pushed, u.low p i hi);
-        no_clean = λ c h same. u.no_clean c (omega arith)
-            (Same-old c n (omega arith) (omega arith) same);
-      }
+  undecided_before u b e = grind (arith, length_push, pushed, Same-old)
 
   -- equal so far, and equal with the new number
   pub same_push : IsChanged false n L m j
       → ((p : ℕ) → m ≡ p + 1 → slice_index L (p * n + j) ≡ k)
       → IsChanged false n (L ++ k ∷ []) m (j + 1)
-  same_push was same =
-      (was.0, was.1, λ i l. grind (arith, pushed, was.2 i, same was.0 was.1, cases_lt i j))
+  same_push was same = grind (arith, pushed)
 
   -- different so far, or different with the new number
   pub changed_push : IsChanged true n L m j

@@ -15,8 +15,7 @@ pub Same-from_clean : (n : ℕ) (L : List ℕ) (clean : IsClean n L) → Same n 
 Same-from_clean n L clean i l = grind (arith, clean.same i l, clean.rounds.1)
 
 not_clean : (n : ℕ) (L : List ℕ) → IsUndecided n L (length L) → IsClean n L → ⊥
-not_clean n L u clean =
-    u.no_clean clean.rounds.0 (omega (arith, clean.rounds.1)) (Same-from_clean n L clean)
+not_clean n L u clean = grind (arith, Same-from_clean)
 
 not_borrow : (n : ℕ) (L : List ℕ) (j : ℕ) → AllLow n L (length L) → IsBorrow n L j → ⊥
 not_borrow n L j low b = grind (arith, low b.last.0 j b.segment, b.last.1, b.moved)
@@ -49,12 +48,7 @@ total n L m = sum_below (λ i. slice_index L (m * n + i)) n
 
 total-lt : (n : ℕ) (L : List ℕ) (c : ℕ) → IsRising n L → IsUndecided n L (length L)
     → (c + 2) * n ≤ length L → total n L c < total n L (c + 1)
-total-lt n L c up u h =
-    elim (same_or_more (λ i. slice_index L (c * n + i)) (λ i. slice_index L ((c + 1) * n + i)) n
-    (λ i l. up c i l (omega arith))) [
-      | inl all ↦ absurd (u.no_clean c h all)
-      | inr more ↦ more
-    ]
+total-lt n L c up u h = grind (arith, same_or_more)
 
 total-cap : (n : ℕ) (L : List ℕ) (m : ℕ) → IsUndecided n L (length L) → (m + 1) * n ≤ length L
     → total n L m ≤ total n L 0 + n * 1
@@ -115,8 +109,7 @@ listed set list p j is at = at_is set p j (ap (λ l. slice_get l p) (sym is) ∙
 -- the place of the next look has a segment
 pub turn_at : (set : ℕ) (s : Machine) (L : List ℕ) (p j : ℕ) → s.segments ≡ size set
     → s.next ≡ Look p → slice_index (named set) p ≡ j → StandsFor s L → IsAt set p j
-turn_at set s L p j count is at st =
-    at_some set p (omega (arith, (said s L (Look p) st is).within)) ∙ ap (λ v. Some v) at
+turn_at set s L p j count is at st = grind (arith, at_some, said)
 
 -- the machine's next step is what its list decides
 module _ (set : ℕ) (s : Machine) (L : List ℕ) (count : s.segments ≡ size set) (st : StandsFor s L) where
@@ -183,5 +176,4 @@ module _ (set : ℕ) (s : Machine) (L : List ℕ) (count : s.segments ≡ size s
 pub next_is : (set : ℕ) (s : Machine) (L : List ℕ) (v : Course) (next : Next) → s.segments ≡ size set
     → StandsFor s L → (record { set = set; told = L; next = next_at set s.next }) ≡ v
     → next_at set s.next ≡ next → IsNext v.set v.told next
-next_is set s L v next count st view is = subst (λ (z : Course). IsNext z.set z.told next) view
-    (subst (IsNext set L) is (says_next set s L count st))
+next_is set s L v next count st view is = grind (arith, says_next)
