@@ -65,11 +65,7 @@ block_same d w a b whole each fits =
 
 -- a block stays when words are appended
 pub block_stays : (d e : List ℕ) (a : ℕ) → IsPrefix d e → IsWhole d a → Copied e d a a
-block_stays d e a pre whole =
-    let in_d = whole.inside in
-    let l : length e ≡ length d + length pre.0 = rw (← pre.1) (length-append d pre.0) in
-    block_same e d a a whole (λ q lq. rw (← pre.1) (get_or_append_left d pre.0 0 (a + q) (omega arith)))
-    (omega arith)
+block_stays d e a pre whole = grind (arith, whole, length-append, block_same, get_or_append_left)
 
 pub behind_stays : (d e : List ℕ) (a k : ℕ) → IsPrefix d e
     → ((i : ℕ) → i < k → IsWhole d (behind d a i)) → behind e a k ≡ behind d a k
@@ -137,11 +133,7 @@ take_piece n k xs = sym (take-append-drop n (take (n + k) xs))
 -- one word more
 bytes_next : (d front next : List ℕ) (k w : ℕ) → length d ≡ 2 + k → bytes_at d 2 k ≡ front
     → to_le_bytes w64 w ≡ next → bytes_at (d ++ w ∷ []) 2 (k + 1) ≡ front ++ next
-bytes_next d front next k w long old new =
-    let same = bytes_same (d ++ w ∷ []) d 2 2 k
-    (λ q lq. get_or_append_left d (w ∷ []) 0 (2 + q) (omega arith)) in
-    bytes_more (d ++ w ∷ []) 2 k ∙ (λ t. (same ∙ old) t
-    ++ (ap (to_le_bytes w64) (get_or_push d w 0 (2 + k) long) ∙ new) t)
+bytes_next d front next k w long old new = grind (arith, bytes_same, get_or_append_left, bytes_more, get_or_push)
 
 -- one word more, of eight of the bytes
 pub bytes_push : (d value : List ℕ) (k w : ℕ) → length d ≡ 2 + k

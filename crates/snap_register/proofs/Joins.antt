@@ -121,9 +121,7 @@ module _ (S : Type 0) where
   pub seats_reader : (p : Plan) (id : ℕ) (v : SeatView) → ((i : ℕ) → get_or v.pins i 0 ≡ 0)
       → v.plan.looks ≤ v.left → 1 ≤ v.pin_quota
       → Splits {S = S} (Kept p) id v (without_reader v) (reader v)
-  seats_reader p id v bare some_looks some_share =
-      parts p id v (v.pin_quota - 1) (v.left - v.plan.looks) 1 v.plan.looks v.pins v.records
-      (omega arith) (omega arith) (λ i some_pin. omega (arith, bare i)) bare
+  seats_reader p id v bare some_looks some_share = grind (arith, nat_tests, parts)
 
   -- the new seat writes the first segment, the old one those after it
   pub gives : (p : Plan) (id : ℕ) (v : SeatView) → v.seen_end ≡ v.high → v.pool_end ≡ v.high

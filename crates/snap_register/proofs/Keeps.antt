@@ -83,11 +83,8 @@ register_beside {vs = vs} {i = i} id v w at pin left words line =
 pub pinned_stays : {p : Plan} {h h' : List Entry} {ws ws' : List ℕ} {i b r : ℕ} → IsPrefix h h'
     → ((q : ℕ) → q < width p → get_or ws' (cell p i b q) 0 ≡ get_or ws (cell p i b q) 0)
     → Pinned p h ws i b r → Pinned p h' ws' i b r
-pinned_stays {p} {h} {h'} {ws} {ws'} {i} {b} {r} pre cells k = record {
-  inside = k.inside;
-  old = omega (arith, count_prefix i h h' pre);
-  holds = rw (record_prefix p h h' i r pre k.old) (λ q lq lw. cells q lq ∙ k.holds q lq lw);
-}
+pinned_stays {p} {h} {h'} {ws} {ws'} {i} {b} {r} pre cells k =
+    grind (arith, nat_tests, count_prefix, record_prefix, cells)
 
 -- what a seat knows stays true while the buffers that it pins and what it writes stay
 pub knows_stays : {p : Plan} {h h' : List Entry} {ws ws' : List ℕ} {writer writer' : ℕ → ℕ}
@@ -121,9 +118,7 @@ module _ (S : Type 0) where
   pub seats_stay : (K : ℕ → SeatView → Type 0) (vs : List SeatView) (me : ℕ) (w : SeatView) → K me w
       → ((j : ℕ) (v : SeatView) → j ≢ me → get_elem? vs j ≡ some v → K j v)
       → (j : ℕ) (v : SeatView) → get_elem? (set vs me w) j ≡ some v → K j v
-  seats_stay K vs me w mine others j v e =
-      ⊎_elim (λ (t : (j ≡ me) × (w ≡ v)). rw (t.0, ← t.1) mine)
-      (λ (t : (j ≢ me) × (get_elem? vs j ≡ some v)). others j v t.0 t.1) (at_set vs me j w v e)
+  seats_stay K vs me w mine others j v e = grind (arith, nat_tests, at_set)
 
   -- a step may be taken if it keeps the rule of the seat's own plan, which is the table's
   pub allowed : (p : Plan) (slots id : ℕ) (m : M) (c : ℕ) (f : ℕ → ℕ) (tells : ℕ → M → Type 0)
@@ -132,16 +127,7 @@ module _ (S : Type 0) where
       → (w : SeatView) × Kept m.0.plan (stepped s c (f (get_or s.words c 0)) id m.1 w keeps)
       × tells (get_or s.words c 0) (w, m.1))
       → Allows (Kept p) slots id m c f tells
-  allowed p slots id m c f tells here go s k _ at _ =
-      let e : m.0.plan ≡ p = (k.each_seat id m.0 at).plan here in
-      let r = go s (rw e k) at in (
-        r.0,
-        keeps,
-        tt,
-        subst (λ (z : Plan).
-            Kept z (stepped s c (f (get_or s.words c 0)) id m.1 r.0 keeps)) e r.1,
-        r.2,
-      )
+  allowed p slots id m c f tells here go s k _ at _ = grind (arith, nat_tests, keeps)
 
   -- a load leaves the words unchanged
   pub loaded : {p : Plan} (s : St) (c id : ℕ) (cs : List (ℕ × S)) (w : SeatView)
@@ -233,14 +219,7 @@ module _ (S : Type 0) where
   -- what a seat learns that sees the whole history
   told_all : {s : St} (v w : SeatView) (k : Kept v.plan s) (id : ℕ) → get_elem? s.views id ≡ some v
       → Learns v (record w { seen = k.history })
-  told_all v w k id at = let known = k.each_seat id v at in record {
-    later = known.seen;
-    received = known.received;
-    own = λ i has near. sym ((known.role i has).all near);
-    given = λ i has far. sym ((known.role i has).given far);
-    legal = k.legal;
-    below = λ i li. (k.registers i li).number;
-  }
+  told_all v w k id at = grind (arith, nat_tests)
 
   pub hears : (p : Plan) (slots id : ℕ) (m : M) (j : ℕ) → m.0.spent ≡ false
       → Allows (Kept p) slots id m j (λ n. n) (heard (step slots j 0 0 maybe.none) m)

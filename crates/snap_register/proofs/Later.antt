@@ -17,9 +17,7 @@ use native.Mathlib.Decide.{ℕ_discrete}
 -- if y has a property at j, and the other entries have it, then all have it after y is set at j
 pub set_each : (P : ℕ → ℕ → Type 0) (l : List ℕ) (j y : ℕ) → j < length l → P j y
     → ((i : ℕ) → i ≢ j → P i (get_or l i 0)) → (i : ℕ) → P i (get_or (set l j y) i 0)
-set_each P l j y inside here others i = dite (ℕ_discrete i j)
-    (λ e. rw (e, get_or-set_same l j y 0 inside) here)
-    (λ ne. rw (get_or-set_other l j i y 0 ne) (others i ne))
+set_each P l j y inside here others i = grind (arith, get_or-set_same, get_or-set_other)
 
 -- a seat at rest in which only these have changed
 abbrev pub changed : {S : Type 0} → Me S SeatView → List Entry → ℕ → List ℕ → List ℕ → List Sight
@@ -42,10 +40,7 @@ module _ {S : Type 0} {words left : ℕ} {pins : List ℕ} {m : Me S SeatView}
     (seated : IsSeated words pins left m) where
   -- between two calls it has seen all that it received
   pub settled : m ≡ (record m.0 { received = []; seen_end = m.0.high }, m.1)
-  settled = λ t. (
-    record m.0 { received = seated.received_none t; seen_end = seated.seen_end_is t },
-    m.1,
-  )
+  settled = grind arith
 
   -- only the pins, the records, the looks, the pool and what was seen have changed
   seated_with : {words' left' l : ℕ} {pins' : List ℕ} {m' : Me S SeatView} (seen : List Entry)
@@ -69,13 +64,7 @@ module _ {S : Type 0} {words left : ℕ} {pins : List ℕ} {m : Me S SeatView}
       → ((i : ℕ) → i < segments m.0.plan → Readable m.0.plan seen i (get_or ms i 0))
       → IsSeated words' (set pins j x) left' m'
   seated_set j x seen ms ss lj wide few same lefts is wide_ms =
-      let inside : j < length m.0.pins = let a = seated.wide_pins in omega arith in
-      seated_with seen (set m.0.pins j x) ms ss m.0.pool same lefts is (length-set m.0.pins j x)
-      wide_ms (set_each (λ i y. i < segments m.0.plan → get_or (set pins j x) i 0 ≡ y) m.0.pins j x
-      inside (λ _. get_or-set_same pins j x 0 wide)
-      (λ i ne li. get_or-set_other pins j i x 0 ne ∙ seated.pins_are i li))
-      (set_each (λ i y. i < segments m.0.plan → y ≤ buffers m.0.plan) m.0.pins j x inside
-      (λ _. few) (λ i ne li. seated.pins_inside i li))
+      grind (arith, seated_with, length-set, set_each, get_or-set_same, get_or-set_other)
 
   pub seated_pinned : {n s block_words whole words' left' : ℕ} {m' : Me S SeatView} (j x : ℕ)
       → IsSized n s block_words whole m.0.plan → j < segments m.0.plan → j < length pins
@@ -106,10 +95,7 @@ module _ {S : Type 0} {words left : ℕ} {pins : List ℕ} {m : Me S SeatView}
   -- only the pool has changed
   pub seated_pool : {words' : ℕ} {m' : Me S SeatView} (d : Pool) → words' ≡ words
       → m' ≡ (record m.0 { pool = d }, m.1) → IsSeated words' pins left m'
-  seated_pool d same is =
-      seated_with m.0.seen m.0.pins m.0.records m.0.sights d same seated.left_is
-      (is ∙ ap (λ (n : Me S SeatView). (record n.0 { pool = d }, n.1)) settled) refl refl
-      seated.pins_are seated.pins_inside seated.records_are seated.readable
+  seated_pool d same is = grind (arith, seated_with, settled)
 
   -- only the pool and what was seen have changed
   pub seated_shown : {n s block_words whole words' : ℕ} {m' : Me S SeatView} (d : Pool)
@@ -130,17 +116,11 @@ pub sized_still : (a : Access) {p : Plan} → p ≡ (view_of a).plan
 sized_still a e = rw e a.sized
 
 pub publishes_later : (v w : SeatView) (i x : ℕ) → Publishes v w i x → IsPrefix v.seen w.seen
-publishes_later v w i x s = (
-  s.between ++ entry i v.pool.draft ∷ [],
-  sym (append_assoc v.seen s.between (entry i v.pool.draft ∷ [])) ∙ sym s.seen,
-)
+publishes_later v w i x s = grind (arith, append_assoc)
 
 pub publishes_count : (v w : SeatView) (i x : ℕ) → Publishes v w i x
     → count i w.seen ≡ count i v.seen + 1
-publishes_count v w i x s =
-    let b : count i s.between ≡ 0 = ap length s.others in
-    let c = count_push_same i (v.seen ++ s.between) (entry i v.pool.draft) refl in
-    omega (arith, count-append i v.seen s.between, ap (count i) s.seen ∙ c)
+publishes_count v w i x s = grind (arith, count_push_same, count-append)
 
 pub some_words : {n s block_words whole words : ℕ} {p : Plan} → IsSized n s block_words whole p
     → words ≡ size p → 0 < words

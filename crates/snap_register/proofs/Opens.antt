@@ -22,26 +22,19 @@ use lib.ListN.{get_elem?}
 
 fewer_looks : (l looks : ℕ) → 0 < l → (looks ≤ l * looks) × (l * looks - looks ≡ (l - 1) * looks)
 fewer_looks zero looks any = absurd (omega arith)
-fewer_looks (suc l) looks any =
-    let same : suc l - 1 ≡ l = omega arith in
-    (omega arith, rw same (omega (arith, suc-mul l looks)))
+fewer_looks (suc l) looks any = grind (arith, nat_tests, suc-mul)
 
 legal_none : (p : Plan) → IsLegal p []
 legal_none p a b e is = absurd (omega (arith, ap length is, length-append a (e ∷ b)))
 
 -- zeros only
 none_at : (n i : ℕ) → get_or {A = ℕ} (replicate n 0) i 0 ≡ 0
-none_at n i = dite (dec_le n i)
-    (λ past. get_or_past (replicate n 0) i 0 (omega (arith, length-replicate {A = ℕ} n 0)))
-    (λ here. get_or-replicate n i 0 0 (omega arith))
+none_at n i = grind (arith, nat_tests, get_or_past, length-replicate, get_or-replicate)
 
 module _ (S : Type 0) where
   pub enough : (words l : ℕ) (m : Me S SeatView) → IsFirst words l m → 0 < l
       → (m.0.plan.looks ≤ m.0.left) × (1 ≤ m.0.pin_quota)
-  enough words l m f any = (
-    omega (arith, (fewer_looks l m.0.plan.looks any).0, f.left_is),
-    omega (arith, f.pin_quota_is),
-  )
+  enough words l m f any = grind (arith, nat_tests, fewer_looks)
 
   pub bare : (words l : ℕ) (m : Me S SeatView) → IsFirst words l m → (i : ℕ)
       → get_or m.0.pins i 0 ≡ 0
@@ -57,11 +50,7 @@ module _ (S : Type 0) where
         },
         m.1,
       ) → IsFirst words' k n
-  first_after words words' l k low m n f e same is =
-      let one_less : l - 1 ≡ k = omega arith in
-      let left : m.0.left - m.0.plan.looks ≡ k * m.0.plan.looks =
-      rw f.left_is ((fewer_looks l m.0.plan.looks (omega arith)).1 ∙ ap (λ (z : ℕ). z * m.0.plan.looks) one_less) in
-      rw is (search (arith, f))
+  first_after words words' l k low m n f e same is = grind (arith, nat_tests, fewer_looks)
 
 pub writers_more : (z : TableId) (p : Plan) (xs : List Known) (a : Known) → AreWriters z p xs
     → IsNewSeat z p (length xs) (length xs + 1) a → AreWriters z p (xs ++ a ∷ [])
@@ -74,10 +63,7 @@ readers_more z p xs a = get-push (IsNewSeat z p 0 0) xs a
 pub new_seat : (S : Type 0) (z : TableId) (p : Plan) (low high : ℕ) (a : Known) (t : TableId)
     (m n : Me S SeatView) → m ≡ n → a ≡ known t m.0 → t ≡ z → n.0.plan ≡ p → n.0.seen ≡ []
     → n.0.low ≡ low → n.0.high ≡ high → n.0.left ≡ n.0.plan.looks → IsNewSeat z p low high a
-new_seat S z p low high a t m n me is te pe se le he fe =
-    let seen : updates n.0.seen ≡ [] = ap updates se in
-    let left : n.0.left ≡ p.looks = fe ∙ ap (λ (x : Plan). x.looks) pe in
-    rw (is, me) (search)
+new_seat S z p low high a t m n me is te pe se le he fe = grind (arith, nat_tests)
 
 module _ {X : Type 0} (f : X → List ℕ) (d : X) (b : ℕ) where
   even_length : (xs : List X) → ((i : ℕ) → i < length xs → length (f (get_or xs i d)) ≡ b)
@@ -123,9 +109,7 @@ module _ (p : Plan) (ready : IsReady p) where
       ∙ omega (arith, count_zeros, even_length piece no_start block p.start even)
 
   zero_at : (i : ℕ) → i < front → get_or (opening_words p) i 0 ≡ 0
-  zero_at i li =
-      get_or_append_left zeros (flat_map piece p.start) 0 i (omega (arith, count_zeros))
-      ∙ get_or-replicate front i 0 0 li
+  zero_at i li = grind (arith, nat_tests, get_or_append_left, flat_map, count_zeros, get_or-replicate)
 
   zero_given : (i b : ℕ) → i < segments p → b < buffers p
       → get_or (opening_words p) (given p i b) 0 ≡ 0
@@ -159,14 +143,7 @@ module _ (p : Plan) (ready : IsReady p) where
 
   seated : (j : ℕ) (v : SeatView) → get_elem? (first_view p ∷ []) j ≡ some v
       → Knows p [] (opening_words p) (λ _. 0) (λ _. first_pool p) j v
-  seated zero v e = rw (← some-injective (first_view p) v e) (record {
-    plan = λ _. refl;
-    seen = ([], refl);
-    received = ([], refl);
-    role = λ i has. search;
-    pins = λ i b li pin. absurd (omega (arith, no_pin i));
-    pin_quota = λ i pin. absurd (omega (arith, no_pin i));
-  })
+  seated zero v e = grind (arith, nat_tests, no_pin)
   seated (suc j) v e = absurd (some-ne-none v (sym e))
 
   pub opens : (S : Type 0) → Kept {S = S} p (opening (opening_words p) [] (first_view p))
@@ -225,9 +202,7 @@ base_of (x ∷ xs) (suc i) li = base_of xs i (omega arith)
 -- at the start a seat may read each record
 start_readable : (p : Plan) → IsReady p → (i : ℕ) → i < segments p
     → Readable p [] i (get_or (replicate (segments p) 0) i 0)
-start_readable p ready i li =
-    rw (none_at (segments p) i)
-    (readable p [] i 0 (legal_none p) ready.block_words_is (ready.each i li).0 (omega arith))
+start_readable p ready i li = grind (arith, nat_tests, none_at, readable, legal_none)
 
 pub first_is : (S : Type 0) (p : Plan) (words : ℕ) (m : Me S SeatView) → IsReady p → words ≡ size p
     → m ≡ (first_view p, []) → IsFirst words (seats m.0.plan) m

@@ -10,14 +10,7 @@ use Rattle.snap_history.proofs.Lists.{get-push_at, get-append_left, get-append_l
 pub Pairs-push : {A B : Type 0} (R : ℕ → A → B → Type 0) (xs : List A) (ys : List B) (x : A) (y : B)
     → Pairs R xs ys → R (length xs) x y → Pairs R (xs ++ x ∷ []) (ys ++ y ∷ [])
 Pairs-push R xs ys x y p here =
-    let s : length xs ≡ length ys = p.size in
-    record {
-      size = length_push xs x ∙ (ap (λ n. n + 1) s ∙ sym (length_push ys y));
-      each = λ i a b ea. get-push_at (λ i a. slice_get (ys ++ y ∷ []) i ≡ Some b → R i a b) xs x
-          (λ j c wa eb. let inside = slice_get_within xs j c wa in
-          p.each j c b wa (sym (get-append_left ys (y ∷ []) j (omega arith)) ∙ eb))
-          (λ eb. rw (← same_Some y b (sym (get-append_last ys y) ∙ rw s at eb)) here) i a ea;
-    }
+    grind (arith, length_push, get-push_at, slice_get_within, get-append_left, same_Some, get-append_last)
 
 -- the first k elements and the next one
 pub take_next : {A : Type 0} (k : ℕ) (xs : List A) (x : A) → slice_get xs k ≡ Some x

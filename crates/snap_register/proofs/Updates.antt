@@ -92,14 +92,7 @@ update_found z v j found =
 pub grows_is : (z z' : TableId) (v w : SeatView) → z' ≡ z → w.plan ≡ v.plan → w.low ≡ v.low
     → w.high ≡ v.high → IsPrefix v.seen w.seen → ((i : ℕ) → Has v i → only i w.seen ≡ only i v.seen)
     → Grows (known z v) (known z' w)
-grows_is z z' v w same plan low high later own = record {
-  table = same;
-  plan = plan;
-  low = low;
-  high = high;
-  later = beginning_is v.seen w.seen later;
-  own = λ i l h. grind (arith, own i (l, h), updates_count i w.seen, updates_count i v.seen);
-}
+grows_is z z' v w same plan low high later own = grind (arith, nat_tests, beginning_is, updates_count)
 
 -- a meeting, after which the seat has seen h
 pub meets_is : (z z' : TableId) (v w : SeatView) (h : List Entry) → z' ≡ z
@@ -214,21 +207,4 @@ follows_is v i k (Borrowed j) value d e can may old next own long pre blocks leg
 -- the effect of a publication
 pub shown_is : (z z' : TableId) (v w : SeatView) (i k : ℕ) (value : List ℕ) → z' ≡ z → v.low ≡ i
     → IsShown v w i k value → Shows (known z v) (known z' w) value
-shown_is z z' v w i k value same low s =
-    let e : Entry = entry i s.words in
-    let last : update_of e ≡ record { segment = v.low; value = value } =
-    λ t. record { segment = sym low t; value = s.value_is t } in
-    rw s.same (record {
-      table = same;
-      plan = refl;
-      low = refl;
-      high = refl;
-      looks = λ j. refl;
-      left = refl;
-      sights = refl;
-      between = updates s.between;
-      seen = ap updates s.seen ∙ (map-append update_of (v.seen ++ s.between) (e ∷ [])
-          ∙ (λ t. map-append update_of v.seen s.between t ++ last t ∷ []));
-      others = ap (λ (j : ℕ). updates_of j (updates s.between)) low
-          ∙ (updates_count i s.between ∙ ap length s.others);
-    })
+shown_is z z' v w i k value same low s = grind (arith, nat_tests, map-append, updates_count)

@@ -78,13 +78,7 @@ view_whole a j k legal updated lj lk =
 -- a pinned record has few words
 held_small : (a : Access) (j : ℕ) → j < segments (view_of a).plan
     → length (held (view_of a) j) ≤ 8704
-held_small a j lj = omega (
-  arith,
-  (a.seated.readable j lj).fits,
-  width_is (view_of a).plan a.sized.block_words_is,
-  a.sized.few,
-  a.sized.segments_are,
-)
+held_small a j lj = grind (arith, width_is)
 
 -- so the place after one of its blocks fits in a word
 pub ends_small : (a : Access) (j at n : ℕ) (w : List ℕ) → j < segments (view_of a).plan
