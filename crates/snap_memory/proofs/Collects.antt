@@ -62,8 +62,7 @@ first_within h c (x ∷ xs) b = b
 begins_fresh : (a b : Known) (xs : List (List Update)) (part : List Update) → 0 < length xs
     → b.sights ≡ a.sights ++ xs → IsBeginning (first_of a.seen xs) part → BeginsFresh a b part
 begins_fresh a b [] part l is begins = absurd (omega arith)
-begins_fresh a b (x ∷ xs) part l is begins =
-    record { first = x; later = xs; looks = is; begins = begins }
+begins_fresh a b (x ∷ xs) part l is begins = grind arith
 
 -- a scan's looks are also valid for an earlier begin, and before the first look for any begin
 collects_from : {n : ℕ} {number : Numbers} {entry : Entries (List ℕ)} {f f' e : ℕ} {told : List ℕ}
@@ -117,14 +116,7 @@ pub record Gathers (a b : Known) (set : ℕ) (told numbers : List ℕ) : Type 0 
   pub below : 0 < length told → IsBelow b
 
 pub grows_self : (a : Known) → Grows a a
-grows_self a = record {
-  table = refl;
-  plan = refl;
-  low = refl;
-  high = refl;
-  later = beginning-self a.seen;
-  own = λ i l h. refl;
-}
+grows_self a = grind (arith, beginning-self)
 
 pub grows_more : (a b c : Known) → Grows a b → Grows b c → Grows a c
 grows_more a b c f g = record {
@@ -176,21 +168,16 @@ module _ (a b c : Known) (set : ℕ) (told numbers : List ℕ) (j k : ℕ)
       (beginning-trans (first_of a.seen g.sights) b.seen c.seen g.within later.later)
 
   number_same : (t p : ℕ) → t ≤ length b.seen → number t p ≡ number_at set (starts a.plan) b.seen t p
-  number_same t p l = ap (λ h. number_after (starts a.plan) h (slice_index (named set) p))
-      (take-beginning b.seen c.seen t later.later l)
+  number_same t p l = grind (arith, take-beginning)
 
   -- the number found is that of the moment of the look
   now : k ≡ number (length c.seen) place
-  now = found ∙ ap (λ (p : Plan). number_after (starts p) c.seen j) (later.plan ∙ g.grows.plan)
-      ∙ ap (λ h. number_after (starts a.plan) h j) (sym (take-length c.seen))
-      ∙ ap (number_after (starts a.plan) (take (length c.seen) c.seen)) (sym (at_is set place j at))
+  now = grind (arith, take-length, at_is)
 
   -- after the first look, the first stays the same
   grown : Collects (List ℕ) (size set) number (entry_at set (starts a.plan) c.seen) (length first)
       (length b.seen) told g.latest
-  grown = collects_from
-      (λ l. omega (arith, ap length (first_stays a.seen c.seen g.sights (omega (arith, g.all_told)))))
-      (Collects-same _ _ _ _ _ _ _ _ g.collects _ _ number_same (λ t p l. ap (λ v. v ∷ []) (number_same t p l)))
+  grown = grind (arith, collects_from, first_stays, Collects-same, number_same)
 
   -- the number found isn't below the last one found for the segment
   pub told_fits : (p : ℕ) → IsAt set p j → IsNoFall (size set) told p k
@@ -257,8 +244,7 @@ module _ (a b : Known) (set : ℕ) (told numbers : List ℕ) (g : Gathers a b se
 
   is_fresh : (part : List Update) → 0 < length told → IsBeginning first_seen part
       → BeginsFresh a b part
-  is_fresh part some begins =
-      begins_fresh a b g.sights part (omega (arith, g.all_told)) g.sights_are begins
+  is_fresh part some begins = grind (arith, begins_fresh)
 
   -- so the scan used up looks, and no more than a scan might
   pub takes_looks : 0 < length told → TakesLooksOf (size set) a b
@@ -324,16 +310,10 @@ module _ (a b : Known) (set : ℕ) (told numbers : List ℕ) (g : Gathers a b se
     of_segment t = ap (number_after (starts a.plan) (take t b.seen)) (at_is set place_of j at)
 
     told_last : last ≡ seen_at (g.collects.moment (m * size set + place_of)) place_of
-    told_last = ap (slice_index told)
-        (let at : length told - 1 ≡ m * size set + place_of = omega (arith, ends_at) in at)
-        ∙ g.collects.numbers m place_of borrowed.segment (omega (arith, ends_at))
+    told_last = grind (arith, ends_at)
 
     looked_last : looked b j ≡ Some last
-    looked_last =
-        (g.last_looks place_of j _ at
-        (g.collects.entries m place_of borrowed.segment (omega (arith, ends_at))
-        (omega (arith, ends_at, g.some)))).0
-        ∙ ap Some (sym told_last)
+    looked_last = grind (arith, ends_at, told_last)
 
     -- the segment rose by two since the scan's first look
     rose : seen_at (length first_seen) place_of + 2 ≤ last

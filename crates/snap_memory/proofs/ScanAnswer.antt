@@ -59,16 +59,10 @@ seen_value b i x part was within is =
 module _ (b : Known) (j set : ℕ) (xs : List (ℕ × List ℕ)) (i : ℕ) (v : IsView b j set xs)
     (l : i < segments b.plan) (named : Names set i) where
   view_entry : get_or xs i (0, []) ≡ (number_in b v.part i, value_in b v.part i)
-  view_entry = same_Some _ _ (sym (slice_get-get_or xs i (0, []) (omega (arith, v.memory.size)))
-      ∙ v.memory.each i l named)
+  view_entry = grind (arith, same_Some, slice_get-get_or)
 
   pub view_seen : WasSeen b i (get_or xs i (0, []))
-  view_seen = record {
-    part = v.part;
-    within = v.beginning;
-    number_is = ap (λ (x : ℕ × List ℕ). x.0) view_entry;
-    value_is = ap (λ (x : ℕ × List ℕ). x.1) view_entry;
-  }
+  view_seen = grind (arith, view_entry)
 
 module _ (set : ℕ) (a b : Known) where
   pub part_clean : (memory : List (ℕ × List ℕ)) → IsCleanScan set a b → AreLooked set b memory
@@ -178,29 +172,11 @@ module _ (a b : Known) (few : segments b.plan ≤ 16) where
 
   pub snapshot_all : (memory : List (ℕ × List ℕ)) → HasPart (all_of b) a b memory
       → IsSnapshot a b memory
-  snapshot_all memory s = record {
-    part = s.part;
-    begins = s.begins;
-    fresh = s.fresh;
-    within = s.within;
-    is_memory = record {
-      size = s.is_memory.size;
-      each = λ i l. s.is_memory.each i l (all_names i l);
-    };
-  }
+  snapshot_all memory s = grind (arith, all_names)
 
   pub snapshot_listed : (values : List (ℕ × List ℕ)) → IsPart (all_of b) a b values
       → IsSnapshot a b values
-  snapshot_listed values s = record {
-    part = s.part;
-    begins = s.begins;
-    fresh = s.fresh;
-    within = s.within;
-    is_memory = record {
-      size = s.size ∙ all_size (segments b.plan) few;
-      each = λ i l. s.each i i (all_at (segments b.plan) few i l);
-    };
-  }
+  snapshot_listed values s = grind (arith, all_size, all_at)
 
 -- a writer's own segment has no further update than those its seat had seen, so the answer of its
 -- scan has them all
@@ -216,14 +192,5 @@ module _ (a b : Known) (g : Grows a b) (alone : a.high ≡ a.low + 1)
       omega arith
 
   pub may_publish : (view : View) → IsScan (all_of b) a b view → MayPublish b view
-  may_publish Collected s = record {
-    part = s.part;
-    beginning = s.within;
-    whole = has_all s.part s.begins s.within;
-    each = λ i l. s.each i l (all_names a b few i l);
-  }
-  may_publish (Borrowed j) s = record {
-    inside = s.inside;
-    found = s.found;
-    whole = λ part within before. has_all part (s.begins part within before) within;
-  }
+  may_publish Collected s = grind (arith, has_all, all_names)
+  may_publish (Borrowed j) s = grind (arith, has_all)
