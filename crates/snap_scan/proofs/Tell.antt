@@ -2,7 +2,6 @@
 use Rattle.std.proofs.Common.{◌≡◌, ◌≢◌, ℕ, ◌+◌, ◌*◌, ◌<◌, ◌≤◌, ◌⊎◌, inl, inr, true, false, List, [], ◌∷◌, ◌++◌, length}
 use Rattle.std.proofs.Common.{slice_index, ap, arith}
 use Rattle.std.proofs.lemmas.List.{length_push}
-use Rattle.std.proofs.lemmas.Bool.{cases_lt}
 use Rattle.snap_scan.specs.Stands.{IsUndecided, IsRising, AllLow, Same, IsChanged}
 use Rattle.snap_scan.{specs.Looks.IsNoFall, proofs.Places.same_segment, proofs.Places.pushed}
 
