@@ -1,9 +1,9 @@
 -- What a seat keeps through its looks.
-use Rattle.std.proofs.Common.{◌≡◌, ◌≢◌, ℕ, ◌+◌, ◌-◌, ◌<◌, ◌≤◌, List, [], ◌∷◌, ◌++◌, length, get_or, set, refl, ap, sym}
+use Rattle.std.proofs.Common.{◌≡◌, ◌≢◌, ℕ, ◌+◌, ◌-◌, ◌<◌, ◌≤◌, List, [], ◌∷◌, ◌++◌, length, get_or, set, refl, ap}
 use Rattle.std.proofs.Common.{◌∙◌, arith, get_or-set_same, get_or-set_other, le_refl, append_assoc}
-use Rattle.std.proofs.lemmas.List.{length-set, set-get_or}
+use Rattle.std.proofs.lemmas.List.{length-set}
 use Rattle.atomic_table.specs.Table.{Me}
-use Rattle.snap_register.specs.History.{entry, sight, count}
+use Rattle.snap_register.specs.History.{sight, count}
 use Rattle.snap_register.specs.Rule.{segments, buffers, size, IsLegal, Publishes}
 use Rattle.snap_register.proofs.Lines.{count_prefix, count-append, count_push_same}
 use Rattle.snap_register.specs.{declared.access.Access.Access, declared.plan.Entry.Entry, declared.plan.Plan.Plan}
@@ -11,8 +11,6 @@ use Rattle.snap_register.specs.{declared.plan.Pool.Pool, declared.plan.SeatView.
 use Rattle.snap_register.specs.{Setup.IsSized, Setup.IsSeated, Held.Readable, Steps.view_of}
 use Rattle.snap_register.proofs.Views.{all_readable}
 use mathlib.Core.List.{IsPrefix}
-use mathlib.Core.Logic.{dite}
-use native.Mathlib.Decide.{ℕ_discrete}
 
 -- if y has a property at j, and the other entries have it, then all have it after y is set at j
 pub set_each : (P : ℕ → ℕ → Type 0) (l : List ℕ) (j y : ℕ) → j < length l → P j y

@@ -1,10 +1,10 @@
 -- How a beginning of a history, and one more update, change a segment's line.
-use Rattle.std.proofs.Common.{◌≡◌, ◌≢◌, ℕ, zero, suc, ◌+◌, ◌<◌, ◌≤◌, ◌==◌, ◌⊎◌, inl, inr, ⊎_elim, Bool, true, false}
-use Rattle.std.proofs.Common.{cond, List, [], ◌∷◌, ◌++◌, length, get_or, refl, ap, sym, ◌∙◌, arith, append_assoc}
+use Rattle.std.proofs.Common.{◌≡◌, ◌≢◌, ℕ, zero, suc, ◌+◌, ◌<◌, ◌≤◌, ◌⊎◌, inl, inr, ⊎_elim}
+use Rattle.std.proofs.Common.{List, [], ◌∷◌, ◌++◌, length, get_or, refl, ap, sym, ◌∙◌, arith, append_assoc}
 use Rattle.std.proofs.Common.{length-append}
 use Rattle.std.proofs.lemmas.List.{same_from_push, get_or_append_left, get_or_push, nil_from_length, append-nil}
 use Rattle.std.proofs.lemmas.Bool.Decides.{nat_tests}
-use Rattle.snap_register.specs.History.{entry, only, count, line, record_words, start_at}
+use Rattle.snap_register.specs.History.{entry, only, count, record_words}
 use Rattle.snap_register.specs.{declared.plan.Entry.Entry, declared.plan.Plan.Plan, Rule.Follows, Rule.IsLegal}
 use mathlib.Core.List.{IsPrefix}
 use mathlib.Core.Logic.{dite}

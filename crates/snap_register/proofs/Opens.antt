@@ -5,19 +5,17 @@ use Rattle.std.proofs.lemmas.List.{length-map, length-replicate, get_or_append_l
 use Rattle.std.proofs.lemmas.List.{get_or-append_right, get_or-replicate, get_or_past}
 use Rattle.std.{proofs.lemmas.Bool.Decides.nat_tests, specs.Prelude.replicate, specs.List.flat_map}
 use Rattle.atomic_table.specs.{Table.Me, Table.opening, Seated.TableId}
-use Rattle.snap_register.specs.History.{no_start, start_at, updates}
+use Rattle.snap_register.specs.History.{no_start, start_at}
 use Rattle.snap_register.specs.Rule.{segments, seats, buffers, width, given, cell, size, IsLegal, pins_of, Knows}
 use Rattle.snap_register.specs.Rule.{Kept}
 use Rattle.snap_register.specs.Setup.{first_view, first_pool, start_of, plan_with, unused, opening_words, IsReady}
-use Rattle.snap_register.specs.Setup.{IsSized, IsFirst}
+use Rattle.snap_register.specs.Setup.{IsFirst}
 use Rattle.snap_register.specs.Parts.{IsNewSeat, AreWriters, AreReaders}
 use Rattle.snap_register.specs.{declared.plan.Opening.Opening, declared.plan.Plan.Plan, declared.plan.Start.Start}
 use Rattle.snap_register.specs.{declared.plan.SeatView.SeatView, Seat.Known, Seat.known, Held.Readable}
 use Rattle.snap_register.proofs.{Views.readable, Places.below_product}
 use Rattle.snap_history.proofs.Lists.{get-push_at, get-push}
-use mathlib.Core.Logic.{dite}
-use mathlib.Core.Option.{some, some-injective, some-ne-none}
-use native.Mathlib.Decide.{dec_le}
+use mathlib.Core.Option.{some, some-ne-none}
 use lib.ListN.{get_elem?}
 
 fewer_looks : (l looks : ℕ) → 0 < l → (looks ≤ l * looks) × (l * looks - looks ≡ (l - 1) * looks)

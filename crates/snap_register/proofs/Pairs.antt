@@ -1,6 +1,6 @@
 -- Two lists of equal length, with a fact that holds at each place, which grow by appending.
 use Rattle.std.proofs.Common.{◌≡◌, ℕ, ◌+◌, List, [], ◌∷◌, ◌++◌, length, map, take}
-use Rattle.std.proofs.Common.{slice_get, Some, ap, sym, ◌∙◌, arith}
+use Rattle.std.proofs.Common.{slice_get, Some, ap, ◌∙◌, arith}
 use Rattle.std.proofs.lemmas.List.{length_push, map-append, take_more}
 use Rattle.std.proofs.lemmas.Option.{slice_get_within, get_or_from_slice_get, same_Some}
 use Rattle.snap_history.specs.Pairs.{Pairs}

@@ -1,5 +1,5 @@
 -- The places of records' words in the table.
-use Rattle.std.proofs.Common.{◌≡◌, ℕ, ◌+◌, ◌-◌, ◌<◌, ◌++◌, List, length, get_or, arith, length-append}
+use Rattle.std.proofs.Common.{◌≡◌, ℕ, ◌+◌, ◌<◌, ◌++◌, List, length, arith, length-append}
 use Rattle.atomic_table.specs.Table.{Me}
 use Rattle.snap_register.specs.Rule.{width, cell}
 use Rattle.snap_register.specs.Steps.{Owns, IsFree, LiesAt, IsNext, IsLast}

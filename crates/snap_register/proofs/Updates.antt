@@ -1,8 +1,7 @@
 -- The registers' history as updates of a memory: what a seat knows, in its callers' terms.
-use Rattle.std.proofs.Common.{◌≡◌, ℕ, zero, suc, ◌+◌, ◌<◌, ◌≤◌, ◌==◌, Bool, true, false, cond, List, [], ◌∷◌, ◌++◌}
-use Rattle.std.proofs.Common.{le_refl, length, get_or, Some, None, slice_get, refl, ap, sym, ◌∙◌, arith, append_assoc}
-use Rattle.std.specs.Prelude.{if◌then◌else◌}
-use Rattle.std.proofs.lemmas.{List.map-append, List.take-map, Option.same_Some, Bool.Decides.nat_tests}
+use Rattle.std.proofs.Common.{◌≡◌, ℕ, zero, suc, ◌+◌, ◌<◌, ◌≤◌, List, [], ◌∷◌, ◌++◌}
+use Rattle.std.proofs.Common.{le_refl, length, get_or, Some, slice_get, refl, ap, sym, ◌∙◌, arith, append_assoc}
+use Rattle.std.proofs.lemmas.{List.map-append, List.take-map, Bool.Decides.nat_tests}
 use Rattle.std.proofs.{Common.take, Common.drop, Math.Seq.take-append_seam, lemmas.List.take-append-drop}
 use Rattle.atomic_table.specs.Seated.{TableId}
 use Rattle.snap_history.specs.History.{Update, IsBeginning, updates_of, last_value, number_after, value_after}
@@ -11,16 +10,14 @@ use Rattle.snap_register.specs.History.{entry, only, count, number, start_at, me
 use Rattle.snap_register.specs.History.{starts}
 use Rattle.snap_register.specs.Rule.{segments, Has, IsLegal, Follows}
 use Rattle.snap_register.specs.Words.{value_at, size_at, IsBlock, AreBlocks}
-use Rattle.snap_register.specs.Held.{held, view_in, taken, Readable, CanTake, MayTake, IsPinned, IsShown}
-use Rattle.snap_register.specs.Seat.{known, looked, IsBelow, Grows, Looks, HasLooked, HasFoundUpdate, IsValue, IsView}
+use Rattle.snap_register.specs.Held.{held, view_in, taken, Readable, CanTake, MayTake, IsShown}
+use Rattle.snap_register.specs.Seat.{known, looked, IsBelow, Grows, HasLooked, HasFoundUpdate, IsValue, IsView}
 use Rattle.snap_register.specs.Seat.{MayPublish, Meets, Shows}
 use Rattle.snap_register.proofs.Lines.{find, count_push_same, record_prefix}
 use Rattle.snap_register.specs.declared.{plan.Entry.Entry, plan.Plan.Plan, plan.SeatView.SeatView, view.View.View}
 use Rattle.snap_register.proofs.{Blocks.record_of, Views.viewed}
 use Rattle.snap_scan.specs.Sets.{Names}
 use mathlib.Core.List.{IsPrefix}
-use mathlib.Core.Logic.{dite}
-use native.Mathlib.Decide.{ℕ_discrete}
 use Rattle.snap_register.specs.Rule as rule
 
 pub updates_count : (i : ℕ) (h : List Entry) → updates_of i (updates h) ≡ count i h

@@ -1,6 +1,6 @@
-use Rattle.std.proofs.Common.{◌≡◌, ℕ, length, take, drop, ap, ◌∙◌, arith}
+use Rattle.std.proofs.Common.{◌≡◌, ℕ, length, drop, ap, ◌∙◌, arith}
 use Rattle.std.specs.Prelude.{replicate}
-use Rattle.std.proofs.lemmas.{List.drop-replicate, Slice.take-put_mid, Slice.drop-put_mid}
+use Rattle.std.proofs.lemmas.{List.drop-replicate, Slice.drop-put_mid}
 use Rattle.snap_register.proofs.words.tail_word.Goals as goal
 
 pub returns-clause-zeros : goal.returns-clause-zeros

@@ -1,5 +1,5 @@
-use Rattle.std.proofs.Common.{refl, ◌≡◌, ℕ, ◌+◌, ◌*◌, ◌<◌, subst, sym}
-use Rattle.snap_register.{specs.Rule.cell, specs.Steps.view_of, proofs.Places.cell_inside}
+use Rattle.std.proofs.Common.{refl, ℕ}
+use Rattle.snap_register.{specs.Steps.view_of, proofs.Places.cell_inside}
 use Rattle.snap_register.proofs.access.Access.cell.Goals as goal
 
 pub returns : goal.returns

@@ -1,4 +1,4 @@
-use Rattle.std.proofs.Common.{rules, ◌≡◌, ℕ, ◌+◌, ◌<◌, ◌≤◌, ◌++◌, ◌∷◌, [], List, length, get_or, refl, ap, sym, subst, ◌∙◌}
+use Rattle.std.proofs.Common.{rules, ◌≡◌, ℕ, ◌+◌, ◌<◌, ◌≤◌, ◌++◌, ◌∷◌, [], List, length, get_or, refl, ap, sym, ◌∙◌}
 use Rattle.std.proofs.Common.{arith, append_assoc}
 use Rattle.snap_register.specs.Steps.{view_of, LiesAt, IsNext}
 use Rattle.snap_register.specs.{Registers.Mine, Held.held, Words.piece, Words.size_at, Rule.width}

@@ -1,8 +1,8 @@
-use Rattle.std.proofs.Common.{rules, ◌≡◌, ℕ, ◌+◌, ◌<◌, ◌≤◌, ◌/◌, List, length, sym, ap, ◌∙◌, arith, get_or}
-use Rattle.snap_register.specs.Held.{held, HasLookedFrom, Readable}
+use Rattle.std.proofs.Common.{rules, ℕ, ◌<◌, List, ap, ◌∙◌, arith, get_or}
+use Rattle.snap_register.specs.Held.{HasLookedFrom, Readable}
 use Rattle.snap_register.proofs.Updates.{number_is, grows_is, below_is}
 use Rattle.snap_register.specs.{Registers.Mine, declared.plan.SeatView.SeatView}
-use Rattle.snap_register.specs.{History.number, History.start_at, Rule.segments, Rule.Learns, Steps.view_of}
+use Rattle.snap_register.specs.{History.number, Rule.segments, Rule.Learns, Steps.view_of}
 use Rattle.snap_register.proofs.access.Access.look.Goals as goal
 use Rattle.snap_register.proofs.access.Access.look.Goals.{After-pin, After-read}
 

@@ -1,8 +1,8 @@
-use Rattle.std.proofs.Common.{rules, ◌≡◌, List, [], sym, ap, ◌∙◌, get_or}
+use Rattle.std.proofs.Common.{rules, ◌≡◌, sym, ap, ◌∙◌, get_or}
 use Rattle.snap_register.specs.Rule.{Learns, with_received}
 use Rattle.snap_register.proofs.Joins.{shares, tells, adopts}
-use Rattle.snap_register.proofs.Later.{settled, seated_shown, sized_still, some_words}
-use Rattle.snap_register.specs.{declared.plan.Entry.Entry, Registers.Mine}
+use Rattle.snap_register.proofs.Later.{seated_shown, sized_still, some_words}
+use Rattle.snap_register.specs.{Registers.Mine}
 use Rattle.snap_register.specs.{Steps.view_of, Steps.pool_of}
 use Rattle.atomic_table.specs.Seated.{TableId}
 use mathlib.Core.List.{IsPrefix}

@@ -1,9 +1,9 @@
-use Rattle.std.proofs.Common.{rules, ◌≡◌, ℕ, ◌+◌, ◌++◌, ◌∷◌, [], List, length, refl, ap, sym, subst, ◌∙◌, arith}
+use Rattle.std.proofs.Common.{rules, ◌≡◌, ℕ, List, length, refl, ap, sym, subst, ◌∙◌, arith}
 use Rattle.snap_register.specs.declared.view.View.TheVariants.{Collected, Borrowed}
 use Rattle.snap_register.specs.History.{entry, count, start_at}
 use Rattle.snap_register.specs.Rule.{segments, IsLegal, Follows}
 use Rattle.snap_register.specs.Steps.{view_of, pool_of, draft_of}
-use Rattle.snap_register.specs.{Registers.Mine, declared.plan.Plan.Plan}
+use Rattle.snap_register.specs.{declared.plan.Plan.Plan}
 use Rattle.snap_register.specs.{declared.plan.Pool.Pool, declared.plan.SeatView.SeatView, declared.view.View.View}
 use Rattle.snap_register.specs.{Held.taken, Words.AreBlocks}
 use Rattle.snap_register.proofs.{Blocks.block_stays, Later.publishes_count, Updates.follows_is}

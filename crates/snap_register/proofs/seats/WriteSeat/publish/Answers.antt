@@ -1,12 +1,10 @@
-use Rattle.std.proofs.Common.{rules, ◌≡◌, ℕ, ◌+◌, ◌^◌, ◌<◌, length, get_or, set, ap, sym, subst, ◌∙◌, arith}
+use Rattle.std.proofs.Common.{rules, ◌≡◌, ℕ, ◌+◌, ◌^◌, ◌<◌, length, get_or, ap, sym, subst, ◌∙◌, arith}
 use Rattle.std.proofs.Common.{get_or-set_same, get_or-set_other}
 use Rattle.std.proofs.lemmas.List.{length-set}
-use Rattle.snap_register.specs.Rule.{buffers}
 use Rattle.snap_register.specs.Seat.{Known, number_in, own_of}
 use Rattle.snap_register.proofs.Updates.{can_take, may_take, shown_is, below_is, number_is}
 use Rattle.snap_register.specs.{declared.access.Access.Access, declared.plan.SeatView.SeatView}
 use Rattle.snap_register.specs.{History.number, declared.plan.Pool.Pool, Steps.view_of, Steps.known_of}
-use Rattle.snap_register.proofs.{Views.few_buffers, Later.set_each}
 use Rattle.snap_register.proofs.seats.WriteSeat.publish.Goals as goal
 
 -- the next number is valid
