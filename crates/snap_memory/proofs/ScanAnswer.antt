@@ -139,12 +139,6 @@ pub both_ok : {T E : Type 0} (r : Result T E) (P Q R : Type 0) → (P → Q → 
 both_ok (Ok x) P Q R f p q = f p q
 both_ok (Err e) P Q R f p q = p
 
--- from a fact about the result of a call
-pub map_ok : {T E : Type 0} (r : Result T E) (P Q : T → Type 0) → ((x : T) → P x → Q x) → IfOk r P
-    → IfOk r Q
-map_ok (Ok x) P Q f p = f x p
-map_ok (Err e) P Q f p = p
-
 -- the set of all n segments of a seat's registers
 module _ (a : Known) (n set : ℕ) (count : n ≡ segments a.plan) (is : set ≡ 2 ^ n - 1) where
   pub all_is : set ≡ all_of a

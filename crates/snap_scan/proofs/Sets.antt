@@ -194,9 +194,6 @@ module _ (n : ℕ) (most : n ≤ 16) where
   pub all_at : (p : ℕ) → p < n → IsAt (2 ^ n - 1) p p
   all_at p l = all_up_to.each p l
 
-  pub all_is : (p j : ℕ) → IsAt (2 ^ n - 1) p j → j ≡ p
-  all_is p j at = grind (arith, same_Some, all_at, all_size, at_within)
-
 -- a list with a property at each place, and one more entry with it
 module _ {A : Type 0} (P : ℕ → A → Type 0) (set k : ℕ) (xs : List A) where
   abbrev IsListed : ℕ → List A → Type 0

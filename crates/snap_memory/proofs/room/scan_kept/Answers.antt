@@ -1,8 +1,9 @@
+use Rattle.std.proofs.lemmas.Result.{IfOk-weaker}
 use Rattle.std.proofs.Common.{◌^◌, ◌<◌, map, refl, sym, subst, arith}
 use Rattle.snap_register.specs.Seat.{Known}
 use Rattle.snap_register.specs.{Rule.segments, declared.view.View.TheVariants.Borrowed}
 use Rattle.snap_scan.{specs.Values.pair_of, proofs.Sets.names_below}
-use Rattle.snap_memory.proofs.ScanAnswer.{list_clean, list_borrowed, view_seen, map_ok}
+use Rattle.snap_memory.proofs.ScanAnswer.{list_clean, list_borrowed, view_seen}
 use Rattle.snap_memory.specs.{Scans.IsScan}
 use Rattle.snap_memory.proofs.Kept.{kept_grown}
 use Rattle.snap_memory.proofs.room.scan_kept.Goals as goal
@@ -46,7 +47,7 @@ returns-in-Collected-clause-part g c =
     let b = g.L.Looker.known c.gather.new.seat in
     let set = c.args.set.bits in
     rw c.list.ensures.same
-    (map_ok c.list.result _ _ (λ values e. list_clean set a b _ (map pair_of values.items)
+    (IfOk-weaker c.list.result _ _ (λ values e. list_clean set a b _ (map pair_of values.items)
     (rw c.gather.ensures.seen.plan c.requires.set.among)
     (rw c.in-Collected.is at c.gather.ensures.scan) e
     (λ i l named. c.gather.ensures.numbers c.in-Collected.is i l named)) c.list.ensures.entries)
@@ -63,7 +64,7 @@ returns-in_ok-view-in-Borrowed-clause-part g c =
     let among : set < 2 ^ segments d.plan =
     rw (c.view.ensures.same, c.gather.ensures.seen.plan) c.requires.set.among in
     rw c.list-in-Borrowed.ensures.same
-    (map_ok c.list-in-Borrowed.result _ _ (λ values e. list_borrowed set a d c.in-Borrowed.segment
+    (IfOk-weaker c.list-in-Borrowed.result _ _ (λ values e. list_borrowed set a d c.in-Borrowed.segment
     c.view.new.out _ (map pair_of values.items) among scan view e (λ i. refl))
     c.list-in-Borrowed.ensures.entries)
 
