@@ -5,7 +5,7 @@ use Rattle.std.proofs.Common.{append_assoc}
 use Rattle.std.proofs.Math.Seq.{take-append-add, take-append_seam, take-length}
 use Rattle.std.proofs.lemmas.List.{take-append-drop, append-nil, length-set, length_push, length-replicate}
 use Rattle.std.proofs.lemmas.List.{length-append, get_or-set_same, get_or-set_other}
-use Rattle.std.proofs.{lemmas.Bool.cases_eq, lemmas.Bool.cases_lt, lemmas.Option.same_Some, Math.Nat.mul-le-mul_left}
+use Rattle.std.proofs.{lemmas.Bool.cases_eq, lemmas.Option.same_Some}
 use Rattle.snap_history.specs.History.{Update, Start, IsBeginning, number_after}
 use Rattle.snap_history.proofs.Beginnings.{beginning-self, beginning-trans, take-beginning}
 use Rattle.snap_history.proofs.Lists.{get-set_same, get-set_other, get-replicate}

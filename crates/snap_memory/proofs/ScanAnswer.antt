@@ -1,6 +1,6 @@
 -- The answer of a scan is the memory of one moment.
 use Rattle.std.proofs.Common.{◌≡◌, ℕ, inl, inr, ◌+◌, ◌-◌, ◌^◌, ◌<◌, ◌≤◌, List, [], length, map, All, Some, slice_get}
-use Rattle.std.proofs.Common.{get_or, ap, sym, ◌∙◌, arith, Result, Ok, Err, OnOk, IfOk}
+use Rattle.std.proofs.Common.{get_or, ap, sym, ◌∙◌, arith, Result, Ok, Err, OnOk}
 use Rattle.std.proofs.lemmas.Option.{same_Some, slice_get-get_or, slice_get-map}
 use Rattle.std.proofs.lemmas.{List.length-map, Nat.pow_below, Bool.cases_lt}
 use Rattle.std.specs.Option.{option_map}
