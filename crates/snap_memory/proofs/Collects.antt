@@ -21,8 +21,7 @@ use Rattle.snap_memory.specs.Scans.{BeginsFresh, IsCleanScan, IsBorrowedScan, Ta
 
 -- A list and its moments:
 
-pub take-begins : (a h : List Update) (p : ℕ) → IsBeginning a h → length a ≤ p
-    → IsBeginning a (take p h)
+pub take-begins : (a h : List Update) (p : ℕ) → IsBeginning a h → length a ≤ p → IsBeginning a (take p h)
 take-begins a h p b l =
     let e : p ≡ length a + (p - length a) = omega arith in (
       take (p - length a) b.0,
@@ -44,8 +43,7 @@ abbrev pub first_of : List Update → List (List Update) → List Update
 first_of h [] = h
 first_of h (x ∷ xs) = x
 
-first_stays : (h c : List Update) (xs : List (List Update)) → 0 < length xs
-    → first_of h (xs ++ c ∷ []) ≡ first_of h xs
+first_stays : (h c : List Update) (xs : List (List Update)) → 0 < length xs → first_of h (xs ++ c ∷ []) ≡ first_of h xs
 first_stays h c [] l = absurd (omega arith)
 first_stays h c (x ∷ xs) l = refl
 
@@ -188,8 +186,7 @@ module _ (a b c : Known) (set : ℕ) (told numbers : List ℕ) (j k : ℕ)
   module _ (bound : length told < most_looks (size set)) (looks : Looks b c j k)
       (sighted : c.sights ≡ b.sights ++ c.seen ∷ []) (left : c.left + 1 ≡ b.left)
       (below : IsBelow c) where
-    last_looks : (q i v : ℕ) → IsAt set q i
-        → slice_get (slice_set g.latest place (k ∷ [])) q ≡ Some (v ∷ [])
+    last_looks : (q i v : ℕ) → IsAt set q i → slice_get (slice_set g.latest place (k ∷ [])) q ≡ Some (v ∷ [])
         → (looked c i ≡ Some v) × (slice_index (slice_set numbers j k) i ≡ v)
     last_looks q i v here e = elim (cases_eq q place) [
       | inl same ↦ (
@@ -242,8 +239,7 @@ module _ (a b : Known) (set : ℕ) (told numbers : List ℕ) (g : Gathers a b se
   begins_all : (part : List Update) → IsBeginning first_seen part → IsBeginning a.seen part
   begins_all part begins = beginning-trans a.seen first_seen part g.opens begins
 
-  is_fresh : (part : List Update) → 0 < length told → IsBeginning first_seen part
-      → BeginsFresh a b part
+  is_fresh : (part : List Update) → 0 < length told → IsBeginning first_seen part → BeginsFresh a b part
   is_fresh part some begins = grind (arith, begins_fresh)
 
   -- so the scan used up looks, and no more than a scan might
@@ -291,8 +287,7 @@ module _ (a b : Known) (set : ℕ) (told numbers : List ℕ) (g : Gathers a b se
       each = λ i l named. (last_at i l named).0;
     }
 
-    pub numbers_are : (i : ℕ) → i < segments b.plan → Names set i
-        → looked b i ≡ Some (slice_index numbers i)
+    pub numbers_are : (i : ℕ) → i < segments b.plan → Names set i → looked b i ≡ Some (slice_index numbers i)
     numbers_are i l named = let last = last_at i l named in last.0 ∙ ap Some (sym last.1)
 
   module _ (j place_of : ℕ) (at : IsAt set place_of j) (borrowed : IsBorrow (size set) told place_of) where

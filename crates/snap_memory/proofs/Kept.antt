@@ -17,8 +17,7 @@ seen_grown a b i x g was = record {
   value_is = was.value_is ∙ ap (λ (p : Plan). value_after (starts p) was.part i) (sym g.plan);
 }
 
-pub kept_grown : (a b : Known) (room : List (Option SegmentValue)) → Grows a b → AreKept a room
-    → AreKept b room
+pub kept_grown : (a b : Known) (room : List (Option SegmentValue)) → Grows a b → AreKept a room → AreKept b room
 kept_grown a b room g k = λ i x at. (let was = k i x at in (seen_grown a b i _ g was.0, was.1))
 
 pub fits_grown : (a b : Known) (room : Room) → Grows a b → Fits a room → Fits b room
@@ -27,14 +26,12 @@ fits_grown a b (Kept room) g f =
     (f.0 ∙ ap (λ (p : Plan). segments p) (sym g.plan), kept_grown a b room.items g f.1)
 
 -- the cached entry of one segment, and a cache in which one entry is replaced
-kept_at : (seat : Known) (room : List (Option SegmentValue)) (i : ℕ)
-    (kept : Option SegmentValue) → AreKept seat room → slice_get room i ≡ Some kept
-    → IsKeptOf seat i kept
+kept_at : (seat : Known) (room : List (Option SegmentValue)) (i : ℕ) (kept : Option SegmentValue) → AreKept seat room
+    → slice_get room i ≡ Some kept → IsKeptOf seat i kept
 kept_at seat room i kept all at x e = all i x (at ∙ ap (λ v. Some v) e)
 
-kept_set : (seat : Known) (room : List (Option SegmentValue)) (k : ℕ)
-    (kept : Option SegmentValue) → AreKept seat room → k < length room → IsKeptOf seat k kept
-    → AreKept seat (slice_set room k kept)
+kept_set : (seat : Known) (room : List (Option SegmentValue)) (k : ℕ) (kept : Option SegmentValue) → AreKept seat room
+    → k < length room → IsKeptOf seat k kept → AreKept seat (slice_set room k kept)
 kept_set seat room k kept all inside new i x at = elim (cases_eq i k) [
   | inl is ↦ rw is
       (new x (same_Some kept (Some x) (sym (get-set_same room k kept inside) ∙ (rw is at at))))
@@ -48,7 +45,6 @@ module _ (a b : Known) (room : List (Option SegmentValue)) (n i end : ℕ) (long
       → AreKept a (slice_set room i kept)
   kept_in kept same all new = kept_set a room i kept all (omega arith) (rw same at new)
 
-  pub kept_of : (kept : Option SegmentValue) → b ≡ a → AreKept a room → kept ≡ get_or room i kept
-      → IsKeptOf b i kept
+  pub kept_of : (kept : Option SegmentValue) → b ≡ a → AreKept a room → kept ≡ get_or room i kept → IsKeptOf b i kept
   kept_of kept same all at = rw same
       (kept_at a room i kept all (slice_get_read room (length room) i kept refl (omega arith) at))

@@ -18,9 +18,8 @@ use Rattle.snap_memory.specs.Rooms.{WasSeen, number_of, AreEntries}
 use Rattle.snap_memory.{specs.declared.room.Found.Found, proofs.Collects.beginning-take}
 
 -- two beginnings of one list in which a segment has the same number have the same value of it
-ordered : (start : Start) (h p q : List Update) (i : ℕ) → IsBeginning p h → IsBeginning q h
-    → length p ≤ length q → number_after start p i ≡ number_after start q i
-    → value_after start p i ≡ value_after start q i
+ordered : (start : Start) (h p q : List Update) (i : ℕ) → IsBeginning p h → IsBeginning q h → length p ≤ length q
+    → number_after start p i ≡ number_after start q i → value_after start p i ≡ value_after start q i
 ordered start h p q i bp bq l e =
     let is_p = beginning-take p h bp in
     let is_q = beginning-take q h bq in
@@ -30,8 +29,7 @@ ordered start h p q i bp bq l e =
     ∙ ap (λ x. value_after start x i) is_q
 
 pub same_value : (start : Start) (h p q : List Update) (i : ℕ) → IsBeginning p h → IsBeginning q h
-    → number_after start p i ≡ number_after start q i
-    → value_after start p i ≡ value_after start q i
+    → number_after start p i ≡ number_after start q i → value_after start p i ≡ value_after start q i
 same_value start h p q i bp bq e =
     elim (cases_lt (length p) (length q)) [
       | inl lt ↦ ordered start h p q i bp bq (omega arith) e
@@ -40,9 +38,8 @@ same_value start h p q i bp bq e =
 
 -- the value that the last look found is that of each beginning in which the segment has the number
 -- found
-pub value_told : (b : Known) (i k : ℕ) (value : List ℕ) (part : List Update) → IsValue b i value
-    → looked b i ≡ Some k → IsBeginning part b.seen → k ≡ number_in b part i
-    → value ≡ value_in b part i
+pub value_told : (b : Known) (i k : ℕ) (value : List ℕ) (part : List Update) → IsValue b i value → looked b i ≡ Some k
+    → IsBeginning part b.seen → k ≡ number_in b part i → value ≡ value_in b part i
 value_told b i k value part v told within is =
     let e : number_in b v.part i ≡ k = same_Some _ k (sym v.number ∙ told) in
     v.value_is ∙ same_value (starts b.plan) b.seen v.part part i v.beginning within (e ∙ is)
@@ -65,8 +62,7 @@ module _ (b : Known) (j set : ℕ) (xs : List (ℕ × List ℕ)) (i : ℕ) (v : 
   view_seen = grind (arith, view_entry)
 
 module _ (set : ℕ) (a b : Known) where
-  pub part_clean : (memory : List (ℕ × List ℕ)) → IsCleanScan set a b → AreLooked set b memory
-      → HasPart set a b memory
+  pub part_clean : (memory : List (ℕ × List ℕ)) → IsCleanScan set a b → AreLooked set b memory → HasPart set a b memory
   part_clean memory s l = record {
     part = s.part;
     begins = s.begins;
@@ -85,11 +81,10 @@ module _ (set : ℕ) (a b : Known) where
   }
 
   -- entries found are those after `part` if their numbers are
-  listed : (found : Found) (values : List (ℕ × List ℕ)) (part : List Update)
-      → set < 2 ^ segments b.plan → AreEntries (named set) b found values
-      → ((i : ℕ) → i < segments b.plan → Names set i → number_of found i ≡ number_in b part i)
-      → IsBeginning a.seen part → BeginsFresh a b part → IsBeginning part b.seen
-      → IsPart set a b values
+  listed : (found : Found) (values : List (ℕ × List ℕ)) (part : List Update) → set < 2 ^ segments b.plan
+      → AreEntries (named set) b found values → ((i : ℕ) → i < segments b.plan → Names set i
+      → number_of found i ≡ number_in b part i) → IsBeginning a.seen part → BeginsFresh a b part
+      → IsBeginning part b.seen → IsPart set a b values
   listed found values part among e numbers begins fresh within = record {
     part = part;
     begins = begins;
@@ -115,18 +110,16 @@ module _ (set : ℕ) (a b : Known) where
       slice_get-map pair_of values k ∙ ap (option_map pair_of) (slice_get-get_or values k d l) in
       rw (same_Some x.0 (pair_of v) (sym x.1 ∙ at)) at x.2.1.1
 
-  pub list_clean : (found : Found) (values : List (ℕ × List ℕ)) → set < 2 ^ segments b.plan
-      → IsCleanScan set a b → AreEntries (named set) b found values
-      → ((i : ℕ) → i < segments b.plan → Names set i → looked b i ≡ Some (number_of found i))
-      → IsPart set a b values
+  pub list_clean : (found : Found) (values : List (ℕ × List ℕ)) → set < 2 ^ segments b.plan → IsCleanScan set a b
+      → AreEntries (named set) b found values → ((i : ℕ) → i < segments b.plan → Names set i
+      → looked b i ≡ Some (number_of found i)) → IsPart set a b values
   list_clean found values among s e told =
       listed found values s.part among e (λ i l named.
       same_Some (number_of found i) _ (sym (told i l named) ∙ s.each i l named))
       s.begins s.fresh s.within
 
-  pub list_borrowed : (j : ℕ) (view : List (ℕ × List ℕ)) (found : Found)
-      (values : List (ℕ × List ℕ)) → set < 2 ^ segments b.plan
-      → IsBorrowedScan a b j → IsView b j set view → AreEntries (named set) b found values
+  pub list_borrowed : (j : ℕ) (view : List (ℕ × List ℕ)) (found : Found) (values : List (ℕ × List ℕ))
+      → set < 2 ^ segments b.plan → IsBorrowedScan a b j → IsView b j set view → AreEntries (named set) b found values
       → ((i : ℕ) → number_of found i ≡ (get_or view i (0, [])).0) → IsPart set a b values
   list_borrowed j view found values among s v e are =
       listed found values v.part among e (λ i l named.
@@ -134,8 +127,7 @@ module _ (set : ℕ) (a b : Known) where
       (s.begins v.part v.beginning v.before) (s.fresh v.part v.beginning v.before) v.beginning
 
 -- from two facts about a successful call
-pub both_ok : {T E : Type 0} (r : Result T E) (P Q R : Type 0) → (P → Q → R) → OnOk r P → OnOk r Q
-    → OnOk r R
+pub both_ok : {T E : Type 0} (r : Result T E) (P Q R : Type 0) → (P → Q → R) → OnOk r P → OnOk r Q → OnOk r R
 both_ok (Ok x) P Q R f p q = f p q
 both_ok (Err e) P Q R f p q = p
 
@@ -164,12 +156,10 @@ module _ (a b : Known) (few : segments b.plan ≤ 16) where
   all_names : (i : ℕ) → i < segments b.plan → Names (all_of b) i
   all_names i l = (at_named (all_of b) i i (all_at (segments b.plan) few i l)).1
 
-  pub snapshot_all : (memory : List (ℕ × List ℕ)) → HasPart (all_of b) a b memory
-      → IsSnapshot a b memory
+  pub snapshot_all : (memory : List (ℕ × List ℕ)) → HasPart (all_of b) a b memory → IsSnapshot a b memory
   snapshot_all memory s = grind (arith, all_names)
 
-  pub snapshot_listed : (values : List (ℕ × List ℕ)) → IsPart (all_of b) a b values
-      → IsSnapshot a b values
+  pub snapshot_listed : (values : List (ℕ × List ℕ)) → IsPart (all_of b) a b values → IsSnapshot a b values
   snapshot_listed values s = grind (arith, all_size, all_at)
 
 -- a writer's own segment has no further update than those its seat had seen, so the answer of its

@@ -11,8 +11,7 @@ use mathlib.Core.List.{IsPrefix}
 use mathlib.Core.Logic.{dite}
 use native.Mathlib.Decide.{ℕ_discrete}
 
-pub piece_more : (ws : List ℕ) (at k : ℕ) → piece ws at (k + 1) ≡ piece ws at k
-    ++ get_or ws (at + k) 0 ∷ []
+pub piece_more : (ws : List ℕ) (at k : ℕ) → piece ws at (k + 1) ≡ piece ws at k ++ get_or ws (at + k) 0 ∷ []
 piece_more ws at k = let e : k + 1 ≡ suc k = omega arith in ap (piece ws at) e
 
 pub piece_length : (ws : List ℕ) (at k : ℕ) → length (piece ws at k) ≡ k
@@ -20,8 +19,7 @@ piece_length ws at zero = refl
 piece_length ws at (suc k) =
     omega (arith, length-append (piece ws at k) (get_or ws (at + k) 0 ∷ []), piece_length ws at k)
 
-pub piece_get : (ws : List ℕ) (at k q : ℕ) → q < k
-    → get_or (piece ws at k) q 0 ≡ get_or ws (at + q) 0
+pub piece_get : (ws : List ℕ) (at k q : ℕ) → q < k → get_or (piece ws at k) q 0 ≡ get_or ws (at + q) 0
 piece_get ws at zero q lt = absurd (omega arith)
 piece_get ws at (suc k) q lt =
     grind (arith, get_or_push, get_or_append_left, piece_length ws at k, piece_get ws at k q)
@@ -45,9 +43,8 @@ pub record Copied (d w : List ℕ) (a b : ℕ) : Type 0 where
   pub size : size_at d a ≡ size_at w b
   pub block : block_at d a ≡ block_at w b
 
-pub block_same : (d w : List ℕ) (a b : ℕ) → IsWhole w b
-    → ((q : ℕ) → q < size_at w b → get_or d (a + q) 0 ≡ get_or w (b + q) 0)
-    → a + size_at w b ≤ length d → Copied d w a b
+pub block_same : (d w : List ℕ) (a b : ℕ) → IsWhole w b → ((q : ℕ) → q < size_at w b
+    → get_or d (a + q) 0 ≡ get_or w (b + q) 0) → a + size_at w b ≤ length d → Copied d w a b
 block_same d w a b whole each fits =
     let k : ℕ = words_for (length_at w b) in
     let number : get_or d a 0 ≡ get_or w b 0 = grind (arith, each 0 (omega arith)) in
@@ -75,8 +72,7 @@ behind_stays d e a (suc k) pre each =
     ap (λ (z : ℕ). z + size_at e z) (behind_stays d e a k pre (λ i li. each i (omega arith)))
     ∙ ap (λ (z : ℕ). behind d a k + z) s
 
-pub behind_more : (ws : List ℕ) (at k : ℕ)
-    → behind ws at (k + 1) ≡ behind ws at k + size_at ws (behind ws at k)
+pub behind_more : (ws : List ℕ) (at k : ℕ) → behind ws at (k + 1) ≡ behind ws at k + size_at ws (behind ws at k)
 behind_more ws at k = let e : k + 1 ≡ suc k = omega arith in ap (behind ws at) e
 
 pub behind_small : (ws : List ℕ) (at k : ℕ) → ((i : ℕ) → i < k → IsWhole ws (behind ws at i))
@@ -112,9 +108,8 @@ blocks_push d w at from k f old whole is =
     }
 
 -- the words of an update: its own block and those of its view
-pub record_of : (d e : List ℕ) (n k : ℕ) (v : List ℕ) (f g : Start) → IsBlock d 0 k v
-    → length d ≡ size_at d 0 → IsPrefix d e → AreBlocks e (length d) n f
-    → ((i : ℕ) → i < n → f i ≡ g i) → IsRecord n k v g e
+pub record_of : (d e : List ℕ) (n k : ℕ) (v : List ℕ) (f g : Start) → IsBlock d 0 k v → length d ≡ size_at d 0
+    → IsPrefix d e → AreBlocks e (length d) n f → ((i : ℕ) → i < n → f i ≡ g i) → IsRecord n k v g e
 record_of d e n k v f g own long pre blocks same =
     let s = block_stays d e 0 pre own.whole in
     record {
@@ -136,17 +131,15 @@ bytes_next : (d front next : List ℕ) (k w : ℕ) → length d ≡ 2 + k → by
 bytes_next d front next k w long old new = grind (arith, bytes_same, get_or_append_left, bytes_more, get_or_push)
 
 -- one word more, of eight of the bytes
-pub bytes_push : (d value : List ℕ) (k w : ℕ) → length d ≡ 2 + k
-    → bytes_at d 2 k ≡ take (8 * k) value → to_le_bytes w64 w ≡ take 8 (drop (8 * k) value)
-    → bytes_at (d ++ w ∷ []) 2 (k + 1) ≡ take (8 * (k + 1)) value
+pub bytes_push : (d value : List ℕ) (k w : ℕ) → length d ≡ 2 + k → bytes_at d 2 k ≡ take (8 * k) value
+    → to_le_bytes w64 w ≡ take 8 (drop (8 * k) value) → bytes_at (d ++ w ∷ []) 2 (k + 1) ≡ take (8 * (k + 1)) value
 bytes_push d value k w long old new =
     let at : 8 * k + 8 ≡ 8 * (k + 1) = omega arith in
     bytes_next d _ _ k w long old new
     ∙ (sym (take_piece (8 * k) 8 value) ∙ ap (λ (z : ℕ). take z value) at)
 
-pub bytes_all : (d bytes : List ℕ) (k : ℕ)
-    → ((q : ℕ) → q < k → to_le_bytes w64 (get_or d (2 + q) 0) ≡ take 8 (drop (8 * q) bytes))
-    → bytes_at d 2 k ≡ take (8 * k) bytes
+pub bytes_all : (d bytes : List ℕ) (k : ℕ) → ((q : ℕ) → q < k
+    → to_le_bytes w64 (get_or d (2 + q) 0) ≡ take 8 (drop (8 * q) bytes)) → bytes_at d 2 k ≡ take (8 * k) bytes
 bytes_all d bytes zero each = refl
 bytes_all d bytes (suc k) each =
     let at : 8 * suc k ≡ 8 * k + 8 = omega arith in
@@ -165,10 +158,9 @@ first_block d value k le fits number len bytes =
     ∙ bytes in
     record { whole = omega arith; is = λ t. (number t, val t) }
 
-pub packed_block : (d value bytes : List ℕ) (k n : ℕ) → length value ≤ 4080 → length d ≡ 512
-    → 510 ≤ n → get_or d 0 0 ≡ k → get_or d 1 0 ≡ length value → take (length value) bytes ≡ value
-    → ((q : ℕ) → q < n → to_le_bytes w64 (get_or d (2 + q) 0) ≡ take 8 (drop (8 * q) bytes))
-    → IsBlock d 0 k value
+pub packed_block : (d value bytes : List ℕ) (k n : ℕ) → length value ≤ 4080 → length d ≡ 512 → 510 ≤ n
+    → get_or d 0 0 ≡ k → get_or d 1 0 ≡ length value → take (length value) bytes ≡ value → ((q : ℕ) → q < n
+    → to_le_bytes w64 (get_or d (2 + q) 0) ≡ take 8 (drop (8 * q) bytes)) → IsBlock d 0 k value
 packed_block d value bytes k n le long all number len whole each =
     let w = words_enough (length value) le in
     first_block d value k le (omega arith) number len
@@ -177,9 +169,8 @@ packed_block d value bytes k n le long all number len whole each =
     ∙ (take-take (length value) (8 * words_for (length value)) bytes w.1 ∙ whole))
 
 -- the last word, with the bytes after the whole words
-pub tail_bytes : (d value rest : List ℕ) (k w : ℕ) → length d ≡ 2 + k
-    → bytes_at d 2 k ≡ take (8 * k) value → to_le_bytes w64 w ≡ drop (8 * k) value ++ rest
-    → words_for (length value) ≡ k + 1
+pub tail_bytes : (d value rest : List ℕ) (k w : ℕ) → length d ≡ 2 + k → bytes_at d 2 k ≡ take (8 * k) value
+    → to_le_bytes w64 w ≡ drop (8 * k) value ++ rest → words_for (length value) ≡ k + 1
     → take (length value) (bytes_at (d ++ w ∷ []) 2 (words_for (length value))) ≡ value
 tail_bytes d value rest k w long old new last =
     let whole : take (8 * k) value ++ (drop (8 * k) value ++ rest) ≡ value ++ rest =

@@ -37,10 +37,9 @@ pub record HasCopied (a b : Access) (at to k : ℕ) (f : Start) : Type 0 where
   pub blocks : AreBlocks (draft_of b) at k f
 
 -- one block more was appended
-pub block_copied : (a m n : Access) (at to k from size : ℕ) (w : List ℕ) (f : Start)
-    → HasCopied a m at to k f → HasDrafted m n (draft_of m ++ piece w from size)
-    → (size ≡ size_at w from) × (size ≤ 512) → IsWhole w from → block_at w from ≡ f k
-    → HasCopied a n at (to + size) (k + 1) f
+pub block_copied : (a m n : Access) (at to k from size : ℕ) (w : List ℕ) (f : Start) → HasCopied a m at to k f
+    → HasDrafted m n (draft_of m ++ piece w from size) → (size ≡ size_at w from) × (size ≤ 512) → IsWhole w from
+    → block_at w from ≡ f k → HasCopied a n at (to + size) (k + 1) f
 block_copied a m n at to k from size w f old step exact whole is =
     let d : List ℕ = draft_of m in
     let p : List ℕ = piece w from size in

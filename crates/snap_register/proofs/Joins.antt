@@ -28,9 +28,8 @@ cut : (f : SeatView → ℕ) (vs : List SeatView) (id : ℕ) (v a b : SeatView) 
 cut f vs id v a b at = omega (arith, total_set f vs id v a at, total_push f (set vs id a) b)
 
 -- a sum after views v and u became a and b
-bound : (f : SeatView → ℕ) (vs : List SeatView) (id other : ℕ) (v u a b : SeatView)
-    → get_elem? vs id ≡ some v → get_elem? (set vs id a) other ≡ some u
-    → total f (set (set vs id a) other b) + f v + f u ≡ total f vs + f a + f b
+bound : (f : SeatView → ℕ) (vs : List SeatView) (id other : ℕ) (v u a b : SeatView) → get_elem? vs id ≡ some v
+    → get_elem? (set vs id a) other ≡ some u → total f (set (set vs id a) other b) + f v + f u ≡ total f vs + f a + f b
 bound f vs id other v u a b at there =
     omega (arith, total_set f vs id v a at, total_set f (set vs id a) other u b there)
 
@@ -38,11 +37,9 @@ module _ (S : Type 0) where
   -- the rule, over other views that hold the same pins
   over : {p : Plan} {s : State S SeatView} (k : Kept p s) (writer : ℕ → ℕ) (vs : List SeatView)
       → total (λ v. v.pin_quota) vs ≤ total (λ v. v.pin_quota) s.views
-      → total (λ v. v.left) vs ≤ total (λ v. v.left) s.views
-      → ((i : ℕ) (f : ℕ → ℕ) → f 0 ≡ 0 → over_pins f i vs ≡ over_pins f i s.views)
-      → ((j : ℕ) (v : SeatView) → get_elem? vs j ≡ some v
-      → Knows p k.history s.words writer k.pools j v)
-      → Kept p record { words = s.words; homes = s.homes; views = vs }
+      → total (λ v. v.left) vs ≤ total (λ v. v.left) s.views → ((i : ℕ) (f : ℕ → ℕ) → f 0 ≡ 0
+      → over_pins f i vs ≡ over_pins f i s.views) → ((j : ℕ) (v : SeatView) → get_elem? vs j ≡ some v
+      → Knows p k.history s.words writer k.pools j v) → Kept p record { words = s.words; homes = s.homes; views = vs }
   over {p} {s} k writer vs pin_quotas lefts pins each = record {
     history = k.history;
     writer = writer;
@@ -57,14 +54,11 @@ module _ (S : Type 0) where
   }
 
   -- the rule after view v became a, with its pins, and a new view b without pins was added
-  over_cut : {p : Plan} {s : State S SeatView} (k : Kept p s) (writer : ℕ → ℕ) (id : ℕ)
-      (v a b : SeatView) → get_elem? s.views id ≡ some v → a.left + b.left ≤ v.left
-      → a.pin_quota + b.pin_quota ≤ v.pin_quota
-      → ((i : ℕ) → get_or a.pins i 0 ≡ get_or v.pins i 0) → ((i : ℕ) → get_or b.pins i 0 ≡ 0)
-      → Knows p k.history s.words writer k.pools id a
-      → Knows p k.history s.words writer k.pools (length s.views) b
-      → ((j : ℕ) (u : SeatView) → j ≢ id → get_elem? s.views j ≡ some u
-      → Knows p k.history s.words writer k.pools j u)
+  over_cut : {p : Plan} {s : State S SeatView} (k : Kept p s) (writer : ℕ → ℕ) (id : ℕ) (v a b : SeatView)
+      → get_elem? s.views id ≡ some v → a.left + b.left ≤ v.left → a.pin_quota + b.pin_quota ≤ v.pin_quota → ((i : ℕ)
+      → get_or a.pins i 0 ≡ get_or v.pins i 0) → ((i : ℕ) → get_or b.pins i 0 ≡ 0)
+      → Knows p k.history s.words writer k.pools id a → Knows p k.history s.words writer k.pools (length s.views) b
+      → ((j : ℕ) (u : SeatView) → j ≢ id → get_elem? s.views j ≡ some u → Knows p k.history s.words writer k.pools j u)
       → Kept p record { words = s.words; homes = s.homes; views = set s.views id a ++ b ∷ [] }
   over_cut {p} {s} k writer id v a b at lefts pin_quotas pins bare first second others =
       let K = Knows p k.history s.words writer k.pools in
@@ -118,9 +112,8 @@ module _ (S : Type 0) where
       (k.each_seat id v at).pin_quota (λ i. refl) s k at
 
   -- the new seat has a pin per register and a seat's looks, and writes nothing
-  pub seats_reader : (p : Plan) (id : ℕ) (v : SeatView) → ((i : ℕ) → get_or v.pins i 0 ≡ 0)
-      → v.plan.looks ≤ v.left → 1 ≤ v.pin_quota
-      → Splits {S = S} (Kept p) id v (without_reader v) (reader v)
+  pub seats_reader : (p : Plan) (id : ℕ) (v : SeatView) → ((i : ℕ) → get_or v.pins i 0 ≡ 0) → v.plan.looks ≤ v.left
+      → 1 ≤ v.pin_quota → Splits {S = S} (Kept p) id v (without_reader v) (reader v)
   seats_reader p id v bare some_looks some_share = grind (arith, nat_tests, parts)
 
   -- the new seat writes the first segment, the old one those after it
@@ -158,11 +151,9 @@ module _ (S : Type 0) where
 
   -- the seat joins what another has seen, which has no pin and writes nothing; the other one is
   -- spent
-  takes_in : (p : Plan) (id : ℕ) (v : SeatView) (other : ℕ) (u : SeatView)
-      (seen received : List Entry) → ((i : ℕ) → get_or u.pins i 0 ≡ 0)
-      → ((h : List Entry) → IsPrefix v.seen h → IsPrefix v.received h → IsPrefix u.seen h
-      → IsPrefix seen h × IsPrefix received h)
-      → ((i : ℕ) → Has v i → (i < v.seen_end) × (seen ≡ v.seen))
+  takes_in : (p : Plan) (id : ℕ) (v : SeatView) (other : ℕ) (u : SeatView) (seen received : List Entry) → ((i : ℕ)
+      → get_or u.pins i 0 ≡ 0) → ((h : List Entry) → IsPrefix v.seen h → IsPrefix v.received h → IsPrefix u.seen h
+      → IsPrefix seen h × IsPrefix received h) → ((i : ℕ) → Has v i → (i < v.seen_end) × (seen ≡ v.seen))
       → Joins {S = S} (Kept p) id v other u (record v { seen = seen; received = received }) spent
   takes_in p id v other u seen received bare prefixes own s k at apart there =
       let a : SeatView = record v { seen = seen; received = received } in
@@ -196,15 +187,13 @@ module _ (S : Type 0) where
       (λ i y _. k.each_seat i y) j x))
 
   -- the seat receives what the other has seen
-  pub tells : (p : Plan) (id : ℕ) (v : SeatView) (other : ℕ) (u : SeatView) → v.seen_end ≡ v.high
-      → ((i : ℕ) → get_or u.pins i 0 ≡ 0)
-      → Joins {S = S} (Kept p) id v other u (with_received v u) spent
+  pub tells : (p : Plan) (id : ℕ) (v : SeatView) (other : ℕ) (u : SeatView) → v.seen_end ≡ v.high → ((i : ℕ)
+      → get_or u.pins i 0 ≡ 0) → Joins {S = S} (Kept p) id v other u (with_received v u) spent
   tells p id v other u seen_end bare = takes_in p id v other u v.seen u.seen bare
       (λ h a _ b. (a, b)) (λ i has. (omega (arith, has.1), refl))
 
   -- a seat that writes nothing has seen what the other has
-  pub adopts : (p : Plan) (id : ℕ) (v : SeatView) (other : ℕ) (u : SeatView) → v.low ≡ 0
-      → v.high ≡ 0 → ((i : ℕ) → get_or u.pins i 0 ≡ 0)
-      → Joins {S = S} (Kept p) id v other u (with_seen_of v u) spent
+  pub adopts : (p : Plan) (id : ℕ) (v : SeatView) (other : ℕ) (u : SeatView) → v.low ≡ 0 → v.high ≡ 0 → ((i : ℕ)
+      → get_or u.pins i 0 ≡ 0) → Joins {S = S} (Kept p) id v other u (with_seen_of v u) spent
   adopts p id v other u low high bare = takes_in p id v other u u.seen v.received bare
       (λ h _ told b. (b, told)) (λ i has. absurd (omega (arith, has.1)))

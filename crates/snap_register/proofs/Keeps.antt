@@ -42,8 +42,7 @@ pub words_same : (p : Plan) (ws : List ℕ) (i : ℕ) → SameWords p ws ws i
 words_same p ws i = record { word = refl; givens = λ b lb. refl; cells = λ b q lb lq. refl }
 
 -- another word was stored
-pub words_beside : {p : Plan} (ws : List ℕ) (c y i : ℕ) → Apart p i c
-    → SameWords p ws (set ws c y) i
+pub words_beside : {p : Plan} (ws : List ℕ) (c y i : ℕ) → Apart p i c → SameWords p ws (set ws c y) i
 words_beside ws c y i apart = record {
   word = get_or-set_other ws c i y 0 apart.word;
   givens = λ b lb. get_or-set_other ws c _ y 0 (apart.givens b lb);
@@ -80,20 +79,17 @@ register_beside {vs = vs} {i = i} id v w at pin left words line =
     register_stays words (λ f _. total_same (λ u. f (get_or u.pins i 0)) vs id v w at (ap f pin))
     (omega (arith, total_set (λ u. u.left) vs id v w at)) line
 
-pub pinned_stays : {p : Plan} {h h' : List Entry} {ws ws' : List ℕ} {i b r : ℕ} → IsPrefix h h'
-    → ((q : ℕ) → q < width p → get_or ws' (cell p i b q) 0 ≡ get_or ws (cell p i b q) 0)
-    → Pinned p h ws i b r → Pinned p h' ws' i b r
+pub pinned_stays : {p : Plan} {h h' : List Entry} {ws ws' : List ℕ} {i b r : ℕ} → IsPrefix h h' → ((q : ℕ) → q < width p
+    → get_or ws' (cell p i b q) 0 ≡ get_or ws (cell p i b q) 0) → Pinned p h ws i b r → Pinned p h' ws' i b r
 pinned_stays {p} {h} {h'} {ws} {ws'} {i} {b} {r} pre cells k =
     grind (arith, nat_tests, count_prefix, record_prefix, cells)
 
 -- what a seat knows stays true while the buffers that it pins and what it writes stay
-pub knows_stays : {p : Plan} {h h' : List Entry} {ws ws' : List ℕ} {writer writer' : ℕ → ℕ}
-    {pools pools' : ℕ → Pool} {j : ℕ} {v : SeatView} → IsPrefix h h'
-    → ((i b q : ℕ) → i < segments p → b < buffers p → get_or v.pins i 0 ≡ b + 1 → q < width p
-    → get_or ws' (cell p i b q) 0 ≡ get_or ws (cell p i b q) 0)
-    → ((i : ℕ) → Has v i
-    → (writer' i ≡ writer i) × (pools' i ≡ pools i) × (only i h' ≡ only i h))
-    → Knows p h ws writer pools j v → Knows p h' ws' writer' pools' j v
+pub knows_stays : {p : Plan} {h h' : List Entry} {ws ws' : List ℕ} {writer writer' : ℕ → ℕ} {pools pools' : ℕ
+    → Pool} {j : ℕ} {v : SeatView} → IsPrefix h h' → ((i b q : ℕ) → i < segments p → b < buffers p
+    → get_or v.pins i 0 ≡ b + 1 → q < width p → get_or ws' (cell p i b q) 0 ≡ get_or ws (cell p i b q) 0) → ((i : ℕ)
+    → Has v i → (writer' i ≡ writer i) × (pools' i ≡ pools i) × (only i h' ≡ only i h)) → Knows p h ws writer pools j v
+    → Knows p h' ws' writer' pools' j v
 knows_stays {p} {h} {h'} {v = v} later cells own t = record {
   plan = t.plan;
   seen = prefix_trans v.seen h h' t.seen later;
@@ -137,13 +133,10 @@ module _ (S : Type 0) where
   module _ {p : Plan} {s : St} (k : Kept p s) (id : ℕ) {v : SeatView} (w : SeatView)
       (at : get_elem? s.views id ≡ some v) (pin_quota : w.pin_quota ≡ v.pin_quota) where
     -- the rule after seat id has taken a step that left this
-    kept_after : (ws : List ℕ) (h : List Entry) (pools : ℕ → Pool) (pinned : ℕ → ℕ)
-        → length ws ≡ length s.words → IsLegal p h
-        → ((i : ℕ) → i < segments p → Register p h ws (set s.views id w) i (pools i) (pinned i))
-        → Knows p h ws k.writer pools id w
-        → ((j : ℕ) (u : SeatView) → j ≢ id → get_elem? s.views j ≡ some u
-        → Knows p h ws k.writer pools j u)
-        → Kept p (after s ws id w)
+    kept_after : (ws : List ℕ) (h : List Entry) (pools : ℕ → Pool) (pinned : ℕ → ℕ) → length ws ≡ length s.words
+        → IsLegal p h → ((i : ℕ) → i < segments p → Register p h ws (set s.views id w) i (pools i) (pinned i))
+        → Knows p h ws k.writer pools id w → ((j : ℕ) (u : SeatView) → j ≢ id → get_elem? s.views j ≡ some u
+        → Knows p h ws k.writer pools j u) → Kept p (after s ws id w)
     kept_after ws h pools pinned wide legal registers mine theirs = record {
       history = h;
       writer = k.writer;
@@ -158,16 +151,12 @@ module _ (S : Type 0) where
     }
 
     -- a step on register i, whose current word then counts x pins
-    pub step_keeps : (i : ℕ) (ws : List ℕ) (h : List Entry) (pools : ℕ → Pool) (x : ℕ)
-        → w.left ≤ v.left → length ws ≡ length s.words → IsLegal p h
-        → ((a : ℕ) → a ≢ i → pools a ≡ k.pools a)
-        → ((a : ℕ) → a < segments p → a ≢ i → SameWords p s.words ws a)
-        → ((a : ℕ) → a ≢ i → get_or v.pins a 0 ≡ get_or w.pins a 0)
-        → ((a : ℕ) → a ≢ i → only a h ≡ only a k.history)
-        → Register p h ws (set s.views id w) i (pools i) x → Knows p h ws k.writer pools id w
-        → ((j : ℕ) (u : SeatView) → j ≢ id → get_elem? s.views j ≡ some u
-        → Knows p h ws k.writer pools j u)
-        → Kept p (after s ws id w)
+    pub step_keeps : (i : ℕ) (ws : List ℕ) (h : List Entry) (pools : ℕ → Pool) (x : ℕ) → w.left ≤ v.left
+        → length ws ≡ length s.words → IsLegal p h → ((a : ℕ) → a ≢ i → pools a ≡ k.pools a) → ((a : ℕ) → a < segments p
+        → a ≢ i → SameWords p s.words ws a) → ((a : ℕ) → a ≢ i → get_or v.pins a 0 ≡ get_or w.pins a 0) → ((a : ℕ)
+        → a ≢ i → only a h ≡ only a k.history) → Register p h ws (set s.views id w) i (pools i) x
+        → Knows p h ws k.writer pools id w → ((j : ℕ) (u : SeatView) → j ≢ id → get_elem? s.views j ≡ some u
+        → Knows p h ws k.writer pools j u) → Kept p (after s ws id w)
     step_keeps i ws h pools x left wide legal others words pins lines own =
         kept_after ws h pools (turn k.pinned i x) wide legal (λ a la. dite (ℕ_discrete a i)
         (λ e. rw (turn_here k.pinned i x a e, e) own)
@@ -175,12 +164,10 @@ module _ (S : Type 0) where
         (register_beside id v w at (pins a ne) left (words a la ne) (lines a ne) (k.registers a la))))
 
     -- a step on register j that changes no buffer, no pool and not the history
-    pin_step : (j c y x : ℕ) → w.left ≤ v.left
-        → ((a : ℕ) → a < segments p → a ≢ j → Apart p a c) → ((a b q : ℕ) → cell p a b q ≢ c)
-        → ((a : ℕ) → a ≢ j → get_or v.pins a 0 ≡ get_or w.pins a 0)
+    pin_step : (j c y x : ℕ) → w.left ≤ v.left → ((a : ℕ) → a < segments p → a ≢ j → Apart p a c) → ((a b q : ℕ)
+        → cell p a b q ≢ c) → ((a : ℕ) → a ≢ j → get_or v.pins a 0 ≡ get_or w.pins a 0)
         → Register p k.history (set s.words c y) (set s.views id w) j (k.pools j) x
-        → Knows p k.history (set s.words c y) k.writer k.pools id w
-        → Kept p (after s (set s.words c y) id w)
+        → Knows p k.history (set s.words c y) k.writer k.pools id w → Kept p (after s (set s.words c y) id w)
     pin_step j c y x left apart cells pins own mine =
         step_keeps j (set s.words c y) k.history k.pools x left (length-set s.words c y) k.legal
         (λ a ne. refl) (λ a la ne. words_beside s.words c y a (apart a la ne)) pins (λ a ne. refl)
@@ -191,8 +178,7 @@ module _ (S : Type 0) where
 
     -- a load that changes no pin and no pool
     unmoved : (c : ℕ) (cs : List (ℕ × S)) → w.left ≡ v.left → w.pins ≡ v.pins
-        → Knows p k.history s.words k.writer k.pools id w
-        → Kept p (stepped s c (get_or s.words c 0) id cs w keeps)
+        → Knows p k.history s.words k.writer k.pools id w → Kept p (stepped s c (get_or s.words c 0) id cs w keeps)
     unmoved c cs left pins mine = loaded s c id cs w
         (kept_after s.words k.history k.pools k.pinned refl k.legal
         (λ i li. register_beside id v w at (ap (λ (l : List ℕ). get_or l i 0) (sym pins))
@@ -241,10 +227,8 @@ module _ (S : Type 0) where
       ))
 
   pub pins : (p : Plan) (slots id : ℕ) (m : M) (j : ℕ) → m.0.spent ≡ false → j < segments m.0.plan
-      → get_or m.0.pins j 0 ≡ 0 → j < length m.0.pins → j < length m.0.records → 0 < m.0.left
-      → 0 < m.0.pin_quota
-      → Allows (Kept p) slots id m j (λ n. (n + 1) % 2 ^ 64)
-      (pinning (step slots j 1 0 maybe.none) m)
+      → get_or m.0.pins j 0 ≡ 0 → j < length m.0.pins → j < length m.0.records → 0 < m.0.left → 0 < m.0.pin_quota
+      → Allows (Kept p) slots id m j (λ n. (n + 1) % 2 ^ 64) (pinning (step slots j 1 0 maybe.none) m)
   pins table slots id m j here lj bare wide_pins wide_records some_left some_share =
       allowed table slots id m j (λ n. (n + 1) % 2 ^ 64) (pinning (step slots j 1 0 maybe.none) m)
       here (λ s k at.
@@ -314,11 +298,9 @@ module _ (S : Type 0) where
         (told_all v w k id at, refl, omega (arith, found, r.current), refl),
       ))
 
-  pub gives_back : (p : Plan) (slots id : ℕ) (m : M) (c j b : ℕ) → m.0.spent ≡ false
-      → j < segments m.0.plan → get_or m.0.pins j 0 ≡ b + 1 → j < length m.0.pins
-      → c ≡ given m.0.plan j b
-      → Allows (Kept p) slots id m c (λ n. (n + 1) % 2 ^ 64)
-      (giving (step slots c 1 0 maybe.none) m)
+  pub gives_back : (p : Plan) (slots id : ℕ) (m : M) (c j b : ℕ) → m.0.spent ≡ false → j < segments m.0.plan
+      → get_or m.0.pins j 0 ≡ b + 1 → j < length m.0.pins → c ≡ given m.0.plan j b
+      → Allows (Kept p) slots id m c (λ n. (n + 1) % 2 ^ 64) (giving (step slots c 1 0 maybe.none) m)
   gives_back table slots id m c j b here lj pin wide_pins place = rw place
       (allowed table slots id m (given m.0.plan j b) (λ n. (n + 1) % 2 ^ 64)
       (giving (step slots (given m.0.plan j b) 1 0 maybe.none) m) here (λ s k at.

@@ -18,8 +18,7 @@ pub set_each : (P : ℕ → ℕ → Type 0) (l : List ℕ) (j y : ℕ) → j < l
 set_each P l j y inside here others i = grind (arith, get_or-set_same, get_or-set_other)
 
 -- a seat at rest in which only these have changed
-abbrev pub changed : {S : Type 0} → Me S SeatView → List Entry → ℕ → List ℕ → List ℕ → List Sight
-    → Pool → Me S SeatView
+abbrev pub changed : {S : Type 0} → Me S SeatView → List Entry → ℕ → List ℕ → List ℕ → List Sight → Pool → Me S SeatView
 changed m seen left pins records sights pool = (
   record m.0 {
     seen = seen;
@@ -54,13 +53,11 @@ module _ {S : Type 0} {words left : ℕ} {pins : List ℕ} {m : Me S SeatView}
       rw is (search (arith, seated))
 
   -- the pin on register j becomes x
-  seated_set : {words' left' l : ℕ} {m' : Me S SeatView} (j x : ℕ) (seen : List Entry)
-      (ms : List ℕ) (ss : List Sight) → j < segments m.0.plan → j < length pins
-      → x ≤ buffers m.0.plan → words' ≡ words → left' ≡ l
-      → m' ≡ changed m seen l (set m.0.pins j x) ms ss m.0.pool → length ms ≡ length m.0.records
-      → ((i : ℕ) → i < segments m.0.plan → get_or ms i 0 ≤ count i seen)
-      → ((i : ℕ) → i < segments m.0.plan → Readable m.0.plan seen i (get_or ms i 0))
-      → IsSeated words' (set pins j x) left' m'
+  seated_set : {words' left' l : ℕ} {m' : Me S SeatView} (j x : ℕ) (seen : List Entry) (ms : List ℕ) (ss : List Sight)
+      → j < segments m.0.plan → j < length pins → x ≤ buffers m.0.plan → words' ≡ words → left' ≡ l
+      → m' ≡ changed m seen l (set m.0.pins j x) ms ss m.0.pool → length ms ≡ length m.0.records → ((i : ℕ)
+      → i < segments m.0.plan → get_or ms i 0 ≤ count i seen) → ((i : ℕ) → i < segments m.0.plan
+      → Readable m.0.plan seen i (get_or ms i 0)) → IsSeated words' (set pins j x) left' m'
   seated_set j x seen ms ss lj wide few same lefts is wide_ms =
       grind (arith, seated_with, length-set, set_each, get_or-set_same, get_or-set_other)
 
@@ -82,9 +79,8 @@ module _ {S : Type 0} {words left : ℕ} {pins : List ℕ} {m : Me S SeatView}
       (omega (arith, seated.left_is)) is (length-set m.0.records j (count j h)) old
       (all_readable ms sized legal old)
 
-  pub seated_bare : {words' : ℕ} {m' : Me S SeatView} (j : ℕ) → j < segments m.0.plan
-      → j < length pins → words' ≡ words → m' ≡ (record m.0 { pins = set m.0.pins j 0 }, m.1)
-      → IsSeated words' (set pins j 0) left m'
+  pub seated_bare : {words' : ℕ} {m' : Me S SeatView} (j : ℕ) → j < segments m.0.plan → j < length pins → words' ≡ words
+      → m' ≡ (record m.0 { pins = set m.0.pins j 0 }, m.1) → IsSeated words' (set pins j 0) left m'
   seated_bare j lj wide same is =
       seated_set j 0 m.0.seen m.0.records m.0.sights lj wide (omega arith) same seated.left_is
       (is ∙ ap (λ (n : Me S SeatView). (record n.0 { pins = set m.0.pins j 0 }, n.1)) settled) refl
@@ -96,10 +92,9 @@ module _ {S : Type 0} {words left : ℕ} {pins : List ℕ} {m : Me S SeatView}
   seated_pool d same is = grind (arith, seated_with, settled)
 
   -- only the pool and what was seen have changed
-  pub seated_shown : {n s block_words whole words' : ℕ} {m' : Me S SeatView} (d : Pool)
-      (seen : List Entry) → IsSized n s block_words whole m.0.plan → words' ≡ words
-      → m' ≡ (record m.0 { seen = seen; pool = d }, m.1) → IsPrefix m.0.seen seen
-      → IsLegal m.0.plan seen → IsSeated words' pins left m'
+  pub seated_shown : {n s block_words whole words' : ℕ} {m' : Me S SeatView} (d : Pool) (seen : List Entry)
+      → IsSized n s block_words whole m.0.plan → words' ≡ words → m' ≡ (record m.0 { seen = seen; pool = d }, m.1)
+      → IsPrefix m.0.seen seen → IsLegal m.0.plan seen → IsSeated words' pins left m'
   seated_shown d seen sized same is later legal =
       let old : (i : ℕ) → i < segments m.0.plan → get_or m.0.records i 0 ≤ count i seen =
       λ i li. omega (arith, count_prefix i m.0.seen seen later, seated.records_are i li) in
@@ -109,15 +104,13 @@ module _ {S : Type 0} {words left : ℕ} {pins : List ℕ} {m : Me S SeatView}
       seated.pins_are seated.pins_inside old (all_readable m.0.records sized legal old)
 
 -- the sizes are still those of the plan
-pub sized_still : (a : Access) {p : Plan} → p ≡ (view_of a).plan
-    → IsSized a.segments a.scanners a.block_words a.words p
+pub sized_still : (a : Access) {p : Plan} → p ≡ (view_of a).plan → IsSized a.segments a.scanners a.block_words a.words p
 sized_still a e = rw e a.sized
 
 pub publishes_later : (v w : SeatView) (i x : ℕ) → Publishes v w i x → IsPrefix v.seen w.seen
 publishes_later v w i x s = grind (arith, append_assoc)
 
-pub publishes_count : (v w : SeatView) (i x : ℕ) → Publishes v w i x
-    → count i w.seen ≡ count i v.seen + 1
+pub publishes_count : (v w : SeatView) (i x : ℕ) → Publishes v w i x → count i w.seen ≡ count i v.seen + 1
 publishes_count v w i x s = grind (arith, count_push_same, count-append)
 
 pub some_words : {n s block_words whole words : ℕ} {p : Plan} → IsSized n s block_words whole p

@@ -13,8 +13,7 @@ use native.Mathlib.Decide.{ℕ_discrete}
 pub prefix_self : {A : Type 0} (xs : List A) → IsPrefix xs xs
 prefix_self xs = ([], append-nil xs)
 
-pub prefix_trans : {A : Type 0} (xs ys zs : List A) → IsPrefix xs ys → IsPrefix ys zs
-    → IsPrefix xs zs
+pub prefix_trans : {A : Type 0} (xs ys zs : List A) → IsPrefix xs ys → IsPrefix ys zs → IsPrefix xs zs
 prefix_trans xs ys zs p q =
     (p.0 ++ q.0, sym (append_assoc xs p.0 q.0) ∙ (ap (λ w. w ++ q.0) p.1 ∙ q.1))
 
@@ -29,20 +28,16 @@ only_first i x h same = grind (arith, nat_tests)
 only_behind : (i : ℕ) (x : Entry) (h : List Entry) → x.segment ≢ i → only i (x ∷ h) ≡ only i h
 only_behind i x h other = grind (arith, nat_tests)
 
-pub only_push_same : (i : ℕ) (h : List Entry) (e : Entry) → e.segment ≡ i
-    → only i (h ++ e ∷ []) ≡ only i h ++ e ∷ []
+pub only_push_same : (i : ℕ) (h : List Entry) (e : Entry) → e.segment ≡ i → only i (h ++ e ∷ []) ≡ only i h ++ e ∷ []
 only_push_same i h e is = grind (arith, nat_tests, only-append i h (e ∷ []))
 
-pub only_push_other : (i : ℕ) (h : List Entry) (e : Entry) → e.segment ≢ i
-    → only i (h ++ e ∷ []) ≡ only i h
+pub only_push_other : (i : ℕ) (h : List Entry) (e : Entry) → e.segment ≢ i → only i (h ++ e ∷ []) ≡ only i h
 only_push_other i h e is = grind (arith, nat_tests, only-append i h (e ∷ []), append-nil)
 
-pub count_push_same : (i : ℕ) (h : List Entry) (e : Entry) → e.segment ≡ i
-    → count i (h ++ e ∷ []) ≡ count i h + 1
+pub count_push_same : (i : ℕ) (h : List Entry) (e : Entry) → e.segment ≡ i → count i (h ++ e ∷ []) ≡ count i h + 1
 count_push_same i h e is = ap length (only_push_same i h e is) ∙ length-append (only i h) (e ∷ [])
 
-pub count_push_other : (i : ℕ) (h : List Entry) (e : Entry) → e.segment ≢ i
-    → count i (h ++ e ∷ []) ≡ count i h
+pub count_push_other : (i : ℕ) (h : List Entry) (e : Entry) → e.segment ≢ i → count i (h ++ e ∷ []) ≡ count i h
 count_push_other i h e is = ap length (only_push_other i h e is)
 
 pub count-append : (i : ℕ) (a b : List Entry) → count i (a ++ b) ≡ count i a + count i b
@@ -65,8 +60,7 @@ pub record_last : (p : Plan) (h : List Entry) (i : ℕ) (ws : List ℕ)
     → record_words p (h ++ entry i ws ∷ []) i (count i h + 1) ≡ ws
 record_last p h i ws = grind (arith, only_push_same i h (entry i ws) refl, get_or_push)
 
-pub none_between : (i : ℕ) (a h : List Entry) (p : IsPrefix a h) → count i a ≡ count i h
-    → only i p.0 ≡ []
+pub none_between : (i : ℕ) (a h : List Entry) (p : IsPrefix a h) → count i a ≡ count i h → only i p.0 ≡ []
 none_between i a h p same = nil_from_length (only i p.0) (omega (arith, count_rest i a h p))
 
 -- a list is empty or has a last element
@@ -75,8 +69,7 @@ last_view [] = inl refl
 last_view (x ∷ xs) = ⊎_elim (λ e. inr ([], x, ap (λ w. x ∷ w) e)) (λ t.
     inr (x ∷ t.0, t.1, ap (λ w. x ∷ w) t.2)) (last_view xs)
 
-pub legal_push : (p : Plan) (h : List Entry) (x : Entry) → IsLegal p h → Follows p h x
-    → IsLegal p (h ++ x ∷ [])
+pub legal_push : (p : Plan) (h : List Entry) (x : Entry) → IsLegal p h → Follows p h x → IsLegal p (h ++ x ∷ [])
 legal_push p h x legal follows a b e is = ⊎_elim
     (λ none. let s = same_from_push a h e x (ap (λ w. a ++ e ∷ w) (sym none) ∙ is) in
     rw (s.1, s.0) follows)
@@ -102,8 +95,7 @@ pub record Found (i r : ℕ) (h : List Entry) : Type 0 where
   pub place : count i before ≡ r
   pub its : (get_or (only i h) r (entry i [])).segment ≡ i
 
-found_more : (i r : ℕ) (x : Entry) (h : List Entry) → x.segment ≢ i → Found i r h
-    → Found i r (x ∷ h)
+found_more : (i r : ℕ) (x : Entry) (h : List Entry) → x.segment ≢ i → Found i r h → Found i r (x ∷ h)
 found_more i r x h other f =
     let e = only_behind i x h other in
     record {
@@ -125,8 +117,7 @@ found_first i x h same =
       its = ap (λ l. (get_or l zero (entry i [])).segment) e ∙ same;
     }
 
-found_next : (i r : ℕ) (x : Entry) (h : List Entry) → x.segment ≡ i → Found i r h
-    → Found i (suc r) (x ∷ h)
+found_next : (i r : ℕ) (x : Entry) (h : List Entry) → x.segment ≡ i → Found i r h → Found i (suc r) (x ∷ h)
 found_next i r x h same f =
     let e = only_first i x h same in
     record {

@@ -34,8 +34,7 @@ module _ (S : Type 0) where
       → (m.0.plan.looks ≤ m.0.left) × (1 ≤ m.0.pin_quota)
   enough words l m f any = grind (arith, nat_tests, fewer_looks)
 
-  pub bare : (words l : ℕ) (m : Me S SeatView) → IsFirst words l m → (i : ℕ)
-      → get_or m.0.pins i 0 ≡ 0
+  pub bare : (words l : ℕ) (m : Me S SeatView) → IsFirst words l m → (i : ℕ) → get_or m.0.pins i 0 ≡ 0
   bare words l m f i = ap (λ (z : List ℕ). get_or z i 0) f.pins_are ∙ none_at (segments m.0.plan) i
 
   -- after a seat was split off that takes the segments below `low`
@@ -70,9 +69,8 @@ module _ {X : Type 0} (f : X → List ℕ) (d : X) (b : ℕ) where
   even_length (x ∷ xs) even =
       grind (arith, even 0, even_length xs (λ i li. even (suc i) (omega arith)), length-append (f x) (flat_map f xs))
 
-  even_get : (xs : List X) (i j : ℕ) → ((i : ℕ) → i < length xs → length (f (get_or xs i d)) ≡ b)
-      → i < length xs → j < b → get_or (flat_map f xs) (i * b + j) 0
-      ≡ get_or (f (get_or xs i d)) j 0
+  even_get : (xs : List X) (i j : ℕ) → ((i : ℕ) → i < length xs → length (f (get_or xs i d)) ≡ b) → i < length xs
+      → j < b → get_or (flat_map f xs) (i * b + j) 0 ≡ get_or (f (get_or xs i d)) j 0
   even_get [] i j even li lj = absurd (omega arith)
   even_get (x ∷ xs) zero j even li lj = grind (arith, even 0, get_or_append_left)
   even_get (x ∷ xs) (suc i) j even li lj = grind (
@@ -109,8 +107,7 @@ module _ (p : Plan) (ready : IsReady p) where
   zero_at : (i : ℕ) → i < front → get_or (opening_words p) i 0 ≡ 0
   zero_at i li = grind (arith, nat_tests, get_or_append_left, flat_map, count_zeros, get_or-replicate)
 
-  zero_given : (i b : ℕ) → i < segments p → b < buffers p
-      → get_or (opening_words p) (given p i b) 0 ≡ 0
+  zero_given : (i b : ℕ) → i < segments p → b < buffers p → get_or (opening_words p) (given p i b) 0 ≡ 0
   zero_given i b li lb =
       zero_at (given p i b) (omega (arith, below_product i (segments p) (buffers p) b li lb))
 

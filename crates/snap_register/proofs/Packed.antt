@@ -15,9 +15,8 @@ start_is scanners looks os i o e =
     get_or_from_slice_get (map start_of os) i (start_of o) no_start (slice_get-map start_of os i
     ∙ ap (option_map start_of) e)
 
-pub ready_is : (scanners looks : ℕ) (vs : List (ℕ × List ℕ)) (os : List Opening) → scanners ≤ 16
-    → length os ≤ 16 → looks ≤ 2 ^ 50 → Pairs (λ _. IsPacked) vs os
-    → IsReady (plan_with scanners looks 512 os)
+pub ready_is : (scanners looks : ℕ) (vs : List (ℕ × List ℕ)) (os : List Opening) → scanners ≤ 16 → length os ≤ 16
+    → looks ≤ 2 ^ 50 → Pairs (λ _. IsPacked) vs os → IsReady (plan_with scanners looks 512 os)
 ready_is scanners looks vs os few_scanners few some p =
     let size : length vs ≡ length os = p.size in
     let q : Plan = plan_with scanners looks 512 os in
@@ -49,9 +48,8 @@ opening_is scanners looks vs os p = record {
 }
 
 -- after all were packed
-pub packed_all : {A : Type 0} (f : A → ℕ × List ℕ) (k : ℕ) (xs : List A) (os : List Opening)
-    → length xs ≤ k → Pairs (λ _. IsPacked) (map f (take k xs)) os
-    → Pairs (λ _. IsPacked) (map f xs) os
+pub packed_all : {A : Type 0} (f : A → ℕ × List ℕ) (k : ℕ) (xs : List A) (os : List Opening) → length xs ≤ k
+    → Pairs (λ _. IsPacked) (map f (take k xs)) os → Pairs (λ _. IsPacked) (map f xs) os
 packed_all f k xs os all p = rw (take_all k xs all) at p
 
 pub packed_length : {A : Type 0} (f : A → ℕ × List ℕ) (xs : List A) (os : List Opening)

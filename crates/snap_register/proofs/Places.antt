@@ -24,8 +24,7 @@ module _ (p : Plan) where
       (omega arith) in
       let each = parts_same i j (buffers p) r s lr ls outer.0 in (each.0, each.1, outer.1)
 
-  pub given_same : (i r j s : ℕ) → r < buffers p → s < buffers p → given p i r ≡ given p j s
-      → (i ≡ j) × (r ≡ s)
+  pub given_same : (i r j s : ℕ) → r < buffers p → s < buffers p → given p i r ≡ given p j s → (i ≡ j) × (r ≡ s)
   given_same i r j s lr ls e = parts_same i j (buffers p) r s lr ls (omega arith)
 
   pub given_behind : (i b j : ℕ) → j < segments p → j ≢ given p i b
@@ -37,8 +36,7 @@ module _ (p : Plan) where
   pub given_cell : (j b i r q : ℕ) → j < segments p → b < buffers p → given p j b ≢ cell p i r q
   given_cell j b i r q lj lb e = omega (arith, below_product j (segments p) (buffers p) b lj lb)
 
-  pub cell_inside : (i r q : ℕ) → i < segments p → r < buffers p → q < width p
-      → cell p i r q < size p
+  pub cell_inside : (i r q : ℕ) → i < segments p → r < buffers p → q < width p → cell p i r q < size p
   cell_inside i r q li lr lq =
       let buffer = below_product i (segments p) (buffers p) r li lr in
       omega (
@@ -60,16 +58,14 @@ module _ (p : Plan) where
     cells = λ b q lb lq e. cell_behind i b q j lj (sym e);
   }
 
-  pub given_apart : (i j r : ℕ) → i < segments p → j < segments p → r < buffers p → i ≢ j
-      → Apart p i (given p j r)
+  pub given_apart : (i j r : ℕ) → i < segments p → j < segments p → r < buffers p → i ≢ j → Apart p i (given p j r)
   given_apart i j r li lj lr ne = record {
     word = given_behind j r i li;
     givens = λ b lb e. ne (given_same i b j r lb lr e).0;
     cells = λ b q lb lq e. given_cell j r i b q lj lr (sym e);
   }
 
-  pub cell_apart : (i j r s : ℕ) → i < segments p → r < buffers p → s < width p → i ≢ j
-      → Apart p i (cell p j r s)
+  pub cell_apart : (i j r s : ℕ) → i < segments p → r < buffers p → s < width p → i ≢ j → Apart p i (cell p j r s)
   cell_apart i j r s li lr ls ne = record {
     word = cell_behind j r s i li;
     givens = λ b lb e. given_cell i b j r s li lb e;

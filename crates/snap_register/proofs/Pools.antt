@@ -54,10 +54,9 @@ module _ (S : Type 0) where
 
     -- a step that changes its pool, perhaps words of its free buffer, and perhaps adds its own
     -- update to the history
-    pool_step : (ws : List ℕ) (seen h : List Entry) (d : Pool) (x : ℕ)
-        → length ws ≡ length s.words → IsPrefix k.history h → IsLegal v.plan h → IsPrefix seen h
-        → only i seen ≡ only i h → ((a : ℕ) → a ≢ i → only a h ≡ only a k.history)
-        → ((a : ℕ) → a < segments v.plan → a ≢ i → SameWords v.plan s.words ws a)
+    pool_step : (ws : List ℕ) (seen h : List Entry) (d : Pool) (x : ℕ) → length ws ≡ length s.words
+        → IsPrefix k.history h → IsLegal v.plan h → IsPrefix seen h → only i seen ≡ only i h → ((a : ℕ) → a ≢ i
+        → only a h ≡ only a k.history) → ((a : ℕ) → a < segments v.plan → a ≢ i → SameWords v.plan s.words ws a)
         → ((b q : ℕ) → b < buffers v.plan → q < width v.plan → b ≢ v.pool.free_buffer
         → get_or ws (cell v.plan i b q) 0 ≡ get_or s.words (cell v.plan i b q) 0)
         → Register v.plan h ws (set s.views id (record v { seen = seen; pool = d })) i d x
@@ -104,9 +103,8 @@ module _ (S : Type 0) where
 
     -- the next word of the free buffer, after the words l of the draft that stay, is y
     draft_at : (c y : ℕ) (cs : List (ℕ × S)) (l : List ℕ) → v.pool.free_buffer < buffers v.plan
-        → length l ≤ length v.pool.draft → length l < width v.plan
-        → ((q : ℕ) → q < length l → get_or v.pool.draft q 0 ≡ get_or l q 0)
-        → c ≡ cell v.plan i v.pool.free_buffer (length l)
+        → length l ≤ length v.pool.draft → length l < width v.plan → ((q : ℕ) → q < length l
+        → get_or v.pool.draft q 0 ≡ get_or l q 0) → c ≡ cell v.plan i v.pool.free_buffer (length l)
         → Kept v.plan (stepped s c y id cs (record v { pool = record v.pool { draft = l ++ y ∷ [] } }) keeps)
     draft_at c y cs l free kept short same place =
         let p : Plan = v.plan in
@@ -133,9 +131,8 @@ module _ (S : Type 0) where
         (λ b q lb lq ne. cells b q lb lq (λ e _. ne e))
         (grind (arith, get_or_push, get_or_append_left)))
 
-  pub checks : (p : Plan) (slots id : ℕ) (m : M) (i c : ℕ) → m.0.spent ≡ false → IsWriter m.0 i
-      → i < segments m.0.plan → next_other m.0.pool < buffers m.0.plan
-      → c ≡ given m.0.plan i (next_other m.0.pool)
+  pub checks : (p : Plan) (slots id : ℕ) (m : M) (i c : ℕ) → m.0.spent ≡ false → IsWriter m.0 i → i < segments m.0.plan
+      → next_other m.0.pool < buffers m.0.plan → c ≡ given m.0.plan i (next_other m.0.pool)
       → Allows (Kept p) slots id m c (λ n. n) (checked (step slots c 0 0 maybe.none) m)
   checks table slots id m i c here role inside lb place = rw place
       (allowed S table slots id m (given m.0.plan i (next_other m.0.pool)) (λ n. n)
@@ -168,9 +165,8 @@ module _ (S : Type 0) where
       ))))
 
   -- after a load the next word is the one found
-  pub reuses : (p : Plan) (slots id : ℕ) (m : M) (i c : ℕ) → m.0.spent ≡ false → IsWriter m.0 i
-      → i < segments m.0.plan → m.0.pool.free_buffer < buffers m.0.plan
-      → length m.0.pool.draft < width m.0.plan
+  pub reuses : (p : Plan) (slots id : ℕ) (m : M) (i c : ℕ) → m.0.spent ≡ false → IsWriter m.0 i → i < segments m.0.plan
+      → m.0.pool.free_buffer < buffers m.0.plan → length m.0.pool.draft < width m.0.plan
       → c ≡ cell m.0.plan i m.0.pool.free_buffer (length m.0.pool.draft)
       → Allows (Kept p) slots id m c (λ n. n) (reused (step slots c 0 0 maybe.none) m)
   reuses p slots id m i c here role inside free short place =
@@ -182,10 +178,9 @@ module _ (S : Type 0) where
       ))
 
   -- after a store the word is the one stored
-  pub redrafts : (p : Plan) (slots id : ℕ) (m : M) (i c y : ℕ) → m.0.spent ≡ false
-      → IsWriter m.0 i → i < segments m.0.plan → m.0.pool.free_buffer < buffers m.0.plan
-      → 0 < length m.0.pool.draft → length m.0.pool.draft ≤ width m.0.plan
-      → c ≡ cell m.0.plan i m.0.pool.free_buffer (length m.0.pool.draft - 1)
+  pub redrafts : (p : Plan) (slots id : ℕ) (m : M) (i c y : ℕ) → m.0.spent ≡ false → IsWriter m.0 i
+      → i < segments m.0.plan → m.0.pool.free_buffer < buffers m.0.plan → 0 < length m.0.pool.draft
+      → length m.0.pool.draft ≤ width m.0.plan → c ≡ cell m.0.plan i m.0.pool.free_buffer (length m.0.pool.draft - 1)
       → Allows (Kept p) slots id m c (λ _. y) (λ _. redrafted (step slots c y 0 maybe.none) m y)
   redrafts p slots id m i c y here role inside free some_word short place =
       let d : List ℕ = m.0.pool.draft in
@@ -201,8 +196,7 @@ module _ (S : Type 0) where
       ))
 
   pub publishes : (p : Plan) (slots id : ℕ) (m : M) (i y : ℕ) → m.0.spent ≡ false → IsWriter m.0 i
-      → i < segments m.0.plan → m.0.pool.free_buffer < buffers m.0.plan
-      → IsNumber (number m.0.plan m.0.seen i + 1)
+      → i < segments m.0.plan → m.0.pool.free_buffer < buffers m.0.plan → IsNumber (number m.0.plan m.0.seen i + 1)
       → (IsLegal m.0.plan m.0.seen → Follows m.0.plan m.0.seen (entry i m.0.pool.draft))
       → y ≡ m.0.pool.free_buffer * 2 ^ 56
       → Allows (Kept p) slots id m i (λ _. y) (published (step slots i y 0 maybe.none) m)

@@ -14,8 +14,7 @@ lies_more v j q k r first place lies inside more e =
 
 -- the next word of a draft is at the next place
 pub next_more : (v : SeatView) (i b to q first place : ℕ) (ws : List ℕ) → Owns v i → IsFree v b
-    → to ≡ length v.pool.draft → length ws ≡ q → to + q < width v.plan
-    → first ≡ cell v.plan i b to → place ≡ first + q
+    → to ≡ length v.pool.draft → length ws ≡ q → to + q < width v.plan → first ≡ cell v.plan i b to → place ≡ first + q
     → IsNext (record v { pool = record v.pool { draft = v.pool.draft ++ ws } }) place
 next_more v i b to q first place ws owns free start long inside is more = grind (arith, length-append)
 

@@ -18,8 +18,7 @@ pub total_same : (f : SeatView → ℕ) (vs : List SeatView) (k : ℕ) (v w : Se
     → get_elem? vs k ≡ some v → f v ≡ f w → total f (set vs k w) ≡ total f vs
 total_same f vs k v w e s = let h = total_set f vs k v w e in omega arith
 
-pub total_push : (f : SeatView → ℕ) (vs : List SeatView) (w : SeatView)
-    → total f (vs ++ w ∷ []) ≡ total f vs + f w
+pub total_push : (f : SeatView → ℕ) (vs : List SeatView) (w : SeatView) → total f (vs ++ w ∷ []) ≡ total f vs + f w
 total_push f [] w = omega arith
 total_push f (x ∷ xs) w = let h = total_push f xs w in omega arith
 
@@ -56,13 +55,11 @@ pub other_ne : (c k : ℕ) → other c k ≢ c
 other_ne c k e = grind (arith, nat_tests)
 
 -- the pins on the next other buffer no longer count among those further on
-far_next : (c k x : ℕ)
-    → cond (x == other c k + 1) 1 0 + far (other c (k + 1)) c x ≡ far (other c k) c x
+far_next : (c k x : ℕ) → cond (x == other c k + 1) 1 0 + far (other c (k + 1)) c x ≡ far (other c k) c x
 far_next c k x = grind (arith, nat_tests)
 
 pub beyond_next : (i c k : ℕ) (vs : List SeatView)
-    → total (on i (other c k)) vs + total (beyond i (other c (k + 1)) c) vs
-    ≡ total (beyond i (other c k) c) vs
+    → total (on i (other c k)) vs + total (beyond i (other c (k + 1)) c) vs ≡ total (beyond i (other c k) c) vs
 beyond_next i c k vs = total_add (on i (other c k)) (beyond i (other c (k + 1)) c)
     (beyond i (other c k) c) vs (λ v. far_next c k (get_or v.pins i 0))
 
@@ -74,8 +71,7 @@ pub pins_else : (d : Pool) (x b : ℕ) → d.current ≢ b → pins_of d x b ≡
 pins_else d x b e = grind (arith, nat_tests)
 
 -- the pins on each buffer, after the current word's were added and buffer f became current
-pub pins_moved : (d : Pool) (x c f : ℕ) → d.current < length d.counted
-    → get_or d.counted d.current 0 + x ≡ c
-    → (b : ℕ) → get_or (set d.counted d.current c) b 0 + cond (f == b) 0 0 ≡ pins_of d x b
+pub pins_moved : (d : Pool) (x c f : ℕ) → d.current < length d.counted → get_or d.counted d.current 0 + x ≡ c → (b : ℕ)
+    → get_or (set d.counted d.current c) b 0 + cond (f == b) 0 0 ≡ pins_of d x b
 pins_moved d x c f inside sum b =
     grind (arith, nat_tests, get_or-set_same {A = ℕ}, get_or-set_other {A = ℕ})

@@ -27,17 +27,14 @@ updates_count i (x ∷ h) = grind (arith, nat_tests, updates_count i h)
 abbrev last_of : ℕ → Entry → List Entry → List ℕ
 last_of i e l = value_at (get_or (e ∷ l) (length l) (entry i [])).words 0
 
-last_is : (i : ℕ) (h : List Entry) (e : Entry)
-    → last_value (value_at e.words 0) i (updates h) ≡ last_of i e (only i h)
+last_is : (i : ℕ) (h : List Entry) (e : Entry) → last_value (value_at e.words 0) i (updates h) ≡ last_of i e (only i h)
 last_is i [] e = refl
 last_is i (x ∷ h) e = grind (arith, nat_tests, last_is i h e, last_is i h x)
 
-pub number_is : (p : Plan) (h : List Entry) (i : ℕ)
-    → number_after (starts p) (updates h) i ≡ number p h i
+pub number_is : (p : Plan) (h : List Entry) (i : ℕ) → number_after (starts p) (updates h) i ≡ number p h i
 number_is p h i = omega (arith, updates_count i h)
 
-pub value_is : (p : Plan) (h : List Entry) (i : ℕ)
-    → value_after (starts p) (updates h) i ≡ (memory p h i).1
+pub value_is : (p : Plan) (h : List Entry) (i : ℕ) → value_after (starts p) (updates h) i ≡ (memory p h i).1
 value_is p h i = last_is i h (entry i (start_at p i).words)
 
 -- A beginning of one is a beginning of the other:
@@ -54,8 +51,7 @@ back part h b = let n : ℕ = length part in (
 )
 
 -- a beginning with r updates of j
-moment : (h : List Entry) (j r : ℕ) → r ≤ count j h
-    → (part : List Entry) × IsPrefix part h × (count j part ≡ r)
+moment : (h : List Entry) (j r : ℕ) → r ≤ count j h → (part : List Entry) × IsPrefix part h × (count j part ≡ r)
 moment h j zero le = ([], (h, refl), refl)
 moment h j (suc r) le =
     let f = find j r h (omega arith) in
@@ -71,8 +67,7 @@ pub looked_some : (z : TableId) (v : SeatView) (j : ℕ) → 0 < get_or v.pins j
     → looked (known z v) j ≡ Some ((start_at v.plan j).number + get_or v.records j 0)
 looked_some z v j some = grind (arith, nat_tests)
 
-pub pinned_looked : (z : TableId) (v : SeatView) (j : ℕ) → HasLooked (known z v) j
-    → 0 < get_or v.pins j 0
+pub pinned_looked : (z : TableId) (v : SeatView) (j : ℕ) → HasLooked (known z v) j → 0 < get_or v.pins j 0
 pinned_looked z v j some = grind (arith, nat_tests)
 
 pub last_look_is : (z : TableId) (v : SeatView) (j k : ℕ) → looked (known z v) j ≡ Some k
@@ -86,15 +81,13 @@ update_found z v j found =
 
 -- The calls of a seat:
 
-pub grows_is : (z z' : TableId) (v w : SeatView) → z' ≡ z → w.plan ≡ v.plan → w.low ≡ v.low
-    → w.high ≡ v.high → IsPrefix v.seen w.seen → ((i : ℕ) → Has v i → only i w.seen ≡ only i v.seen)
-    → Grows (known z v) (known z' w)
+pub grows_is : (z z' : TableId) (v w : SeatView) → z' ≡ z → w.plan ≡ v.plan → w.low ≡ v.low → w.high ≡ v.high
+    → IsPrefix v.seen w.seen → ((i : ℕ) → Has v i → only i w.seen ≡ only i v.seen) → Grows (known z v) (known z' w)
 grows_is z z' v w same plan low high later own = grind (arith, nat_tests, beginning_is, updates_count)
 
 -- a meeting, after which the seat has seen h
-pub meets_is : (z z' : TableId) (v w : SeatView) (h : List Entry) → z' ≡ z
-    → w ≡ record v { seen = h } → IsPrefix v.seen h
-    → ((i : ℕ) → Has v i → only i h ≡ only i v.seen) → Meets (known z v) (known z' w)
+pub meets_is : (z z' : TableId) (v w : SeatView) (h : List Entry) → z' ≡ z → w ≡ record v { seen = h }
+    → IsPrefix v.seen h → ((i : ℕ) → Has v i → only i h ≡ only i v.seen) → Meets (known z v) (known z' w)
 meets_is z z' v w h same is later own = rw is (record {
   grows = grows_is z z' v (record v { seen = h }) same refl refl refl later own;
   looks = λ i. refl;
@@ -106,8 +99,7 @@ pub below_is : (z : TableId) (v : SeatView) → rule.IsBelow v.plan v.seen → I
 below_is z v b i li = omega (arith, number_is v.plan v.seen i, b i li)
 
 pub value_shown : (z : TableId) (v : SeatView) (j : ℕ) (value : List ℕ) → HasLooked (known z v) j
-    → get_or v.records j 0 ≤ count j v.seen → value ≡ value_at (held v j) 0
-    → IsValue (known z v) j value
+    → get_or v.records j 0 ≤ count j v.seen → value ≡ value_at (held v j) 0 → IsValue (known z v) j value
 value_shown z v j value has le is =
     let m = moment v.seen j (get_or v.records j 0) le in
     let words : held v j ≡ record_words v.plan m.0 j (count j m.0) =
@@ -124,11 +116,9 @@ memory_is : (p : Plan) (h : List Entry) (i : ℕ)
     → memory p h i ≡ (number_after (starts p) (updates h) i, value_after (starts p) (updates h) i)
 memory_is p h i = λ t. (sym (number_is p h i) t, sym (value_is p h i) t)
 
-pub view_shown : (z : TableId) (v : SeatView) (j set : ℕ) (xs : List (ℕ × List ℕ))
-    → IsLegal v.plan v.seen → HasFoundUpdate (known z v) j → get_or v.records j 0 ≤ count j v.seen
-    → length xs ≡ segments v.plan
-    → ((k : ℕ) → k < segments v.plan → Names set k → slice_get xs k ≡ Some (view_in (held v j) k))
-    → IsView (known z v) j set xs
+pub view_shown : (z : TableId) (v : SeatView) (j set : ℕ) (xs : List (ℕ × List ℕ)) → IsLegal v.plan v.seen
+    → HasFoundUpdate (known z v) j → get_or v.records j 0 ≤ count j v.seen → length xs ≡ segments v.plan → ((k : ℕ)
+    → k < segments v.plan → Names set k → slice_get xs k ≡ Some (view_in (held v j) k)) → IsView (known z v) j set xs
 view_shown z v j set xs legal found le size each =
     let t = last_look_is z v j found.told found.is in
     let u = viewed v.plan v.seen j (get_or v.records j 0) legal (omega (arith, t.1, found.above)) le in
@@ -145,14 +135,12 @@ view_shown z v j set xs legal found le size each =
 
 -- A view that the caller may publish can be carried by the seat:
 
-pub can_take : (z : TableId) (v : SeatView) (view : View) → MayPublish (known z v) view
-    → CanTake v view
+pub can_take : (z : TableId) (v : SeatView) (view : View) → MayPublish (known z v) view → CanTake v view
 can_take z v Collected m = λ i li. (last_look_is z v i _ (m.each i li)).0
 can_take z v (Borrowed j) m = let u = update_found z v j m.found in (m.inside, u.0, u.1)
 
-pub may_take : (z : TableId) (v : SeatView) (view : View)
-    → ((i : ℕ) → i < segments v.plan → Readable v.plan v.seen i (get_or v.records i 0))
-    → MayPublish (known z v) view → MayTake v v.low view
+pub may_take : (z : TableId) (v : SeatView) (view : View) → ((i : ℕ) → i < segments v.plan
+    → Readable v.plan v.seen i (get_or v.records i 0)) → MayPublish (known z v) view → MayTake v v.low view
 may_take z v Collected read m =
     let b = back m.part v.seen m.beginning in
     let same : (k : ℕ) → number_after (starts v.plan) m.part k ≡ number v.plan b.0 k =
@@ -176,12 +164,10 @@ may_take z v (Borrowed j) read m = λ part pre before.
     omega (arith, number_is v.plan part v.low, number_is v.plan v.seen v.low)
 
 -- then the update may follow
-follows_of : (v : SeatView) (i k : ℕ) (view : View) (value d e : List ℕ) (part : List Entry)
-    → IsPrefix part v.seen → count i part ≡ count i v.seen
-    → ((j : ℕ) → j < segments v.plan → taken v view j ≡ memory v.plan part j)
+follows_of : (v : SeatView) (i k : ℕ) (view : View) (value d e : List ℕ) (part : List Entry) → IsPrefix part v.seen
+    → count i part ≡ count i v.seen → ((j : ℕ) → j < segments v.plan → taken v view j ≡ memory v.plan part j)
     → k ≡ number v.plan v.seen i + 1 → IsBlock d 0 k value → length d ≡ size_at d 0 → IsPrefix d e
-    → AreBlocks e (length d) (segments v.plan) (taken v view)
-    → Follows v.plan v.seen (entry i e)
+    → AreBlocks e (length d) (segments v.plan) (taken v view) → Follows v.plan v.seen (entry i e)
 follows_of v i k view value d e part beginning whole each next own long pre blocks =
     let n : k ≡ number v.plan part i + 1 = omega arith in
     let r = record_of d e (segments v.plan) k value (taken v view) (memory v.plan part) own long pre

@@ -19,8 +19,7 @@ pub record Viewed (p : Plan) (h : List Entry) (j r : ℕ) : Type 0 where
   pub view : AreBlocks (record_words p h j r) (size_at (record_words p h j r) 0) (segments p)
       (memory p part)
 
-pub viewed : (p : Plan) (h : List Entry) (j r : ℕ) → IsLegal p h → 0 < r → r ≤ count j h
-    → Viewed p h j r
+pub viewed : (p : Plan) (h : List Entry) (j r : ℕ) → IsLegal p h → 0 < r → r ≤ count j h → Viewed p h j r
 viewed p h j zero legal pos le = absurd (omega arith)
 viewed p h j (suc r) legal pos le =
     let f = find j r h (omega arith) in
@@ -60,24 +59,21 @@ readable p h j (suc r) legal block_words start le =
 
 -- all records that a seat may pin
 pub all_readable : {n s block_words words : ℕ} {p : Plan} {h : List Entry} (ms : List ℕ)
-    → IsSized n s block_words words p → IsLegal p h
-    → ((j : ℕ) → j < segments p → get_or ms j 0 ≤ count j h) → (j : ℕ) → j < segments p
-    → Readable p h j (get_or ms j 0)
+    → IsSized n s block_words words p → IsLegal p h → ((j : ℕ) → j < segments p → get_or ms j 0 ≤ count j h) → (j : ℕ)
+    → j < segments p → Readable p h j (get_or ms j 0)
 all_readable {p = p} {h = h} ms sized legal old j lj =
     readable p h j (get_or ms j 0) legal sized.block_words_is (sized.starts j lj) (old j lj)
 
 -- the blocks of a pinned record's view are within its words
-pub view_whole : (a : Access) (j k : ℕ) → IsLegal (view_of a).plan (view_of a).seen
-    → 0 < get_or (view_of a).records j 0 → j < segments (view_of a).plan
-    → k < segments (view_of a).plan
+pub view_whole : (a : Access) (j k : ℕ) → IsLegal (view_of a).plan (view_of a).seen → 0 < get_or (view_of a).records j 0
+    → j < segments (view_of a).plan → k < segments (view_of a).plan
     → IsWhole (held (view_of a) j) (behind (held (view_of a) j) (size_at (held (view_of a) j) 0) k)
 view_whole a j k legal updated lj lk =
     ((viewed (view_of a).plan (view_of a).seen j (get_or (view_of a).records j 0) legal updated
     (a.seated.records_are j lj)).view.each k lk).whole
 
 -- a pinned record has few words
-held_small : (a : Access) (j : ℕ) → j < segments (view_of a).plan
-    → length (held (view_of a) j) ≤ 8704
+held_small : (a : Access) (j : ℕ) → j < segments (view_of a).plan → length (held (view_of a) j) ≤ 8704
 held_small a j lj = grind (arith, width_is)
 
 -- so the place after one of its blocks fits in a word
@@ -86,7 +82,6 @@ pub ends_small : (a : Access) (j at n : ℕ) (w : List ℕ) → j < segments (vi
 ends_small a j at n w lj same whole size = omega (arith, held_small a j lj, ap length same)
 
 -- a writer's seat has room for all buffers
-pub few_buffers : {n s block_words words : ℕ} {p : Plan} → IsSized n s block_words words p
-    → buffers p ≤ 34
+pub few_buffers : {n s block_words words : ℕ} {p : Plan} → IsSized n s block_words words p → buffers p ≤ 34
 few_buffers sized =
     omega (arith, sized.few, sized.few_scanners, sized.segments_are, sized.scanners_are)

@@ -37,10 +37,8 @@ module _ (A : Type 0) (n : ℕ) (number : Numbers) (entry : Entries A) (b e : �
 
   module _ (L : List ℕ) (latest : List A) (c : Collects A n number entry b e L latest) where
     -- looks stay valid when the history grows
-    pub Collects-same : (number2 : Numbers) (entry2 : Entries A)
-        → ((t i : ℕ) → t ≤ e → number2 t i ≡ number t i)
-        → ((t i : ℕ) → t ≤ e → entry2 t i ≡ entry t i)
-        → Collects A n number2 entry2 b e L latest
+    pub Collects-same : (number2 : Numbers) (entry2 : Entries A) → ((t i : ℕ) → t ≤ e → number2 t i ≡ number t i)
+        → ((t i : ℕ) → t ≤ e → entry2 t i ≡ entry t i) → Collects A n number2 entry2 b e L latest
     Collects-same number2 entry2 same kept = grind (arith, nat_tests)
 
     module _ (t j : ℕ) (end : e ≤ t) (turn : IsTurn n L j) where
@@ -112,8 +110,7 @@ module _ (A : Type 0) (n : ℕ) (number : Numbers) (entry : Entries A) (b e : �
 
       module _ (t j : ℕ) (end : e ≤ t) (turn : IsTurn n L j) (borrowed : IsBorrow n (L
           ++ number t j ∷ []) j) where
-        last_is : slice_index (L ++ number t j ∷ []) (length (L ++ number t j ∷ []) - 1)
-            ≡ number t j
+        last_is : slice_index (L ++ number t j ∷ []) (length (L ++ number t j ∷ []) - 1) ≡ number t j
         last_is = grind (arith, nat_tests, get_or_push, length_push)
 
         -- a segment that rose by two since the scan's first look has risen by two since the scan
@@ -122,8 +119,7 @@ module _ (A : Type 0) (n : ℕ) (number : Numbers) (entry : Entries A) (b e : �
         rose = grind (arith, pushed, last_is, borrowed.moved, first_low j turn.0, turn.1.1)
 
         -- so the moment of its view is within the scan
-        pub borrow_moment : (p : ℕ) → p ≤ t → number p j + 1 ≡ number t j
-            → (IsClean n (L ++ number t j ∷ []) → ⊥)
+        pub borrow_moment : (p : ℕ) → p ≤ t → number p j + 1 ≡ number t j → (IsClean n (L ++ number t j ∷ []) → ⊥)
             → IsMoment n number b t (L ++ number t j ∷ []) p
         borrow_moment p pl before not_clean =
             record {
@@ -136,9 +132,8 @@ module _ (A : Type 0) (n : ℕ) (number : Numbers) (entry : Entries A) (b e : �
             }
 
       -- two equal collects show the moment between them
-      pub clean_moment : IsKept A number entry → 0 < n → IsClean n L
-          → ((j : ℕ) → IsBorrow n L j → ⊥) → (p : ℕ) × IsMoment n number b e L p
-          × IsThen A n entry p latest
+      pub clean_moment : IsKept A number entry → 0 < n → IsClean n L → ((j : ℕ) → IsBorrow n L j → ⊥)
+          → (p : ℕ) × IsMoment n number b e L p × IsThen A n entry p latest
       clean_moment kept pos clean not_borrow =
           let d = clean.rounds.0 in
           let long : length L ≡ (d + 2) * n = clean.rounds.1 in
@@ -170,7 +165,6 @@ module _ (A : Type 0) (n : ℕ) (number : Numbers) (entry : Entries A) (b e : �
           )
 
 -- a moment of a scan stays one when the history grows
-pub IsMoment-same : (n : ℕ) (number number2 : Numbers) (b e : ℕ) (L : List ℕ) (p : ℕ)
-    → ((t i : ℕ) → t ≤ e → number2 t i ≡ number t i) → IsMoment n number b e L p
-    → IsMoment n number2 b e L p
+pub IsMoment-same : (n : ℕ) (number number2 : Numbers) (b e : ℕ) (L : List ℕ) (p : ℕ) → ((t i : ℕ) → t ≤ e
+    → number2 t i ≡ number t i) → IsMoment n number b e L p → IsMoment n number2 b e L p
 IsMoment-same n number number2 b e L p same is = grind (arith, nat_tests, is)

@@ -14,8 +14,7 @@ use Rattle.snap_scan.proofs.{Places.same_collect, Places.same_segment, Places.pu
 use Rattle.snap_scan.proofs.Verdict.{looks-lt}
 
 -- the number that the latest look found for the segment whose turn it is
-latest_is : (s : Machine) (L : List ℕ) (j m : ℕ) → StandsFor s L → s.next ≡ Look j
-    → length L ≡ (m + 1) * s.segments + j
+latest_is : (s : Machine) (L : List ℕ) (j m : ℕ) → StandsFor s L → s.next ≡ Look j → length L ≡ (m + 1) * s.segments + j
     → slice_index s.latest j ≡ slice_index L (m * s.segments + j)
 latest_is s L j m st e place =
     let q : IsLooking s L j = said s L (Look j) st e in
@@ -112,13 +111,11 @@ module _ (s : Machine) (L : List ℕ) (j k : ℕ) (st : StandsFor s L) (e : s.ne
         → slice_index (slice_set s.latest j k) i ≡ slice_index (L ++ k ∷ []) (q.m * s.segments + i)
     here_after i l = grind (arith, nat_tests, pushed, q, get_or-set_other, get_or-set_same)
 
-    undecided_after : ((c : ℕ) → (c + 2) * s.segments ≡ length L + 1
-        → Same s.segments (L ++ k ∷ []) c s.segments → ⊥)
+    undecided_after : ((c : ℕ) → (c + 2) * s.segments ≡ length L + 1 → Same s.segments (L ++ k ∷ []) c s.segments → ⊥)
         → IsUndecided s.segments (L ++ k ∷ []) (length (L ++ k ∷ []))
     undecided_after = undecided_push s.segments L q.m j k q.within q.place q.undecided small
 
-    changed_after : (f : Bool) → flag_after s j k ≡ f
-        → IsChanged f s.segments (L ++ k ∷ []) q.m (j + 1)
+    changed_after : (f : Bool) → flag_after s j k ≡ f → IsChanged f s.segments (L ++ k ∷ []) q.m (j + 1)
     changed_after false off =
         let is = flag_off s.changed (slice_index s.latest j) k off in
         same_push s.segments L q.m j k q.within q.place

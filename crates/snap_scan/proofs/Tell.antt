@@ -15,13 +15,11 @@ module _ (n : ℕ) (L : List ℕ) (m j k : ℕ) (within : j < n) (place : length
   rising_push rising fall p i hi lt =
       grind (arith, pushed, rising p i hi, same_segment n (p + 1) i m j hi within, fall p)
 
-  pub Same-old : (p t : ℕ) → t ≤ n → (p + 1) * n + t ≤ length L → Same n (L ++ k ∷ []) p t
-      → Same n L p t
+  pub Same-old : (p t : ℕ) → t ≤ n → (p + 1) * n + t ≤ length L → Same n (L ++ k ∷ []) p t → Same n L p t
   Same-old p t tn h same i l = grind (arith, pushed, same i l)
 
-  pub undecided_push : IsUndecided n L (length L) → ((j < length L) → k < slice_index L j + 2)
-      → ((c : ℕ) → (c + 2) * n ≡ length L + 1 → Same n (L ++ k ∷ []) c n → ⊥)
-      → IsUndecided n (L ++ k ∷ []) (length (L ++ k ∷ []))
+  pub undecided_push : IsUndecided n L (length L) → ((j < length L) → k < slice_index L j + 2) → ((c : ℕ)
+      → (c + 2) * n ≡ length L + 1 → Same n (L ++ k ∷ []) c n → ⊥) → IsUndecided n (L ++ k ∷ []) (length (L ++ k ∷ []))
   undecided_push u small fresh = grind (arith, low_push, length_push, Same-old)
 
   -- the earlier numbers still decide nothing
@@ -30,14 +28,12 @@ module _ (n : ℕ) (L : List ℕ) (m j k : ℕ) (within : j < n) (place : length
   undecided_before u b e = grind (arith, length_push, pushed, Same-old)
 
   -- equal so far, and equal with the new number
-  pub same_push : IsChanged false n L m j
-      → ((p : ℕ) → m ≡ p + 1 → slice_index L (p * n + j) ≡ k)
+  pub same_push : IsChanged false n L m j → ((p : ℕ) → m ≡ p + 1 → slice_index L (p * n + j) ≡ k)
       → IsChanged false n (L ++ k ∷ []) m (j + 1)
   same_push was same = grind (arith, pushed)
 
   -- different so far, or different with the new number
-  pub changed_push : IsChanged true n L m j
-      ⊎ ((p : ℕ) → m ≡ p + 1 → slice_index L (p * n + j) ≢ k)
+  pub changed_push : IsChanged true n L m j ⊎ ((p : ℕ) → m ≡ p + 1 → slice_index L (p * n + j) ≢ k)
       → IsChanged true n (L ++ k ∷ []) m (j + 1)
   changed_push why = λ p e same.
       let f : m * n ≡ (p + 1) * n = ap (λ x. x * n) e in

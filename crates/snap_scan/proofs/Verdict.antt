@@ -20,8 +20,7 @@ not_clean n L u clean = grind (arith, Same-from_clean)
 not_borrow : (n : ℕ) (L : List ℕ) (j : ℕ) → AllLow n L (length L) → IsBorrow n L j → ⊥
 not_borrow n L j low b = grind (arith, low b.last.0 j b.segment, b.last.1, b.moved)
 
-borrow_not_clean : (n : ℕ) (L : List ℕ) (j : ℕ) → 0 < n → IsBorrow n L j → IsFirst n L
-    → IsClean n L → ⊥
+borrow_not_clean : (n : ℕ) (L : List ℕ) (j : ℕ) → 0 < n → IsBorrow n L j → IsFirst n L → IsClean n L → ⊥
 borrow_not_clean n L j pos b before clean =
     let c = clean.rounds.0 in
     let m = b.last.0 in
@@ -63,14 +62,12 @@ total-rises n L (suc m) up u h =
     omega (arith, total-rises n L m up u (omega arith), ap (total n L) next)
 
 -- at most n collects differ from the one before
-collects-le : (n : ℕ) (L : List ℕ) (m : ℕ) → IsRising n L → IsUndecided n L (length L)
-    → m * n ≤ length L → m ≤ n + 1
+collects-le : (n : ℕ) (L : List ℕ) (m : ℕ) → IsRising n L → IsUndecided n L (length L) → m * n ≤ length L → m ≤ n + 1
 collects-le n L zero up u h = omega arith
 collects-le n L (suc m) up u h =
     omega (arith, total-rises n L m up u (omega arith), total-cap n L m u (omega arith))
 
-pub looks-lt : (s : Machine) (L : List ℕ) (j : ℕ) → IsLooking s L j
-    → length L < s.segments * (s.segments + 2)
+pub looks-lt : (s : Machine) (L : List ℕ) (j : ℕ) → IsLooking s L j → length L < s.segments * (s.segments + 2)
 looks-lt s L j k =
     let r = collects-le s.segments L k.m k.rising k.undecided (omega (arith, k.place)) in
     omega (arith, k.place, k.within, mul-le-mul_left s.segments r)
@@ -81,8 +78,7 @@ none_of : (n : ℕ) (L : List ℕ) → IsUndecided n L (length L) → IsDecided 
 none_of n L u (inl clean) = not_clean n L u clean
 none_of n L u (inr borrow) = not_borrow n L borrow.0 u.low borrow.1
 
-undecided_at : (n : ℕ) (L : List ℕ) (b k : ℕ) → IsUndecided n L b → k ≤ b → b ≤ length L
-    → IsDecided n (take k L) → ⊥
+undecided_at : (n : ℕ) (L : List ℕ) (b k : ℕ) → IsUndecided n L b → k ≤ b → b ≤ length L → IsDecided n (take k L) → ⊥
 undecided_at n L b k u kb bl =
     let len = length-take-le k L (omega arith) in
     none_of n (take k L) (record {
@@ -95,8 +91,7 @@ first_of n L first k l = undecided_at n L (length L - 1) k (first (length L - 1)
     (omega arith) (omega arith)
 
 -- the machine's next place, as a segment of its set
-pub at_look : (set j : ℕ) (v : Next) → next_at set v ≡ Look j
-    → (p : ℕ) × (v ≡ Look p) × (slice_index (named set) p ≡ j)
+pub at_look : (set j : ℕ) (v : Next) → next_at set v ≡ Look j → (p : ℕ) × (v ≡ Look p) × (slice_index (named set) p ≡ j)
 at_look set j (Look p) e = (p, refl, cc)
 at_look set j Clean e = cc
 at_look set j (Borrow p) e = cc

@@ -9,8 +9,7 @@ use Rattle.snap_register.proofs.access.Access.copy_block.Goals.{In-loop-q}
 
 -- the place of the block's next word
 lies : (c : In-loop-q)
-    → LiesAt (view_of c.loop-q.self) c.args.j (c.args.from + c.loop-q.q)
-    (c.place-source.result + c.loop-q.q)
+    → LiesAt (view_of c.loop-q.self) c.args.j (c.args.from + c.loop-q.q) (c.place-source.result + c.loop-q.q)
 lies c =
     let a = c.args.self.now.seat.me in
     let b = c.size_at-count.new.self.seat.me in

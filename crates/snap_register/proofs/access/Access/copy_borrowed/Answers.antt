@@ -8,8 +8,7 @@ use Rattle.snap_register.proofs.access.Access.copy_borrowed.Goals as goal
 use Rattle.snap_register.proofs.access.Access.copy_borrowed.Goals.{In-loop}
 
 -- the words read are those of the record that the seat pins
-words_are : (c : In-loop) → held (view_of c.loop.self) c.args.j
-    ≡ held (view_of c.args.self.now) c.args.j
+words_are : (c : In-loop) → held (view_of c.loop.self) c.args.j ≡ held (view_of c.args.self.now) c.args.j
 words_are c = held_drafted c.size_at-from.new.self.seat.me c.loop.self.seat.me c.args.j
     c.loop.invariant.copied.same.3
     ∙ ap (λ (m : Mine). held m.0 c.args.j) c.size_at-from.ensures.same.2

@@ -10,8 +10,7 @@ use Rattle.snap_register.proofs.{Blocks.block_stays, Later.publishes_count, Upda
 use Rattle.snap_register.proofs.access.Access.publish.Goals as goal
 use Rattle.snap_register.proofs.access.Access.publish.Goals.{After-copy_view}
 
-taken_pool : (v : SeatView) (p : Pool) (view : View)
-    → taken (record v { pool = p }) view ≡ taken v view
+taken_pool : (v : SeatView) (p : Pool) (view : View) → taken (record v { pool = p }) view ≡ taken v view
 taken_pool v p Collected = refl
 taken_pool v p (Borrowed j) = refl
 
@@ -20,13 +19,11 @@ abbrev WithPool : SeatView → Pool → SeatView
 WithPool v p = record v { pool = p }
 
 second_is : (c : After-copy_view)
-    → view_of c.draft_value-filled.new.self
-    ≡ WithPool (view_of c.args.self.now) (pool_of c.draft_value-filled.new.self)
+    → view_of c.draft_value-filled.new.self ≡ WithPool (view_of c.args.self.now) (pool_of c.draft_value-filled.new.self)
 second_is c = search rules
 
 third_is : (c : After-copy_view)
-    → view_of c.copy_view.new.self
-    ≡ WithPool (view_of c.args.self.now) (pool_of c.copy_view.new.self)
+    → view_of c.copy_view.new.self ≡ WithPool (view_of c.args.self.now) (pool_of c.copy_view.new.self)
 third_is c = search rules
 
 may_follow : (c : After-copy_view)

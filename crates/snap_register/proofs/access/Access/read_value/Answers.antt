@@ -7,8 +7,7 @@ use Rattle.snap_register.proofs.access.Access.read_value.Goals as goal
 use Rattle.snap_register.proofs.access.Access.read_value.Goals.{After-read-length}
 
 -- the place of the block
-lies : (c : After-read-length) → LiesAt (view_of c.read-length.new.self) c.args.j c.args.at
-    c.place-place.result
+lies : (c : After-read-length) → LiesAt (view_of c.read-length.new.self) c.args.j c.args.at c.place-place.result
 lies c = rw c.read-length.ensures.same.2 c.place-place.ensures.place
 
 -- the value is within the record

@@ -12,8 +12,7 @@ use native.Mathlib.Decide.{ℕ_discrete}
 use Rattle.snap_register.proofs.access.Access.view.Goals as goal
 use Rattle.snap_register.proofs.access.Access.view.Goals.{In-loop-k}
 
-words_are : (c : In-loop-k)
-    → held (view_of c.loop-k.self) c.args.j ≡ held (view_of c.args.self.now) c.args.j
+words_are : (c : In-loop-k) → held (view_of c.loop-k.self) c.args.j ≡ held (view_of c.args.self.now) c.args.j
 words_are c = search rules
 
 at_is : (c : In-loop-k) → c.loop-k.at

@@ -31,12 +31,10 @@ loop-start-preserved c =
     rw (map_next {B = ℕ × List ℕ} (λ x. (x.0, x.1.items)) k vs x e, items) more
 
 all_packed : (c : After-loop-start)
-    → Pairs (λ _. IsPacked) (map (λ x. (x.0, x.1.items)) c.args.values.now)
-    c.loop-start.openings.items
+    → Pairs (λ _. IsPacked) (map (λ x. (x.0, x.1.items)) c.args.values.now) c.loop-start.openings.items
 all_packed c = packed_all _ _ _ _ c.loop-start-test.false c.loop-start.invariant
 
-all_opened : (c : After-loop-start)
-    → length c.args.values.now ≡ length c.loop-start.openings.items
+all_opened : (c : After-loop-start) → length c.args.values.now ≡ length c.loop-start.openings.items
 all_opened c = packed_length _ _ _ (all_packed c)
 
 pub open-requires-clause-count : goal.open-requires-clause-count

@@ -8,9 +8,8 @@ use Rattle.snap_register.specs.{History.number, declared.plan.Pool.Pool, Steps.v
 use Rattle.snap_register.proofs.seats.WriteSeat.publish.Goals as goal
 
 -- the next number is valid
-next_small : (a : Access) (i k : ℕ) (x : Known) → known_of a ≡ x
-    → number_in x x.seen (own_of x) + 1 < 2 ^ 63 → (view_of a).low ≡ i
-    → k ≡ number (view_of a).plan (view_of a).seen i → k + 1 < 2 ^ 63
+next_small : (a : Access) (i k : ℕ) (x : Known) → known_of a ≡ x → number_in x x.seen (own_of x) + 1 < 2 ^ 63
+    → (view_of a).low ≡ i → k ≡ number (view_of a).plan (view_of a).seen i → k + 1 < 2 ^ 63
 next_small a i k x is small low own =
     let v : SeatView = view_of a in
     let next : number_in (known_of a) (known_of a).seen v.low + 1 < 2 ^ 63 =

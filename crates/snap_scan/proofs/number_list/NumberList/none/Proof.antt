@@ -34,8 +34,7 @@ made = vstruct vnil
 abbrev empty : NumberList
 empty = record { list = [] }
 
-meets : {M : Type 1} {𝓤 : Ura M} (𝓛 : Logic 𝓤)
-    → (at_mem : Memory → SProp 𝓤) (run : Routine → Fun 𝓤) (𝓣 : Tables 𝓤 𝓛.H)
+meets : {M : Type 1} {𝓤 : Ura M} (𝓛 : Logic 𝓤) → (at_mem : Memory → SProp 𝓤) (run : Routine → Fun 𝓤) (𝓣 : Tables 𝓤 𝓛.H)
     → Meets 𝓛 it.signature (WpFn 𝓤 𝓛.H 𝓣.C 𝓣.Λ code.function) (it.spec 𝓛 at_mem run)
 meets {𝓤 = 𝓤} 𝓛 at_mem run 𝓣 =
     walk_Meets 𝓛 it.ended tt tt (it.clauses 𝓛 at_mem run) (WpFn 𝓤 𝓛.H 𝓣.C 𝓣.Λ code.function)
