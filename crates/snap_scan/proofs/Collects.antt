@@ -111,7 +111,7 @@ module _ (A : Type 0) (n : ℕ) (number : Numbers) (entry : Entries A) (b e : �
       module _ (t j : ℕ) (end : e ≤ t) (turn : IsTurn n L j) (borrowed : IsBorrow n (L
           ++ number t j ∷ []) j) where
         last_is : slice_index (L ++ number t j ∷ []) (length (L ++ number t j ∷ []) - 1) ≡ number t j
-        last_is = grind (arith, nat_tests, get_or_push, length_push)
+        last_is = grind (arith, get_or_push, length_push)
 
         -- a segment that rose by two since the scan's first look has risen by two since the scan
         -- began
@@ -167,4 +167,4 @@ module _ (A : Type 0) (n : ℕ) (number : Numbers) (entry : Entries A) (b e : �
 -- a moment of a scan stays one when the history grows
 pub IsMoment-same : (n : ℕ) (number number2 : Numbers) (b e : ℕ) (L : List ℕ) (p : ℕ) → ((t i : ℕ) → t ≤ e
     → number2 t i ≡ number t i) → IsMoment n number b e L p → IsMoment n number2 b e L p
-IsMoment-same n number number2 b e L p same is = grind (arith, nat_tests, is)
+IsMoment-same n number number2 b e L p same is = grind arith

@@ -21,11 +21,11 @@ module _ (set k : ℕ) where
 
   pub without : (Names set k → ⊥) → named_below set (suc k) ≡ below
   unfolding named_below
-  without un = grind (arith, cond-false, bit_at, ne_eqb)
+  without un = grind (arith, cond-false, ne_eqb)
 
   pub more : (P : List ℕ → Type 0) → (Names set k → P (below ++ k ∷ [])) → ((Names set k → ⊥) → P below)
       → P (named_below set (suc k))
-  more P does un = grind (arith, bit_at, with, without)
+  more P does un = grind (arith, with, without)
 
 pub is_named : (set k p j : ℕ) → slice_get (named_below set k) p ≡ Some j → (j < k) × Names set j
 unfolding named_below
@@ -142,7 +142,7 @@ module _ (set : ℕ) where
 
   -- a set below 2 ^ n names no segment from n on
   named_low : (n j : ℕ) → set < 2 ^ n → Names set j → j < n
-  named_low n j l is = grind (arith, bit_at, bit_at_above)
+  named_low n j l is = grind (arith, bit_at_above)
 
   pub at_below : (n p j : ℕ) → set < 2 ^ n → IsAt set p j → j < n
   at_below n p j l at = named_low n j l (at_named p j at).1
@@ -162,7 +162,7 @@ module _ (set : ℕ) where
 
 -- a set among n segments, at most 16, fits in 16 bits
 below_most : (set n : ℕ) → n ≤ 16 → set < 2 ^ n → set < 2 ^ 16
-below_most set n few among = grind (arith, more, pow-le-pow_right, few)
+below_most set n few among = grind (arith, pow-le-pow_right)
 
 module _ (set n : ℕ) (few' : n ≤ 16) (among : set < 2 ^ n) where
   pub some_among : 0 < set → 0 < size set
