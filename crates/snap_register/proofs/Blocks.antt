@@ -62,7 +62,7 @@ block_same d w a b whole each fits =
 
 -- a block stays when words are appended
 pub block_stays : (d e : List ℕ) (a : ℕ) → IsPrefix d e → IsWhole d a → Copied e d a a
-block_stays d e a pre whole = grind (arith, whole, length-append, block_same, get_or_append_left)
+block_stays d e a pre whole = grind (arith, length-append, block_same, get_or_append_left)
 
 pub behind_stays : (d e : List ℕ) (a k : ℕ) → IsPrefix d e
     → ((i : ℕ) → i < k → IsWhole d (behind d a i)) → behind e a k ≡ behind d a k

@@ -105,7 +105,7 @@ module _ (p : Plan) (ready : IsReady p) where
       ∙ omega (arith, count_zeros, even_length piece no_start block p.start even)
 
   zero_at : (i : ℕ) → i < front → get_or (opening_words p) i 0 ≡ 0
-  zero_at i li = grind (arith, nat_tests, get_or_append_left, flat_map, count_zeros, get_or-replicate)
+  zero_at i li = grind (arith, nat_tests, get_or_append_left, count_zeros, get_or-replicate)
 
   zero_given : (i b : ℕ) → i < segments p → b < buffers p → get_or (opening_words p) (given p i b) 0 ≡ 0
   zero_given i b li lb =
