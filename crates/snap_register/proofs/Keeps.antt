@@ -334,7 +334,8 @@ module _ (S : Type 0) where
       let lefts = total_same (λ u. u.left) s.views id v w at refl in
       let word = get_or-set_other s.words at_b j y 0 (given_behind p j b j lj) in
       let own : Register p h ws vs j d x = grind (arith, nat_tests, get_or-set_other {A = ℕ}) in
-      let not_here : (i : ℕ) → 0 < get_or w.pins i 0 → i ≢ j = λ i some_pin e. omega (arith, gone, rw e at some_pin) in (
+      let not_here : (i : ℕ) → 0 < get_or w.pins i 0 → i ≢ j =
+      λ i some_pin e. omega (arith, gone, rw e at some_pin) in (
         w,
         pin_step k id w at refl j at_b y x (le_refl v.left)
             (λ a la ne. given_apart p a j b la lj lb ne) apart elsewhere own record {

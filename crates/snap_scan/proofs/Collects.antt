@@ -1,6 +1,6 @@
 -- What one look adds to a scan, and why a scan that ends shows one moment.
-use Rattle.std.proofs.Common.{◌≡◌, ℕ, ◌+◌, ◌-◌, ◌*◌, ◌<◌, ◌≤◌, inl, inr, List, [], ◌∷◌, ◌++◌, length, Some, slice_index, mul-le-mul_right}
-use Rattle.std.proofs.Common.{slice_set, ap, sym, ◌∙◌, arith}
+use Rattle.std.proofs.Common.{◌≡◌, ℕ, ◌+◌, ◌-◌, ◌*◌, ◌<◌, ◌≤◌, inl, inr, List, [], ◌∷◌, ◌++◌, length, Some, slice_index}
+use Rattle.std.proofs.Common.{mul-le-mul_right, slice_set, ap, sym, ◌∙◌, arith}
 use Rattle.std.proofs.lemmas.List.{length_push, get_or_push, get_or_append_left}
 use Rattle.std.specs.Prelude.{nat_lt, if◌then◌else◌}
 use Rattle.std.proofs.{lemmas.Bool.cases_lt}
@@ -78,7 +78,8 @@ module _ (A : Type 0) (n : ℕ) (number : Numbers) (entry : Entries A) (b e : �
         moment = moment2;
         after = λ s l. grind (arith, was, is, c.after s, cases_lt s (length L));
         until = λ s l. grind (arith, was, is, c.until s, cases_lt s (length L));
-        order = λ r s rs l. grind (arith, was, is, c.order r s rs, c.until r, cases_lt s (length L), cases_lt r (length L));
+        order = λ r s rs l.
+            grind (arith, was, is, c.order r s rs, c.until r, cases_lt s (length L), cases_lt r (length L));
         numbers = λ p i hi l. grind (
           arith,
           len,
@@ -91,8 +92,8 @@ module _ (A : Type 0) (n : ℕ) (number : Numbers) (entry : Entries A) (b e : �
           cases_lt (p * n + i) (length L),
         );
         entries = λ p i hi l late. elim (cases_lt (p * n + i) (length L)) [
-          | inl lt ↦ rw (was (p * n + i) lt) (get-set_other latest j i _ (apart n m p i j (omega (arith, place)) (omega (arith, len, place)))
-              ∙ c.entries p i hi lt (omega (arith, len)))
+          | inl lt ↦ rw (was (p * n + i) lt) (get-set_other latest j i _
+              (apart n m p i j (omega (arith, place)) (omega (arith, len, place))) ∙ c.entries p i hi lt (omega (arith, len)))
           | inr ge ↦ (
               let same : i ≡ j = same_segment n p i m j hi within (omega (arith, len, place)) in
               rw (is (p * n + i) ge, same) (get-set_same latest j _ (omega arith)))
