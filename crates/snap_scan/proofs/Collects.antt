@@ -93,7 +93,8 @@ module _ (A : Type 0) (n : ℕ) (number : Numbers) (entry : Entries A) (b e : �
         );
         entries = λ p i hi l late. elim (cases_lt (p * n + i) (length L)) [
           | inl lt ↦ rw (was (p * n + i) lt) (get-set_other latest j i _
-              (apart n m p i j (omega (arith, place)) (omega (arith, len, place))) ∙ c.entries p i hi lt (omega (arith, len)))
+              (apart n m p i j (omega (arith, place)) (omega (arith, len, place)))
+              ∙ c.entries p i hi lt (omega (arith, len)))
           | inr ge ↦ (
               let same : i ≡ j = same_segment n p i m j hi within (omega (arith, len, place)) in
               rw (is (p * n + i) ge, same) (get-set_same latest j _ (omega arith)))
