@@ -1,7 +1,7 @@
 //! Calls a server over TCP or a Unix socket.
 ghost use Rattle.snap_order.specs.Order.{IsCallable, IsDumpable};
 
-use crate::complaint::say;
+use crate::complaint::say_of;
 use crate::remedy::remedy_of;
 use crate::time_limit::{Course, TimeLimit};
 use crate::tries::{Patience, Tries};
@@ -86,8 +86,8 @@ fn say_why(rt: &HostRuntime, address: &str, patience: Patience, status: Status, 
     }
     if let Some(reason) = course.reason() {
         match remedy_of(address, &reason) {
-            Some(remedy) => say(rt, &format_args!("{address}: {reason}: {remedy}")),
-            None => say(rt, &format_args!("{address}: {reason}")),
+            Some(remedy) => say_of(rt, address, &format_args!("{reason}: {remedy}")),
+            None => say_of(rt, address, &reason),
         }
     }
     if course.is_over.load(Ordering::Relaxed) {
@@ -100,10 +100,8 @@ fn say_why(rt: &HostRuntime, address: &str, patience: Patience, status: Status, 
 /// Prints that there was no answer within the seconds of this option.
 fn say_late(rt: &HostRuntime, address: &str, seconds: Option<u32>, option: &str) {
     let seconds = seconds.unwrap_or(0);
-    say(
-        rt,
-        &format_args!("{address}: there was no answer within {seconds} s ({option})"),
-    );
+    let why = format_args!("there was no answer within {seconds} s ({option})");
+    say_of(rt, address, &why);
 }
 
 /// Whether to connect to the address: the system takes it, or may take it later and the call waits.
@@ -116,7 +114,7 @@ pub fn is_worth_a_try(rt: &HostRuntime, address: &str, is_waiting: bool) -> bool
     }
     match address.to_socket_addrs(rt) {
         Err(error) if !is_waiting || error.kind() == ErrorKind::InvalidInput => {
-            say(rt, &format_args!("{address}: {error}"));
+            say_of(rt, address, &error);
             false
         }
         _ => true,

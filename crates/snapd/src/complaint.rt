@@ -17,6 +17,11 @@ pub fn say<T: Display>(rt: &HostRuntime, text: &T) {
     let _ = complain(rt.alloc(), &mut rt.stderr(), text);
 }
 
+/// Prints this of the file, folder or address with this name.
+pub fn say_of<T: Display>(rt: &HostRuntime, name: &str, what: &T) {
+    say(rt, &format_args!("{name}: {what}"));
+}
+
 /// Prints why the command failed.
 pub fn fail<T: Display>(rt: &HostRuntime, why: &T) -> Status {
     say(rt, why);
@@ -26,6 +31,18 @@ pub fn fail<T: Display>(rt: &HostRuntime, why: &T) -> Status {
 /// Prints why the command is refused.
 pub fn refuse<T: Display>(rt: &HostRuntime, why: &T) -> Status {
     say(rt, why);
+    Status::Refused
+}
+
+/// Prints why the command failed at the file, folder or address with this name.
+pub fn fail_of<T: Display>(rt: &HostRuntime, name: &str, why: &T) -> Status {
+    say_of(rt, name, why);
+    Status::Failed
+}
+
+/// Prints why the command is refused for the file or folder with this name.
+pub fn refuse_of<T: Display>(rt: &HostRuntime, name: &str, why: &T) -> Status {
+    say_of(rt, name, why);
     Status::Refused
 }
 
@@ -41,7 +58,7 @@ pub fn fail_without(
     fault: &FileFault,
     command: Option<String>,
 ) -> Status {
-    say(rt, &format_args!("{path}: {fault}"));
+    say_of(rt, path, fault);
     if let FileFault::System(reason) = fault {
         if let Some(remedy) = remedy_of(rt, path, reason, command) {
             say(rt, &remedy);
@@ -56,8 +73,8 @@ pub fn fail_at_file(rt: &HostRuntime, file: &str, fault: &FileFault) -> Status {
     let status = fail_without(rt, file, fault, command.ok());
     if let FileFault::System(reason) = fault {
         if reason.kind() == ErrorKind::IsADirectory {
-            let line = format_args!("{file}: it is a folder: give it as --dir {file}");
-            say(rt, &line);
+            let why = format_args!("it is a folder: give it as --dir {file}");
+            say_of(rt, file, &why);
         }
     }
     status
@@ -65,10 +82,8 @@ pub fn fail_at_file(rt: &HostRuntime, file: &str, fault: &FileFault) -> Status {
 
 /// Prints that two paths of one command name one file.
 pub fn fail_twice(rt: &HostRuntime, first: &str, second: &str) -> Status {
-    fail(
-        rt,
-        &format_args!("{second}: it is the same file as {first}: each file is named once"),
-    )
+    let why = format_args!("it is the same file as {first}: each file is named once");
+    fail_of(rt, second, &why)
 }
 
 /// Prints why the files of a folder can't be used. If the reason is in the files themselves, the

@@ -8,6 +8,7 @@ use crate::store_times::{MeasureFault, STORED_LEN, STORES, measure};
 use snap_devices::FileFault;
 use snap_file_commands::{CommandFault, SegmentPlace};
 use snap_order::{DoctorOptions, Status};
+use std::fmt::Display;
 use std::io::{self, ErrorKind};
 
 /// Checks the folder's files and its file system, and prints a line for each. The status is
@@ -27,7 +28,7 @@ fn report(rt: &HostRuntime, order: &DoctorOptions<'_>, files: &[String]) -> io::
     let are_whole = report_files(rt, order.folder, files)?;
     let are_kept = report_file_system(rt, order.folder, files)?;
     let are_stored = !order.is_measured || report_stores(rt, order.folder)?;
-    Ok(are_whole && are_kept && are_stored)
+    Ok(are_whole & are_kept & are_stored)
 }
 
 /// Reports on each file, and whether they are all the segments of one server. It waits for the
@@ -88,10 +89,8 @@ fn report_file(
 
 /// Reports that another process has locked a file.
 fn report_use(rt: &HostRuntime, file: &str) -> io::Result<FileState> {
-    rt.print(&format_args!(
-        "{file}: a server or another command has it: ask it, as by snapd call ADDR status\n"
-    ))?;
-    Ok(FileState::InUse)
+    let why = "a server or another command has it: ask it, as by snapd call ADDR status";
+    tell(rt, file, &why, FileState::InUse)
 }
 
 /// Reports on a segment's file: its place and number, and whether a server started by this user
@@ -99,27 +98,35 @@ fn report_use(rt: &HostRuntime, file: &str) -> io::Result<FileState> {
 fn report_segment(rt: &HostRuntime, file: &str, found: SegmentContents) -> io::Result<FileState> {
     let SegmentPlace { index, count } = found.place;
     let Some(number) = found.number else {
-        rt.print(&format_args!(
-            "{file}: segment {index} of {count}, but its slots give no answer: see snapd check {file}, and bring a \
-                copy back, or save what a slot holds by snapd check {file} --slot S --value\n"
-        ))?;
-        return Ok(FileState::Ill);
+        let why = format_args!(
+            "segment {index} of {count}, but its slots give no answer: see snapd check {file}, and bring a copy back, \
+                or save what a slot holds by snapd check {file} --slot S --value"
+        );
+        return tell(rt, file, &why, FileState::Ill);
     };
-    rt.print(&format_args!("{file}: segment {index} of {count} number {number}\n"))?;
+    let line = format_args!("segment {index} of {count} number {number}");
+    let whole = tell(rt, file, &line, FileState::Whole(found.place))?;
     match try_as_server(rt, file) {
-        Ok(()) => Ok(FileState::Whole(found.place)),
+        Ok(()) => Ok(whole),
         Err(reason) => {
-            rt.print(&format_args!("{file}: you can't serve it: {reason}\n"))?;
+            let why = format_args!("you can't serve it: {reason}");
+            tell(rt, file, &why, ())?;
             report_remedy(rt, file, &reason)?;
             Ok(FileState::Ill)
         }
     }
 }
 
+/// Prints this of the file or folder with this name, and returns the verdict.
+fn tell<T: Display, V: Copy>(rt: &HostRuntime, name: &str, what: &T, verdict: V) -> io::Result<V> {
+    rt.println(&format_args!("{name}: {what}"))?;
+    Ok(verdict)
+}
+
 /// Prints the advice for this reason of the system, if there is any.
 fn report_remedy(rt: &HostRuntime, path: &str, reason: &io::Error) -> io::Result<()> {
     match remedy_of(rt, path, reason, None) {
-        Some(remedy) => rt.print(&format_args!("{remedy}\n")),
+        Some(remedy) => rt.println(&remedy),
         None => Ok(()),
     }
 }
@@ -135,10 +142,10 @@ fn report_order(
 {
     match order_of(rt.alloc(), folder, files, places) {
         Ok(_order) => {
-            rt.print(&format_args!(
-                "{folder}: no segment is missing: serve it with snapd serve ADDR --dir {folder}\n"
-            ))?;
-            Ok(true)
+            let line = format_args!(
+                "no segment is missing: serve it with snapd serve ADDR --dir {folder}"
+            );
+            tell(rt, folder, &line, true)
         }
         Err(trouble) => {
             report_trouble(rt, &trouble)?;
@@ -151,13 +158,13 @@ fn report_order(
 fn report_trouble(rt: &HostRuntime, trouble: &FolderReadFault<'_>) -> io::Result<()> {
     match trouble {
         FolderReadFault::Path { file, fault } => {
-            rt.print(&format_args!("{file}: {fault}\n"))?;
+            tell(rt, file, fault, ())?;
             match fault {
                 FileFault::System(reason) => report_remedy(rt, file, reason),
                 _ => Ok(()),
             }
         }
-        FolderReadFault::Refused(why) => rt.print(&format_args!("{why}\n")),
+        FolderReadFault::Refused(why) => rt.println(why),
         FolderReadFault::NoMemory => Err(io::Error::from(ErrorKind::OutOfMemory)),
     }
 }
@@ -180,22 +187,28 @@ fn report_file_system(rt: &HostRuntime, folder: &str, files: &[String]) -> io::R
             "whose locks keep nobody out: two servers could have one file, so serve from another",
         ),
         Err(reason) => {
-            rt.print(&format_args!(
-                "{folder}: its file system is {kind}, and {tried} can't be locked: {reason}\n"
-            ))?;
-            return Ok(false);
+            let why = format_args!(
+                "its file system is {kind}, and {tried} can't be locked: {reason}"
+            );
+            return tell(rt, folder, &why, false);
         }
     };
-    rt.print(&format_args!("{folder}: its file system is {kind}, {locks}\n"))?;
-    Ok(are_kept)
+    let line = format_args!("its file system is {kind}, {locks}");
+    tell(rt, folder, &line, are_kept)
 }
+
+/// What is said of stores that can't have waited for a disk.
+const NO_DISK: &str =
+    "no disk was waited for in that time: it is memory, or a disk that answers before it keeps, and a \
+    power cut may take what was acknowledged";
 
 /// Reports how long a store takes in the folder, and whether it can have waited for a disk.
 fn report_stores(rt: &HostRuntime, folder: &str) -> io::Result<bool> {
     let times = match measure(rt, rt.alloc(), folder) {
         Ok(times) => times,
         Err(fault) => {
-            rt.print(&format_args!("{folder}: nothing could be stored: {fault}\n"))?;
+            let why = format_args!("nothing could be stored: {fault}");
+            tell(rt, folder, &why, ())?;
             if let MeasureFault::System(reason) = &fault {
                 report_remedy(rt, folder, reason)?;
             }
@@ -204,14 +217,12 @@ fn report_stores(rt: &HostRuntime, folder: &str) -> io::Result<bool> {
     };
     let median = times.median.as_micros();
     let late = times.late.as_micros();
-    rt.print(&format_args!(
-        "{folder}: a store takes {median} us (p50), {late} us (p99): {STORES} stores of {STORED_LEN} bytes\n"
-    ))?;
+    let line = format_args!(
+        "a store takes {median} us (p50), {late} us (p99): {STORES} stores of {STORED_LEN} bytes"
+    );
+    tell(rt, folder, &line, ())?;
     if times.are_too_short() {
-        rt.print(&format_args!(
-            "{folder}: no disk was waited for in that time: it is memory, or a disk that answers before it keeps, and \
-                a power cut may take what was acknowledged\n"
-        ))?;
+        tell(rt, folder, &NO_DISK, ())?;
     }
     Ok(true)
 }

@@ -3,8 +3,8 @@ ghost use Rattle.std.specs.Prelude.{◌<◌, ◌≤◌, length};
 ghost use Rattle.snap_order.specs.{Limits.MAX_COUNT, Order.IsDumpable};
 
 use crate::call_command::fetch;
-use crate::complaint::{fail, fail_at, fail_in, or_stop, print_whole, stop_without_memory};
-use crate::files::{FirstFault, first_faults};
+use crate::complaint::{fail_at, fail_in, fail_of, or_stop, print_whole, stop_without_memory};
+use crate::files::{FirstFault, first_faults, open_telling};
 use crate::folder::{FolderReadFault, files_in_order, segment_files};
 use jiff::Timestamp;
 use snap_devices::{FileDisk, FileFault, Lock};
@@ -24,7 +24,7 @@ const ROOM: usize = 32;
 pub fn dump(rt: &HostRuntime, order: &DumpOptions<'_>) -> Result<Status, Status>
     requires { IsDumpable order.now }
 {
-    let now = Timestamp::now(rt).map_err(|error| fail(rt, &format_args!("the clock: {error}")))?;
+    let now = Timestamp::now(rt).map_err(|error| fail_of(rt, "the clock", &error))?;
     // In RFC 3339 format, in UTC and cut to seconds.
     let time = InlineText::<ROOM>::of(format_args!("{now:.0}"));
     let values = match order.holder {
@@ -42,7 +42,7 @@ fn print_dump(rt: &HostRuntime, time: &str, values: &[SegmentValue]) -> Result<(
     match read(rt.alloc(), text.as_slice()) {
         Ok(_) => print_whole(rt, text.as_slice()),
         Err(DumpFault::NoMemory) => Err(stop_without_memory(rt)),
-        Err(fault) => Err(fail(rt, &format_args!("the dump can't be read back: {fault}"))),
+        Err(fault) => Err(fail_of(rt, "the dump can't be read back", &fault)),
     }
 }
 
@@ -71,37 +71,40 @@ fn read_files(rt: &HostRuntime, alloc: Global, files: &[&str]) -> Result<Vec<Seg
     let mut values = Vec::new(alloc);
     for index in 0..count {
         let at = usize::from(index);
-        let (disk, value) = read_file(rt, alloc, files[at], index, count, &told[at])?;
-        if locked.push(disk).is_err() || values.push(value).is_err() {
+        let value = read_file(rt, files[at], index, count, &told[at], &mut locked)?;
+        if values.push(value).is_err() {
             return Err(stop_without_memory(rt));
         }
     }
     Ok(values)
 }
 
-/// The value of this file, and the file with its lock.
+/// The value of this file, which is put with its lock to those that are read.
 fn read_file<'f>(
     rt: &'f HostRuntime,
-    alloc: Global,
     file: &'f str,
     index: u8,
     count: u8,
     told: &'f FirstFault,
-) -> Result<(FileDisk<'f, HostRuntime>, SegmentValue), Status>
+    locked: &mut Vec<FileDisk<'f, HostRuntime>>,
+) -> Result<SegmentValue, Status>
     requires below { index < count }
     requires few { count ≤ MAX_COUNT }
 {
-    let disk = match FileDisk::open(rt, file, Lock::Shared) {
-        Ok(disk) => disk.telling(told.place()),
+    let disk = match open_telling(rt, file, Lock::Shared, told) {
+        Ok(disk) => disk,
         Err(fault) => return Err(fail_at_locked(rt, file, &fault)),
     };
     let len = disk.len();
-    match held_value(alloc, index, count, disk) {
-        (disk, Ok(value)) => Ok((disk, value)),
+    match held_value(rt.alloc(), index, count, disk) {
+        (disk, Ok(value)) => match locked.push(disk) {
+            Ok(()) => Ok(value),
+            Err(_) => Err(stop_without_memory(rt)),
+        },
         (_, Err(why)) => {
             let order = FileOrder::Get { file, index, count };
             let refused = CommandFault::Refused(why);
-            let ended = refused.report_of(alloc, &order, len, told, &mut rt.stderr());
+            let ended = refused.report_of(rt.alloc(), &order, len, told, &mut rt.stderr());
             Err(ended.status)
         }
     }
@@ -111,8 +114,8 @@ fn read_file<'f>(
 /// for a dump.
 fn fail_at_locked(rt: &HostRuntime, file: &str, fault: &FileFault) -> Status {
     if let FileFault::InUse(_) = fault {
-        let line = format_args!("{file}: {fault}: where that is a server, ask it: snapd dump ADDR");
-        return fail(rt, &line);
+        let line = format_args!("{fault}: where that is a server, ask it: snapd dump ADDR");
+        return fail_of(rt, file, &line);
     }
     fail_at(rt, file, fault)
 }

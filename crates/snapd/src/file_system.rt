@@ -82,6 +82,11 @@ fn opened(rt: &HostRuntime, path: &str) -> io::Result<File> {
     }
 }
 
+/// Whether both are of one file or folder.
+pub fn are_of_one(first: &Metadata, second: &Metadata) -> bool {
+    first.dev() == second.dev() && first.ino() == second.ino()
+}
+
 /// Locks the file or folder. Returns `false` if it is locked already.
 pub fn has_locked(file: &File) -> io::Result<bool> {
     match file.try_lock() {

@@ -99,6 +99,19 @@ fn open_file<'a>(
     Ok(disk.telling(told.place()))
 }
 
+/// Opens the file at this path as a device, with this lock. `told` gets the reason why a call on it
+/// fails.
+pub fn open_telling<'a>(
+    rt: &'a HostRuntime,
+    file: &'a str,
+    lock: Lock,
+    told: &'a FirstFault,
+) -> Result<FileDisk<'a, HostRuntime>, FileFault>
+    ensures { IfOk result IsUncalled }
+{
+    Ok(FileDisk::open(rt, file, lock)?.telling(told.place()))
+}
+
 /// Whether the order writes its file.
 pub fn writes(order: &FileOrder<'_>) -> bool {
     matches!(order, FileOrder::Format { .. } | FileOrder::Put { .. })

@@ -7,9 +7,9 @@ ghost use Rattle.snap_file_commands.specs.SegmentOrder.{IsFaultOf};
 ghost use Rattle.snap_order.specs.Limits.{MAX_COUNT};
 
 use crate::complaint::fail_at_folder;
-use crate::files::FirstFault;
+use crate::files::{FirstFault, open_telling};
 use crate::folder_refusal::{FileRefusal, FolderRefusal, Pair};
-use snap_devices::{FileDisk, FileFault, Lock, sync_folder_of};
+use snap_devices::{FileFault, Lock, sync_folder_of};
 use snap_disk::{Disk, Refusal};
 use snap_file_commands::{
     FolderFault, SegmentPlace, file_name, is_further, is_segment_name, order_files,
@@ -220,8 +220,8 @@ pub fn findings_of<'f>(
     file: &'f str,
 ) -> Result<Findings, FolderReadFault<'f>> {
     let told = FirstFault::new();
-    let mut disk = match FileDisk::open(rt, file, Lock::Shared) {
-        Ok(disk) => disk.telling(told.place()),
+    let mut disk = match open_telling(rt, file, Lock::Shared, &told) {
+        Ok(disk) => disk,
         Err(fault) => return Err(FolderReadFault::Path { file, fault }),
     };
     match check(&mut disk) {

@@ -1,6 +1,6 @@
 //! The HTTP listener of a server, and its thread.
 
-use crate::complaint::{fail, say, stop_without_memory};
+use crate::complaint::{fail_of, say, say_of, stop_without_memory};
 use crate::surroundings::{Process, Seen};
 use log::{info, warn};
 use mio::net::TcpListener;
@@ -35,12 +35,12 @@ pub fn open_http(rt: &HostRuntime, order: &ServeOptions<'_>) -> Result<Option<Ht
     match open_at(rt, address) {
         Ok(place) => Ok(Some(place)),
         Err(error) if error.kind() == ErrorKind::OutOfMemory => Err(stop_without_memory(rt)),
-        Err(error) => Err(fail(
-            rt,
-            &format_args!(
-                "{address}: can't listen there for HTTP: {error}: give an address of this machine whose port is free"
-            ),
-        )),
+        Err(error) => {
+            let why = format_args!(
+                "can't listen there for HTTP: {error}: give an address of this machine whose port is free"
+            );
+            Err(fail_of(rt, address, &why))
+        }
     }
 }
 
@@ -49,25 +49,19 @@ pub fn open_http(rt: &HostRuntime, order: &ServeOptions<'_>) -> Result<Option<Ht
 fn check_address(rt: &HostRuntime, order: &ServeOptions<'_>, address: &str) -> Result<(), Status> {
     if usize::from(order.scanners) >= MAX_SCANNERS {
         let most = MAX_SCANNERS - 1;
-        say(
-            rt,
-            &format_args!("--http takes a scanner of its own: give --scanners {most} or fewer"),
+        let line = format_args!(
+            "--http takes a scanner of its own: give --scanners {most} or fewer"
         );
+        say(rt, &line);
         return Err(Status::Misused);
     }
     if socket_path(address).is_some() {
-        let line = format_args!(
-            "{address}: HTTP is answered at HOST:PORT: give for example 127.0.0.1:7080"
-        );
-        return Err(fail(rt, &line));
+        let why = "HTTP is answered at HOST:PORT: give for example 127.0.0.1:7080";
+        return Err(fail_of(rt, address, &why));
     }
     if !address.ends_with(":0") && order.addresses.iter().any(|own| *own == address) {
-        say(
-            rt,
-            &format_args!(
-                "{address}: clients and HTTP can't have one address: give --http another port"
-            ),
-        );
+        let why = "clients and HTTP can't have one address: give --http another port";
+        say_of(rt, address, &why);
         return Err(Status::Misused);
     }
     Ok(())
@@ -109,9 +103,25 @@ impl<X: Wait + Clock> Observer for HttpView<'_, X> {
     /// Answers with this service until the server ends, and takes a sample of the metrics about once
     /// a second.
     fn look<Y: Wait + Clock, S: Service + Drop>(&self, rt: &Y, service: S) {
-        let Some(mut server) = self.place.server.lock(rt).take() else {
-            return;
-        };
+        let server = self.place.server.lock(rt).take();
+        if let Some(server) = server {
+            self.answer(rt, service, server);
+        }
+    }
+
+    fn stop(&self) {
+        self.place.stop.stop();
+    }
+}
+
+impl<X: Wait + Clock> HttpView<'_, X> {
+    /// Answers by this server until it ends.
+    fn answer<Y: Wait + Clock, S: Service + Drop>(
+        &self,
+        rt: &Y,
+        service: S,
+        mut server: HttpServer,
+    ) {
         let address = self.place.address;
         info!(self.log; target: "http", "browsers and monitors are answered at http://{address}/");
         let alloc = self.process.rt.alloc();
@@ -125,9 +135,5 @@ impl<X: Wait + Clock> Observer for HttpView<'_, X> {
         if let Err(error) = server.serve(rt, &mut board, &seen) {
             warn!(self.log; target: "http", "no browser and no monitor is answered any more: {error}");
         }
-    }
-
-    fn stop(&self) {
-        self.place.stop.stop();
     }
 }

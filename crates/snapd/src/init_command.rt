@@ -79,13 +79,7 @@ fn survey_of<'f>(
         if numbers.push(found.number).is_err() {
             return Err(FolderReadFault::NoMemory);
         }
-        if let Some(index) = found.index {
-            let at = usize::from(index);
-            // If two files are of one segment, the one with the segment's name counts.
-            if at < kept.len() && (found.is_named || kept[at].is_none()) {
-                kept[at] = Some(file);
-            }
-        }
+        keep(&mut kept, file, found);
     }
     let lacking = lacking_files(alloc, folder, count, &kept)?;
     Ok(Survey {
@@ -93,6 +87,17 @@ fn survey_of<'f>(
         lacking,
         numbers,
     })
+}
+
+/// Keeps the file for its segment. If two files are of one segment, the one with the segment's name
+/// counts.
+fn keep<'f>(kept: &mut [Option<&'f str>], file: &'f str, found: Looked) {
+    if let Some(index) = found.index {
+        let at = usize::from(index);
+        if at < kept.len() && (found.is_named || kept[at].is_none()) {
+            kept[at] = Some(file);
+        }
+    }
 }
 
 /// The paths of the files that are missing.

@@ -7,7 +7,7 @@ ghost use Rattle.snap_frame.specs.Limits.{IsNumber, IsShort};
 ghost use Rattle.snap_order.specs.{Limits.MAX_COUNT, Order.IsLoadable, Order.IsOneTo};
 ghost use Rattle.snap_file_commands.specs.Document.{AreServable, IsKeepable};
 
-use crate::complaint::{fail_at, or_stop, print_whole, refuse, stop_without_memory};
+use crate::complaint::{fail_at, or_stop, print_whole, refuse_of, stop_without_memory};
 use crate::files::{FirstFault, take_file};
 use crate::folder::segment_path;
 use crate::loading_folder::LoadingFolder;
@@ -30,10 +30,10 @@ pub fn load(rt: &HostRuntime, order: &LoadOptions<'_>) -> Result<Status, Status>
     let found = dump.values.len() as u8;
     let count = order.count.unwrap_or(found);
     if count < found {
-        let line = format_args!(
-            "{path}: it has {found} segments, and --count is {count}: give {found} or more"
+        let why = format_args!(
+            "it has {found} segments, and --count is {count}: give {found} or more"
         );
-        return Err(refuse(rt, &line));
+        return Err(refuse_of(rt, path, &why));
     }
     make_folder(rt, order.folder, count, &dump.values)?;
     Ok(Status::Done)
@@ -75,7 +75,7 @@ fn read_from<R: Read>(rt: &HostRuntime, name: &str, reader: &mut R) -> Result<Du
 fn refuse_dump(rt: &HostRuntime, name: &str, fault: DumpFault) -> Status {
     match fault {
         DumpFault::NoMemory => stop_without_memory(rt),
-        _ => refuse(rt, &format_args!("{name}: {fault}")),
+        _ => refuse_of(rt, name, &fault),
     }
 }
 

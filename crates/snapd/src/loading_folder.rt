@@ -1,7 +1,9 @@
 //! The folder in which `load` makes its files, before it is renamed.
 
-use crate::complaint::{fail, fail_at, fail_at_folder, or_stop, refuse, stop_without_memory};
-use crate::file_system::has_locked;
+use crate::complaint::{
+    fail_at, fail_at_folder, fail_of, or_stop, refuse, refuse_of, stop_without_memory,
+};
+use crate::file_system::{are_of_one, has_locked};
 use crate::folder::{index_of_name, make_folder};
 use snap_devices::{FileFault, sync_folder_of};
 use snap_file_commands::MAX_COUNT;
@@ -28,22 +30,14 @@ impl LoadingFolder {
     /// if it isn't empty, nothing is changed. If a file isn't one that a load makes, none is
     /// removed. Prints the reason if it fails.
     pub fn take(rt: &HostRuntime, wanted: &str) -> Result<LoadingFolder, Status> {
-        let place = Path::new(wanted);
-        let Some(name) = place.file_name() else {
-            let line = format_args!(
-                "{wanted}: it has no name of its own: give the path that the new folder is to have"
-            );
-            return Err(refuse(rt, &line));
-        };
-        // Without a `/` or a `/.` after its name.
-        let folder = or_stop(rt, place.with_file_name(rt.alloc(), name))?.into_string();
+        let folder = bare_path(rt, wanted)?;
         check_free(rt, folder.as_str())?;
         let path = or_stop(rt, format!(in rt.alloc(); "{folder}.loading"))?;
-        let lock = make_for(rt, folder.as_str(), path.as_str())?;
+        let _lock = make_for(rt, folder.as_str(), path.as_str())?;
         Ok(LoadingFolder {
             folder,
             path,
-            _lock: lock,
+            _lock,
         })
     }
 
@@ -56,16 +50,28 @@ impl LoadingFolder {
     pub fn put_in_place(&self, rt: &HostRuntime) -> Result<(), Status> {
         let (folder, path) = (self.folder.as_str(), self.path.as_str());
         fs::rename(rt, path, folder).map_err(|reason| {
-            let line = format_args!("{folder}: {reason}: all files are made, in {path}");
-            fail(rt, &line)
+            let why = format_args!("{reason}: all files are made, in {path}");
+            fail_of(rt, folder, &why)
         })?;
         sync_folder_of(rt, folder).map_err(|reason| {
-            let line = format_args!(
-                "{folder}: {reason}: it is there whole, but a power cut may take its name: look after its disk, and \
-                    load the dump elsewhere"
+            let why = format_args!(
+                "{reason}: it is there whole, but a power cut may take its name: look after its disk, and load the \
+                    dump elsewhere"
             );
-            fail(rt, &line)
+            fail_of(rt, folder, &why)
         })
+    }
+}
+
+/// The path without a `/` or a `/.` after its name. Prints a message if it has no name.
+fn bare_path(rt: &HostRuntime, wanted: &str) -> Result<String, Status> {
+    let place = Path::new(wanted);
+    match place.file_name() {
+        Some(name) => Ok(or_stop(rt, place.with_file_name(rt.alloc(), name))?.into_string()),
+        None => {
+            let why = "it has no name of its own: give the path that the new folder is to have";
+            Err(refuse_of(rt, wanted, &why))
+        }
     }
 }
 
@@ -92,21 +98,25 @@ fn prepare(rt: &HostRuntime, wanted: &str, path: &str, lock: &File) -> Result<()
 }
 
 /// Gives the new folder the owner, group and mode of the empty one that it replaces, before it has
-/// a file that others could read. Does nothing if that doesn't exist. Prints a message if they
-/// can't be given.
+/// a file that others could read. Does nothing if that doesn't exist.
 fn carry_over(rt: &HostRuntime, wanted: &str, loading: &File) -> Result<(), Status> {
-    let found = match fs::metadata(rt, wanted) {
-        Ok(found) => found,
-        Err(reason) if reason.kind() == ErrorKind::NotFound => return Ok(()),
-        Err(reason) => return Err(fail_at_folder(rt, wanted, reason)),
-    };
+    match if_there(fs::metadata(rt, wanted)) {
+        Ok(Some(found)) => give(rt, wanted, loading, &found),
+        Ok(None) => Ok(()),
+        Err(reason) => Err(fail_at_folder(rt, wanted, reason)),
+    }
+}
+
+/// Gives the new folder the owner, group and mode of the one that was found. Prints a message if
+/// they can't be given.
+fn give(rt: &HostRuntime, wanted: &str, loading: &File, found: &Metadata) -> Result<(), Status> {
     // The result is checked instead: a file system may lack owners or modes, and the system may
     // drop a bit.
     let _ = fchown(loading, Some(found.uid()), Some(found.gid()));
     let _ = loading.set_permissions(found.permissions());
     match loading.metadata() {
-        Ok(given) if is_like(&given, &found) => Ok(()),
-        Ok(_) => Err(refuse_to_give(rt, wanted, &found)),
+        Ok(given) if is_like(&given, found) => Ok(()),
+        Ok(_) => Err(refuse_to_give(rt, wanted, found)),
         Err(reason) => Err(fail_at_folder(rt, wanted, reason)),
     }
 }
@@ -119,11 +129,11 @@ fn is_like(given: &Metadata, found: &Metadata) -> bool {
 /// Prints which owner, group and mode can't be given.
 fn refuse_to_give(rt: &HostRuntime, folder: &str, found: &Metadata) -> Status {
     let (owner, group, mode) = (found.uid(), found.gid(), found.mode() & 0o7777);
-    let line = format_args!(
-        "{folder}: user {owner}, group {group} and mode {mode:04o} can't be given to the folder that takes its place: \
-            load as that user or as root, or give the path of a folder that isn't there yet"
+    let why = format_args!(
+        "user {owner}, group {group} and mode {mode:04o} can't be given to the folder that takes its place: load as \
+            that user or as root, or give the path of a folder that isn't there yet"
     );
-    refuse(rt, &line)
+    refuse_of(rt, folder, &why)
 }
 
 /// Checks that the folder is missing or empty. Prints a message if it isn't.
@@ -131,12 +141,10 @@ fn check_free(rt: &HostRuntime, folder: &str) -> Result<(), Status> {
     match fs::read_dir(rt, folder) {
         Ok(mut names) => match names.next() {
             None => Ok(()),
-            Some(_) => Err(refuse(
-                rt,
-                &format_args!(
-                    "{folder}: it is not empty: give the path of a folder that isn't there yet"
-                ),
-            )),
+            Some(_) => {
+                let why = "it is not empty: give the path of a folder that isn't there yet";
+                Err(refuse_of(rt, folder, &why))
+            }
         },
         Err(reason) if reason.kind() == ErrorKind::NotFound => Ok(()),
         Err(reason) => Err(fail_at_folder(rt, folder, reason)),
@@ -147,34 +155,39 @@ fn check_free(rt: &HostRuntime, folder: &str) -> Result<(), Status> {
 fn lock_folder(rt: &HostRuntime, path: &str) -> Result<File, Status> {
     match try_lock_folder(rt, path) {
         Ok(Some(lock)) => Ok(lock),
-        Ok(None) => Err(refuse(
-            rt,
-            &format_args!(
-                "{path}: another load is at work there: wait for it, or give another folder"
-            ),
-        )),
+        Ok(None) => {
+            let why = "another load is at work there: wait for it, or give another folder";
+            Err(refuse_of(rt, path, &why))
+        }
         Err(reason) => Err(fail_at(rt, path, &FileFault::System(reason))),
     }
 }
 
 /// Locks the folder at this path. `None` if another process has locked or renamed it.
 fn try_lock_folder(rt: &HostRuntime, path: &str) -> io::Result<Option<File>> {
-    let folder = match File::open(rt, path) {
-        Ok(folder) => folder,
-        Err(reason) if reason.kind() == ErrorKind::NotFound => return Ok(None),
-        Err(reason) => return Err(reason),
-    };
-    if !has_locked(&folder)? {
+    let Some(folder) = if_there(File::open(rt, path))? else {
         return Ok(None);
-    }
-    let opened = folder.metadata()?;
-    let named = match fs::metadata(rt, path) {
-        Ok(named) => named,
-        Err(reason) if reason.kind() == ErrorKind::NotFound => return Ok(None),
-        Err(reason) => return Err(reason),
     };
-    let is_same = opened.dev() == named.dev() && opened.ino() == named.ino();
-    Ok(is_same.then_some(folder))
+    let is_own = has_locked(&folder)? && is_named(rt, &folder, path)?;
+    Ok(is_own.then_some(folder))
+}
+
+/// What the system has at a path. `None` if nothing is there.
+fn if_there<T>(found: io::Result<T>) -> io::Result<Option<T>> {
+    match found {
+        Ok(found) => Ok(Some(found)),
+        Err(reason) if reason.kind() == ErrorKind::NotFound => Ok(None),
+        Err(reason) => Err(reason),
+    }
+}
+
+/// Whether this path is still that of the open folder.
+fn is_named(rt: &HostRuntime, folder: &File, path: &str) -> io::Result<bool> {
+    let opened = folder.metadata()?;
+    match if_there(fs::metadata(rt, path))? {
+        Some(named) => Ok(are_of_one(&opened, &named)),
+        None => Ok(false),
+    }
 }
 
 /// Removes the files of an interrupted load. If anything else is there, prints that and removes
@@ -210,10 +223,8 @@ fn own_name_of(
     match entry {
         Ok(entry) => own_name(rt, loading, entry.file_name()),
         Err(reason) if reason.kind() == ErrorKind::InvalidFilename => {
-            let line = format_args!(
-                "{loading}: it has a file whose name is no text: move it out of there"
-            );
-            Err(refuse(rt, &line))
+            let why = "it has a file whose name is no text: move it out of there";
+            Err(refuse_of(rt, loading, &why))
         }
         Err(reason) => Err(fail_at_folder(rt, loading, reason)),
     }

@@ -32,7 +32,7 @@ mod tries;
 mod watch_command;
 
 use call_command::call;
-use complaint::{fail_in, say, stop, stop_without_memory};
+use complaint::{fail_in, say, say_of, stop, stop_without_memory};
 use doctor_command::examine;
 use dump_command::dump;
 use files::{FirstFault, take_file, take_pair, too_short_files, writes};
@@ -58,16 +58,24 @@ use watch_command::watch;
 
 fn main(rt: HostRuntime) -> ExitCode {
     let status = match words_of(&rt) {
-        Ok(words) => match order(rt.alloc(), words.as_slice()) {
-            Ok(order) => match do_order(&rt, &rt, order) {
-                Ok(status) => status,
-                Err(status) => status,
-            },
-            Err(fault) => explain(&rt, &fault),
-        },
+        Ok(words) => obey(&rt, &rt, &words),
         Err(fault) => explain(&rt, &fault),
     };
     ExitCode::from(status.code())
+}
+
+/// Does what these arguments order. `threads` is the runtime again, as for [`do_order`].
+fn obey<X>(threads: &X, rt: &HostRuntime, words: &[String]) -> Status
+where
+    X: Threads + Wait + Clock + Net + Sync + Send + Copy,
+{
+    match order(rt.alloc(), words) {
+        Ok(order) => match do_order(threads, rt, order) {
+            Ok(status) => status,
+            Err(status) => status,
+        },
+        Err(fault) => explain(rt, &fault),
+    }
 }
 
 /// The program's arguments, of which the first is its name.
@@ -262,7 +270,7 @@ fn is_open<F: AsFd>(rt: &HostRuntime, name: &str, stream: &F) -> bool {
     match stream.as_fd().try_clone_to_owned() {
         Ok(_copy) => true,
         Err(reason) => {
-            say(rt, &format_args!("{name}: {reason}"));
+            say_of(rt, name, &reason);
             false
         }
     }
@@ -287,8 +295,7 @@ fn is_address(rt: &HostRuntime, address: &str) -> bool {
     match lack_of(address) {
         None => true,
         Some(lack) => {
-            let line = format_args!("{address}: {lack}");
-            say(rt, &line);
+            say_of(rt, address, &lack);
             false
         }
     }

@@ -5,7 +5,7 @@ ghost use Rattle.snap_devices.specs.FileDisk.{IsUncalled};
 ghost use Rattle.snap_order.specs.Order.{IsServable};
 
 use crate::complaint::{fail, fail_at_file, fail_twice, or_stop, say, stop_without_memory};
-use crate::files::{FirstFault, first_faults};
+use crate::files::{FirstFault, first_faults, open_telling};
 use crate::folder::files_in_order;
 use crate::http_view::{HttpPlace, HttpView, open_http};
 use crate::server_log::{ServerLog, Spaced};
@@ -33,12 +33,13 @@ fn take_files<'f>(
     files: &'f Vec<&str>,
     told: &'f Vec<FirstFault>,
 ) -> Result<Vec<FileDisk<'f, HostRuntime>>, Status>
+    requires { length told.now.items ≡ length files.now.items }
     ensures count { IfOk result (λ devices. length devices.items ≡ length files.now.items) }
     ensures uncalled { IfOk result (λ devices. All IsUncalled devices.items) }
 {
     let mut devices = or_stop(rt, Vec::with_capacity(rt.alloc(), files.len()))?;
     'files: for file in files {
-        match open_telling(rt, *file, told.get(devices.len())) {
+        match open_telling(rt, *file, Lock::Exclusive, &told[devices.len()]) {
             Ok(disk) => {
                 if devices.push(disk).is_err() {
                     return Err(stop_without_memory(rt));
@@ -55,21 +56,6 @@ fn take_files<'f>(
         }
     }
     Ok(devices)
-}
-
-/// Opens the file at this path as a device, which puts the reason of a failed call in `told`.
-fn open_telling<'f>(
-    rt: &'f HostRuntime,
-    file: &'f str,
-    told: Option<&'f FirstFault>,
-) -> Result<FileDisk<'f, HostRuntime>, FileFault>
-    ensures { IfOk result IsUncalled }
-{
-    let disk = FileDisk::open(rt, file, Lock::Exclusive)?;
-    match told {
-        Some(told) => Ok(disk.telling(told.place())),
-        None => Ok(disk),
-    }
 }
 
 /// The path of the opened file with which a further one is in use: both paths name one file.
@@ -266,16 +252,18 @@ fn most_clients(order: &ServeOptions<'_>) -> usize {
 /// Warns of addresses that accept connections from all networks.
 fn warn_of_everywhere<X: Wait + Clock>(log: &Lines<'_, X>, order: &ServeOptions<'_>) {
     'addresses: for address in &order.addresses {
-        if is_everywhere(*address) {
-            warn!(log; target: "accept",
-                "{address}: whoever reaches this machine may read and update each segment"
-            );
-        }
+        warn_of(log, "accept", *address, "read and update");
     }
     if let Some(address) = order.http {
-        if is_everywhere(address) {
-            warn!(log; target: "http", "{address}: whoever reaches this machine may read each segment");
-        }
+        warn_of(log, "http", address, "read");
+    }
+}
+
+/// Warns of what everybody may do to each segment, if the address accepts connections from all
+/// networks.
+fn warn_of<X: Wait + Clock>(log: &Lines<'_, X>, target: &str, address: &str, right: &str) {
+    if is_everywhere(address) {
+        warn!(log; target: target, "{address}: whoever reaches this machine may {right} each segment");
     }
 }
 

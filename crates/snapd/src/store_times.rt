@@ -1,6 +1,7 @@
 //! Measures how long a store takes in a folder.
 ghost use Rattle.snap_devices.specs.FileDisk.{IsUncalled};
 
+use crate::file_system::are_of_one;
 use crate::files::FirstFault;
 use snap_devices::{FileDisk, FileFault};
 use snap_disk::Disk;
@@ -11,7 +12,6 @@ use std::alloc::{AllocError, Global};
 use std::fmt::{self, Display, Formatter, Write};
 use std::fs::{self, File};
 use std::io::{self, ErrorKind};
-use std::os::unix::fs::MetadataExt;
 use std::path::Path;
 use std::time::{Duration, Instant};
 
@@ -142,8 +142,7 @@ fn remove_left(rt: &HostRuntime, path: &str) {
     }
     // If it still has this name, nobody else removes it while it is locked.
     if let (Ok(found), Ok(named)) = (left.metadata(), fs::metadata(rt, path)) {
-        let is_named = found.dev() == named.dev() && found.ino() == named.ino();
-        if is_named && found.len() == FILE_LEN {
+        if are_of_one(&found, &named) && found.len() == FILE_LEN {
             let _ = fs::remove_file(rt, path);
         }
     }

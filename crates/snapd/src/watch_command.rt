@@ -3,7 +3,7 @@ ghost use Rattle.std.specs.Prelude.{◌<◌, IfSome};
 ghost use Rattle.snap_order.specs.Order.{IsWatchable};
 
 use crate::call_command::{is_worth_a_try, link_within};
-use crate::complaint::{fail, or_stop, refuse, say, stop, stop_without_memory};
+use crate::complaint::{fail_of, or_stop, refuse, say_of, stop, stop_without_memory};
 use crate::time_limit::{Course, TimeLimit};
 use libc::net::{POLLERR, POLLHUP, poll};
 use libc::types::pollfd;
@@ -202,8 +202,7 @@ impl<'a> Screen<'a> {
             return self.draw(rt, None);
         }
         if was_lost {
-            let address = self.address;
-            say(rt, &format_args!("{address}: connected again"));
+            say_of(rt, self.address, &"connected again");
         }
         let text = or_stop(rt, changes(rt.alloc(), self.form, &self.shown, &rows))?;
         self.shown = rows;
@@ -236,8 +235,7 @@ impl<'a> Screen<'a> {
             return self.draw(rt, Some(loss));
         }
         if was_held {
-            let address = self.address;
-            say(rt, &format_args!("{address}: {loss}: trying again"));
+            say_of(rt, self.address, &format_args!("{loss}: trying again"));
         }
         Ok(())
     }
@@ -279,16 +277,14 @@ fn print(rt: &HostRuntime, text: &[u8]) -> Result<(), Status> {
 /// Prints why there was no first answer, with advice.
 fn fail_at_first(rt: &HostRuntime, address: &str, fault: ClientFault, is_late: bool) -> Status {
     if is_late {
-        return fail(
-            rt,
-            &format_args!("{address}: {LATE}: see what serves there"),
-        );
+        let why = format_args!("{LATE}: see what serves there");
+        return fail_of(rt, address, &why);
     }
     let remedy = match fault {
         ClientFault::BadReply => "check the address",
         _ => "start snapd serve there",
     };
-    fail(rt, &format_args!("{address}: {fault}: {remedy}"))
+    fail_of(rt, address, &format_args!("{fault}: {remedy}"))
 }
 
 /// The message about a lost server.
