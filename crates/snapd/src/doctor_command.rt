@@ -197,11 +197,6 @@ fn report_file_system(rt: &HostRuntime, folder: &str, files: &[String]) -> io::R
     tell(rt, folder, &line, are_kept)
 }
 
-/// What is said of stores that can't have waited for a disk.
-const NO_DISK: &str =
-    "no disk was waited for in that time: it is memory, or a disk that answers before it keeps, and a \
-    power cut may take what was acknowledged";
-
 /// Reports how long a store takes in the folder, and whether it can have waited for a disk.
 fn report_stores(rt: &HostRuntime, folder: &str) -> io::Result<bool> {
     let times = match measure(rt, rt.alloc(), folder) {
@@ -222,7 +217,10 @@ fn report_stores(rt: &HostRuntime, folder: &str) -> io::Result<bool> {
     );
     tell(rt, folder, &line, ())?;
     if times.are_too_short() {
-        tell(rt, folder, &NO_DISK, ())?;
+        let why =
+            "no disk was waited for in that time: it is memory, or a disk that answers before it keeps, and \
+            a power cut may take what was acknowledged";
+        tell(rt, folder, &why, ())?;
     }
     Ok(true)
 }

@@ -95,7 +95,7 @@ fn place_of(rt: &HostRuntime, listener: TcpListener) -> io::Result<HttpPlace> {
 #[derive(Drop)]
 pub struct HttpView<'a, X: Wait + Clock> {
     pub log: &'a Lines<'a, X>,
-    pub process: Process<'a>,
+    pub process: &'a Process<'a>,
     pub place: HttpPlace,
 }
 

@@ -34,8 +34,8 @@ pub fn init(rt: &HostRuntime, order: &InitOptions<'_>) -> Result<Status, Status>
         Ok(survey) => survey,
         Err(trouble) => return Err(fail_in(rt, &trouble)),
     };
-    if !order.is_missing_empty {
-        if let Some(at) = sign_of_loss(survey.lacking.len(), &survey.numbers) {
+    match sign_of_loss(survey.lacking.len(), &survey.numbers) {
+        Some(at) if !order.is_missing_empty => {
             let loss = Loss {
                 folder,
                 count: order.count,
@@ -43,10 +43,10 @@ pub fn init(rt: &HostRuntime, order: &InitOptions<'_>) -> Result<Status, Status>
                 sign: path_at(folder, &files, at),
                 number: survey.numbers[at],
             };
-            return Err(refuse(rt, &loss));
+            Err(refuse(rt, &loss))
         }
+        _ => found_all(rt, order, &survey.kept),
     }
-    found_all(rt, order, &survey.kept)
 }
 
 /// The state of a folder's files before any is made.
@@ -120,10 +120,7 @@ fn lacking_files(
 
 /// The file of this segment, if it has one.
 fn file_in<'f>(kept: &[Option<&'f str>], index: u8) -> Option<&'f str> {
-    match kept.get(usize::from(index)) {
-        Some(file) => *file,
-        None => None,
-    }
+    *kept.get(usize::from(index))?
 }
 
 /// The result of one file's check.
@@ -198,13 +195,10 @@ fn segment_in<'f>(
     match trouble {
         FolderReadFault::Refused(FolderRefusal::File(FileRefusal::Unformatted { .. })) => Ok(None),
         FolderReadFault::Path {
-            file,
-            fault: FileFault::InUse(id),
-        } => Err(FolderReadFault::Path {
-            file,
-            fault: FileFault::InUse(id),
-        }),
-        FolderReadFault::NoMemory => Err(FolderReadFault::NoMemory),
+            fault: FileFault::InUse(_),
+            ..
+        }
+        | FolderReadFault::NoMemory => Err(trouble),
         _ => Ok(named),
     }
 }

@@ -45,17 +45,27 @@ fn take_files<'f>(
                     return Err(stop_without_memory(rt));
                 }
             }
-            Err(fault) => {
-                let twin = twin_of(files, &devices, &fault);
-                drop(devices);
-                return Err(match twin {
-                    Some(first) => fail_twice(rt, first, *file),
-                    None => fail_at_file(rt, *file, &fault),
-                });
-            }
+            Err(fault) => return Err(fail_after(rt, files, devices, *file, &fault)),
         }
     }
     Ok(devices)
+}
+
+/// Prints why a file can't be opened after these devices of the first ones, which are closed before
+/// that.
+fn fail_after(
+    rt: &HostRuntime,
+    files: &[&str],
+    devices: Vec<FileDisk<'_, HostRuntime>>,
+    file: &str,
+    fault: &FileFault,
+) -> Status {
+    let twin = twin_of(files, &devices, fault);
+    drop(devices);
+    match twin {
+        Some(first) => fail_twice(rt, first, file),
+        None => fail_at_file(rt, file, fault),
+    }
 }
 
 /// The path of the opened file with which a further one is in use: both paths name one file.
@@ -162,7 +172,7 @@ where
         folder,
         files: &order.files,
     };
-    serve_logged(rt, order, devices, told, process, place)
+    serve_logged(rt, order, devices, told, &process, place)
 }
 
 /// These texts as strings.
@@ -180,7 +190,7 @@ fn serve_logged<'x, X>(
     order: &'x ServeOptions<'x>,
     devices: Vec<FileDisk<'_, HostRuntime>>,
     told: &Vec<FirstFault>,
-    process: Process<'x>,
+    process: &'x Process<'x>,
     place: Option<HttpPlace>,
 ) -> Result<Exit, ServerFault>
 where
@@ -188,8 +198,8 @@ where
     requires order { IsServable order.now }
     requires devices { length devices.items ≡ length order.now.files.items }
     requires uncalled { All IsUncalled devices.items }
-    requires workers { order.now.scanners ≤ process.metrics.now.workers }
-    requires segments { length devices.items ≤ process.metrics.now.segments }
+    requires workers { order.now.scanners ≤ process.now.metrics.now.workers }
+    requires segments { length devices.items ≤ process.now.metrics.now.segments }
 {
     let system = process.rt;
     let destination = Destination::of_standard_error(system, system.alloc());
@@ -204,8 +214,8 @@ where
             requires { IsSync X.row × IsServable order.now
                 × (length devices.items ≡ length order.now.files.items)
                 × All IsUncalled devices.items
-                × (order.now.scanners ≤ process.metrics.now.workers)
-                × (length devices.items ≤ process.metrics.now.segments) }
+                × (order.now.scanners ≤ process.now.metrics.now.workers)
+                × (length devices.items ≤ process.now.metrics.now.segments) }
         {
             let mut errors = system.stderr();
             let writing = move ||
@@ -276,7 +286,7 @@ fn host_logged<'x, X>(
     devices: Vec<FileDisk<'_, HostRuntime>>,
     told: &'x Vec<FirstFault>,
     log: &'x Lines<'x, X>,
-    process: Process<'x>,
+    process: &'x Process<'x>,
     place: Option<HttpPlace>,
 ) -> Result<Exit, ServerFault>
 where
@@ -284,8 +294,8 @@ where
     requires order { IsServable order.now }
     requires devices { length devices.items ≡ length order.now.files.items }
     requires uncalled { All IsUncalled devices.items }
-    requires workers { order.now.scanners ≤ process.metrics.now.workers }
-    requires segments { length devices.items ≤ process.metrics.now.segments }
+    requires workers { order.now.scanners ≤ process.now.metrics.now.workers }
+    requires segments { length devices.items ≤ process.now.metrics.now.segments }
 {
     let (system, metrics) = (process.rt, process.metrics);
     let Ok(devices) = time_all(system.alloc(), devices, *system, metrics) else {

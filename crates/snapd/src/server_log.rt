@@ -18,7 +18,7 @@ use std::sync::Wait;
 #[derive(Drop)]
 pub struct ServerLog<'a, X: Wait + Clock> {
     pub log: &'a Lines<'a, X>,
-    pub process: Process<'a>,
+    pub process: &'a Process<'a>,
     /// The reason why a call on each file first failed.
     pub told: &'a Vec<FirstFault>,
 }
@@ -88,7 +88,7 @@ impl<X: Wait + Clock> UpdateObserver for ServerLog<'_, X> {
 
 /// Shows the folder that a process serves, or the paths of its files in order.
 #[derive(Clone, Copy)]
-struct Files<'a>(Process<'a>);
+struct Files<'a>(&'a Process<'a>);
 
 impl Display for Files<'_> {
     fn fmt<W: fmt::Write>(&self, f: &mut fmt::Formatter<W>) -> fmt::Result {

@@ -119,7 +119,7 @@ pub fn limit_of(resource: i32) -> Option<u64> {
 #[derive_where(Clone, Copy)]
 #[derive(Drop)]
 pub struct Seen<'a, 'h, X: Wait + Clock> {
-    pub process: Process<'a>,
+    pub process: &'a Process<'a>,
     pub log: &'a Lines<'a, X>,
     pub history: &'h History,
 }
