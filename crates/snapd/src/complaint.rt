@@ -1,5 +1,6 @@
 //! Messages on standard error about files and folders that can't be used.
 ghost use Rattle.std.specs.Prelude.{◌≡◌, IfOk, Ok};
+ghost use Rattle.snap_order.specs.declared.status.Status.TheVariants as status;
 
 use crate::file_system::remedy_of;
 use crate::folder::FolderReadFault;
@@ -35,13 +36,17 @@ pub fn refuse<T: Display>(rt: &HostRuntime, why: &T) -> Status {
 }
 
 /// Prints why the command failed at the file, folder or address with this name.
-pub fn fail_of<T: Display>(rt: &HostRuntime, name: &str, why: &T) -> Status {
+pub fn fail_of<T: Display>(rt: &HostRuntime, name: &str, why: &T) -> Status
+    ensures { result ≡ status.Failed }
+{
     say_of(rt, name, why);
     Status::Failed
 }
 
 /// Prints why the command is refused for the file or folder with this name.
-pub fn refuse_of<T: Display>(rt: &HostRuntime, name: &str, why: &T) -> Status {
+pub fn refuse_of<T: Display>(rt: &HostRuntime, name: &str, why: &T) -> Status
+    ensures { result ≡ status.Refused }
+{
     say_of(rt, name, why);
     Status::Refused
 }

@@ -1,9 +1,11 @@
 //! The command `doctor`: reports on the files of a folder and on their file system.
-ghost use Rattle.std.specs.Prelude.{◌≡◌, length};
+ghost use Rattle.std.specs.Prelude.{◌≡◌, IfOk, length};
 
 use crate::complaint::{stop, stop_without_memory};
 use crate::file_system::{file_system_of, is_taken, keeps_locks, remedy_of, try_as_server};
-use crate::folder::{FolderReadFault, SegmentContents, contents_of, order_of, segment_files};
+use crate::folder::{
+    FolderReadFault, SegmentContents, contents_of, order_of, path_at, segment_files,
+};
 use crate::store_times::{MeasureFault, STORED_LEN, STORES, measure};
 use snap_devices::FileFault;
 use snap_file_commands::{CommandFault, SegmentPlace};
@@ -72,7 +74,7 @@ fn report_file(
     if !is_awaited && is_taken(rt, file) {
         return report_use(rt, file);
     }
-    match contents_of(rt, rt.alloc(), folder, file) {
+    match contents_of(rt, folder, file) {
         Ok(found) => report_segment(rt, file, found),
         Err(
             FolderReadFault::Path {
@@ -117,10 +119,12 @@ fn report_segment(rt: &HostRuntime, file: &str, found: SegmentContents) -> io::R
     }
 }
 
-/// Prints this of the file or folder with this name, and returns the verdict.
-fn tell<T: Display, V: Copy>(rt: &HostRuntime, name: &str, what: &T, verdict: V) -> io::Result<V> {
+/// Prints this of the file or folder with this name, and returns the value.
+fn tell<T: Display, V: Copy>(rt: &HostRuntime, name: &str, what: &T, value: V) -> io::Result<V>
+    ensures { IfOk result (λ it. it ≡ value) }
+{
     rt.println(&format_args!("{name}: {what}"))?;
-    Ok(verdict)
+    Ok(value)
 }
 
 /// Prints the advice for this reason of the system, if there is any.
@@ -176,10 +180,7 @@ fn report_file_system(rt: &HostRuntime, folder: &str, files: &[String]) -> io::R
         Some(kind) => kind,
         None => String::from_str(rt.alloc(), "unknown")?,
     };
-    let tried = match files.first() {
-        Some(file) => file.as_str(),
-        None => folder,
-    };
+    let tried = path_at(folder, files, 0);
     let (are_kept, locks) = match keeps_locks(rt, tried) {
         Ok(true) => (true, "and keeps locks"),
         Ok(false) => (
@@ -199,7 +200,7 @@ fn report_file_system(rt: &HostRuntime, folder: &str, files: &[String]) -> io::R
 
 /// Reports how long a store takes in the folder, and whether it can have waited for a disk.
 fn report_stores(rt: &HostRuntime, folder: &str) -> io::Result<bool> {
-    let times = match measure(rt, rt.alloc(), folder) {
+    let times = match measure(rt, folder) {
         Ok(times) => times,
         Err(fault) => {
             let why = format_args!("nothing could be stored: {fault}");
@@ -210,8 +211,7 @@ fn report_stores(rt: &HostRuntime, folder: &str) -> io::Result<bool> {
             return Ok(false);
         }
     };
-    let median = times.median.as_micros();
-    let late = times.late.as_micros();
+    let (median, late) = (times.median.as_micros(), times.late.as_micros());
     let line = format_args!(
         "a store takes {median} us (p50), {late} us (p99): {STORES} stores of {STORED_LEN} bytes"
     );

@@ -13,7 +13,6 @@ use snap_file_commands::dump::{DumpFault, document, read};
 use snap_file_commands::{CommandFault, held_value};
 use snap_frame::SegmentValue;
 use snap_order::{DumpOptions, DumpSource, FileOrder, Status};
-use std::alloc::Global;
 use std::fmt::InlineText;
 
 /// The size of the buffer for a time.
@@ -29,7 +28,7 @@ pub fn dump(rt: &HostRuntime, order: &DumpOptions<'_>) -> Result<Status, Status>
     let time = InlineText::<ROOM>::of(format_args!("{now:.0}"));
     let values = match order.holder {
         DumpSource::Server { address } => fetch(rt, address, order)?,
-        DumpSource::Folder { folder } => folder_values(rt, rt.alloc(), folder)?,
+        DumpSource::Folder { folder } => folder_values(rt, folder)?,
     };
     print_dump(rt, time.as_str(), &values)?;
     Ok(Status::Done)
@@ -48,27 +47,22 @@ fn print_dump(rt: &HostRuntime, time: &str, values: &[SegmentValue]) -> Result<(
 
 /// The values of a folder's files. All files stay locked until the last one is read, so the values
 /// are of one moment.
-fn folder_values(
-    rt: &HostRuntime,
-    alloc: Global,
-    folder: &str,
-) -> Result<Vec<SegmentValue>, Status> {
+fn folder_values(rt: &HostRuntime, folder: &str) -> Result<Vec<SegmentValue>, Status> {
     let files = segment_files(rt, folder)?;
-    match files_in_order(rt, alloc, folder, &files) {
-        Ok(files) => read_files(rt, alloc, &files),
+    match files_in_order(rt, folder, &files) {
+        Ok(files) => read_files(rt, &files),
         Err(FolderReadFault::Path { file, fault }) => Err(fail_at_locked(rt, file, &fault)),
         Err(trouble) => Err(fail_in(rt, &trouble)),
     }
 }
 
 /// The values of these files, in order of segment.
-fn read_files(rt: &HostRuntime, alloc: Global, files: &[&str]) -> Result<Vec<SegmentValue>, Status>
+fn read_files(rt: &HostRuntime, files: &[&str]) -> Result<Vec<SegmentValue>, Status>
     requires { length files.now ≤ MAX_COUNT }
 {
-    let told = or_stop(rt, first_faults(alloc, files.len()))?;
+    let told = or_stop(rt, first_faults(rt.alloc(), files.len()))?;
     let count = files.len() as u8;
-    let mut locked = Vec::new(alloc);
-    let mut values = Vec::new(alloc);
+    let (mut locked, mut values) = (Vec::new(rt.alloc()), Vec::new(rt.alloc()));
     for index in 0..count {
         let at = usize::from(index);
         let value = read_file(rt, files[at], index, count, &told[at], &mut locked)?;

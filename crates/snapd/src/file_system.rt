@@ -82,11 +82,6 @@ fn opened(rt: &HostRuntime, path: &str) -> io::Result<File> {
     }
 }
 
-/// Whether both are of one file or folder.
-pub fn are_of_one(first: &Metadata, second: &Metadata) -> bool {
-    first.dev() == second.dev() && first.ino() == second.ino()
-}
-
 /// Locks the file or folder. Returns `false` if it is locked already.
 pub fn has_locked(file: &File) -> io::Result<bool> {
     match file.try_lock() {
@@ -106,17 +101,17 @@ pub fn remedy_of(
     command: Option<String>,
 ) -> Option<String> {
     match reason.kind() {
-        ErrorKind::PermissionDenied => remedy_of_denial(rt, rt.alloc(), path),
+        ErrorKind::PermissionDenied => remedy_of_denial(rt, path),
         ErrorKind::ReadOnlyFilesystem => format!(in rt.alloc();
             "{path}: its file system is mounted read-only: mount it to be written, or give a path on another one"
         ).ok(),
-        ErrorKind::NotFound => remedy_of_want(rt, rt.alloc(), path, command),
+        ErrorKind::NotFound => remedy_of_want(rt, path, command),
         _ => None,
     }
 }
 
 /// The owner and mode of the path that this user may not use, with advice.
-fn remedy_of_denial(rt: &HostRuntime, alloc: Global, path: &str) -> Option<String> {
+fn remedy_of_denial(rt: &HostRuntime, path: &str) -> Option<String> {
     let (place, found) = nearest(rt, path)?;
     let (owner, mode, user) = (found.uid(), found.mode() & MODE, libc::geteuid());
     let remedy = if user == owner || user == 0 {
@@ -124,7 +119,7 @@ fn remedy_of_denial(rt: &HostRuntime, alloc: Global, path: &str) -> Option<Strin
     } else {
         "run it as its owner, or let this user in by chmod or chown"
     };
-    format!(in alloc;
+    format!(in rt.alloc();
         "{place}: user {owner} owns it, its mode is {mode:04o}, and you are user {user}: {remedy}"
     ).ok()
 }
@@ -152,23 +147,18 @@ fn folder_of(path: &str) -> Option<&str> {
 }
 
 /// The missing part of a path that doesn't exist, with advice.
-fn remedy_of_want(
-    rt: &HostRuntime,
-    alloc: Global,
-    path: &str,
-    command: Option<String>,
-) -> Option<String> {
+fn remedy_of_want(rt: &HostRuntime, path: &str, command: Option<String>) -> Option<String> {
     let folder = folder_of(path)?;
     if fs::symlink_metadata(rt, path).is_ok() {
-        return format!(in alloc;
+        return format!(in rt.alloc();
             "{path}: it is a link to what isn't there: make that, or give another path"
         ).ok();
     }
     if fs::metadata(rt, folder).is_err() {
-        return format!(in alloc;
+        return format!(in rt.alloc();
             "{folder}: there is no such folder: make it by mkdir -p, or give another path"
         ).ok();
     }
     let command = command?;
-    format!(in alloc; "{path}: it isn't there: make it by {command}").ok()
+    format!(in rt.alloc(); "{path}: it isn't there: make it by {command}").ok()
 }

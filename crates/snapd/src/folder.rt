@@ -52,14 +52,14 @@ pub fn make_folder(rt: &HostRuntime, folder: &str) -> io::Result<()> {
 /// The paths of the folder's files whose names end in `.seg`, in order of name. Names that aren't
 /// UTF-8 are skipped. Prints the reason if they can't be listed.
 pub fn segment_files(rt: &HostRuntime, folder: &str) -> Result<Vec<String>, Status> {
-    listed(rt, rt.alloc(), folder).map_err(|reason| fail_at_folder(rt, folder, reason))
+    listed(rt, folder).map_err(|reason| fail_at_folder(rt, folder, reason))
 }
 
 /// [`segment_files`] without the message.
-fn listed(rt: &HostRuntime, alloc: Global, folder: &str) -> io::Result<Vec<String>> {
-    let mut files = Vec::new(alloc);
+fn listed(rt: &HostRuntime, folder: &str) -> io::Result<Vec<String>> {
+    let mut files = Vec::new(rt.alloc());
     for entry in fs::read_dir(rt, folder)? {
-        if let Some(file) = segment_file(alloc, folder, entry)? {
+        if let Some(file) = segment_file(rt.alloc(), folder, entry)? {
             files.push(file)?;
         }
     }
@@ -134,21 +134,20 @@ pub fn check_names<'f>(
 /// The folder's files in order of segment, by their headers. Nothing is written.
 pub fn files_in_order<'f>(
     rt: &HostRuntime,
-    alloc: Global,
     folder: &'f str,
     files: &'f [String],
 ) -> Result<Vec<&'f str>, FolderReadFault<'f>>
     ensures some { IfOk result (λ paths. 0 < length paths.items) }
     ensures few { IfOk result (λ paths. length paths.items ≤ MAX_COUNT) }
 {
-    let mut places = Vec::with_capacity(alloc, files.len())?;
+    let mut places = Vec::with_capacity(rt.alloc(), files.len())?;
     for file in files {
-        let found = contents_of(rt, alloc, folder, file.as_str())?;
+        let found = contents_of(rt, folder, file.as_str())?;
         if places.push(found.place).is_err() {
             return Err(FolderReadFault::NoMemory);
         }
     }
-    order_of(alloc, folder, files, &places)
+    order_of(rt.alloc(), folder, files, &places)
 }
 
 /// The folder's files in order of segment, by these places from their headers.
@@ -196,11 +195,10 @@ pub struct SegmentContents {
 /// The contents of the file at this path. Others may read it at the same time.
 pub fn contents_of<'f>(
     rt: &HostRuntime,
-    alloc: Global,
     folder: &'f str,
     file: &'f str,
 ) -> Result<SegmentContents, FolderReadFault<'f>> {
-    let findings = findings_of(rt, alloc, folder, file)?;
+    let findings = findings_of(rt, folder, file)?;
     match findings.header {
         Header::Open { index, count } => Ok(SegmentContents {
             place: SegmentPlace { index, count },
@@ -215,7 +213,6 @@ pub fn contents_of<'f>(
 /// time.
 pub fn findings_of<'f>(
     rt: &HostRuntime,
-    alloc: Global,
     folder: &'f str,
     file: &'f str,
 ) -> Result<Findings, FolderReadFault<'f>> {
@@ -226,7 +223,7 @@ pub fn findings_of<'f>(
     };
     match check(&mut disk) {
         Ok(findings) => Ok(findings),
-        Err(Refusal::DeviceFailed) => Err(failure_of(alloc, file, &told)),
+        Err(Refusal::DeviceFailed) => Err(failure_of(rt.alloc(), file, &told)),
         Err(_) => Err(refused(no_segment(folder, file, disk.len()))),
     }
 }

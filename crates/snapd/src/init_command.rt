@@ -30,7 +30,7 @@ pub fn init(rt: &HostRuntime, order: &InitOptions<'_>) -> Result<Status, Status>
         return Err(fail_at_folder(rt, folder, reason));
     }
     let files = segment_files(rt, folder)?;
-    let survey = match survey_of(rt, rt.alloc(), folder, order.count, &files) {
+    let survey = match survey_of(rt, folder, order.count, &files) {
         Ok(survey) => survey,
         Err(trouble) => return Err(fail_in(rt, &trouble)),
     };
@@ -63,25 +63,24 @@ struct Survey<'f> {
 /// Checks all files of the folder.
 fn survey_of<'f>(
     rt: &HostRuntime,
-    alloc: Global,
     folder: &'f str,
     count: u8,
     files: &'f [String],
 ) -> Result<Survey<'f>, FolderReadFault<'f>>
     requires { count ≤ MAX_COUNT }
 {
-    check_names(alloc, folder, files, count)?;
-    let mut kept: Vec<Option<&'f str>> = vec![in alloc; None; usize::from(count)]?;
-    let mut numbers = Vec::with_capacity(alloc, files.len())?;
+    check_names(rt.alloc(), folder, files, count)?;
+    let mut kept: Vec<Option<&'f str>> = vec![in rt.alloc(); None; usize::from(count)]?;
+    let mut numbers = Vec::with_capacity(rt.alloc(), files.len())?;
     for file in files {
         let file = file.as_str();
-        let found = look_at(rt, alloc, folder, count, file)?;
+        let found = look_at(rt, folder, count, file)?;
         if numbers.push(found.number).is_err() {
             return Err(FolderReadFault::NoMemory);
         }
         keep(&mut kept, file, found);
     }
-    let lacking = lacking_files(alloc, folder, count, &kept)?;
+    let lacking = lacking_files(rt.alloc(), folder, count, &kept)?;
     Ok(Survey {
         kept,
         lacking,
@@ -137,7 +136,6 @@ struct Looked {
 /// Checks the file at this path.
 fn look_at<'f>(
     rt: &HostRuntime,
-    alloc: Global,
     folder: &'f str,
     count: u8,
     file: &'f str,
@@ -145,11 +143,11 @@ fn look_at<'f>(
     requires { count ≤ MAX_COUNT }
 {
     let name = Path::new(file).file_name().unwrap_or("");
-    let named = index_of_name(alloc, name, count)?;
-    let (index, number) = match findings_of(rt, alloc, folder, file) {
+    let named = index_of_name(rt.alloc(), name, count)?;
+    let (index, number) = match findings_of(rt, folder, file) {
         Ok(findings) => {
             let number = greatest_number(&findings);
-            let index = segment_by(alloc, count, file, named, findings.header, number)?;
+            let index = segment_by(rt.alloc(), count, file, named, findings.header, number)?;
             (index, number)
         }
         Err(trouble) => (segment_in(named, trouble)?, 0),

@@ -3,7 +3,7 @@
 use crate::complaint::{
     fail_at, fail_at_folder, fail_of, or_stop, refuse, refuse_of, stop_without_memory,
 };
-use crate::file_system::{are_of_one, has_locked};
+use crate::file_system::has_locked;
 use crate::folder::{index_of_name, make_folder};
 use snap_devices::{FileFault, sync_folder_of};
 use snap_file_commands::MAX_COUNT;
@@ -98,25 +98,21 @@ fn prepare(rt: &HostRuntime, wanted: &str, path: &str, lock: &File) -> Result<()
 }
 
 /// Gives the new folder the owner, group and mode of the empty one that it replaces, before it has
-/// a file that others could read. Does nothing if that doesn't exist.
+/// a file that others could read. Does nothing if that doesn't exist. Prints a message if they
+/// can't be given.
 fn carry_over(rt: &HostRuntime, wanted: &str, loading: &File) -> Result<(), Status> {
-    match if_there(fs::metadata(rt, wanted)) {
-        Ok(Some(found)) => give(rt, wanted, loading, &found),
-        Ok(None) => Ok(()),
-        Err(reason) => Err(fail_at_folder(rt, wanted, reason)),
-    }
-}
-
-/// Gives the new folder the owner, group and mode of the one that was found. Prints a message if
-/// they can't be given.
-fn give(rt: &HostRuntime, wanted: &str, loading: &File, found: &Metadata) -> Result<(), Status> {
+    let found = match fs::metadata(rt, wanted) {
+        Ok(found) => found,
+        Err(reason) if reason.kind() == ErrorKind::NotFound => return Ok(()),
+        Err(reason) => return Err(fail_at_folder(rt, wanted, reason)),
+    };
     // The result is checked instead: a file system may lack owners or modes, and the system may
     // drop a bit.
     let _ = fchown(loading, Some(found.uid()), Some(found.gid()));
     let _ = loading.set_permissions(found.permissions());
     match loading.metadata() {
-        Ok(given) if is_like(&given, found) => Ok(()),
-        Ok(_) => Err(refuse_to_give(rt, wanted, found)),
+        Ok(given) if is_like(&given, &found) => Ok(()),
+        Ok(_) => Err(refuse_to_give(rt, wanted, &found)),
         Err(reason) => Err(fail_at_folder(rt, wanted, reason)),
     }
 }
@@ -165,29 +161,22 @@ fn lock_folder(rt: &HostRuntime, path: &str) -> Result<File, Status> {
 
 /// Locks the folder at this path. `None` if another process has locked or renamed it.
 fn try_lock_folder(rt: &HostRuntime, path: &str) -> io::Result<Option<File>> {
-    let Some(folder) = if_there(File::open(rt, path))? else {
-        return Ok(None);
+    let folder = match File::open(rt, path) {
+        Ok(folder) => folder,
+        Err(reason) if reason.kind() == ErrorKind::NotFound => return Ok(None),
+        Err(reason) => return Err(reason),
     };
-    let is_own = has_locked(&folder)? && is_named(rt, &folder, path)?;
-    Ok(is_own.then_some(folder))
-}
-
-/// What the system has at a path. `None` if nothing is there.
-fn if_there<T>(found: io::Result<T>) -> io::Result<Option<T>> {
-    match found {
-        Ok(found) => Ok(Some(found)),
-        Err(reason) if reason.kind() == ErrorKind::NotFound => Ok(None),
-        Err(reason) => Err(reason),
+    if !has_locked(&folder)? {
+        return Ok(None);
     }
-}
-
-/// Whether this path is still that of the open folder.
-fn is_named(rt: &HostRuntime, folder: &File, path: &str) -> io::Result<bool> {
     let opened = folder.metadata()?;
-    match if_there(fs::metadata(rt, path))? {
-        Some(named) => Ok(are_of_one(&opened, &named)),
-        None => Ok(false),
-    }
+    let named = match fs::metadata(rt, path) {
+        Ok(named) => named,
+        Err(reason) if reason.kind() == ErrorKind::NotFound => return Ok(None),
+        Err(reason) => return Err(reason),
+    };
+    let is_same = opened.dev() == named.dev() && opened.ino() == named.ino();
+    Ok(is_same.then_some(folder))
 }
 
 /// Removes the files of an interrupted load. If anything else is there, prints that and removes

@@ -222,7 +222,7 @@ where
     requires { KeepsLimits serving }
 {
     let files = segment_files(rt, folder)?;
-    match files_in_order(rt, rt.alloc(), folder, &files) {
+    match files_in_order(rt, folder, &files) {
         Ok(files) => serve(threads, rt, &with_files(serving, files), Some(folder)),
         Err(trouble) => Err(fail_in(rt, &trouble)),
     }

@@ -45,27 +45,17 @@ fn take_files<'f>(
                     return Err(stop_without_memory(rt));
                 }
             }
-            Err(fault) => return Err(fail_after(rt, files, devices, *file, &fault)),
+            Err(fault) => {
+                let twin = twin_of(files, &devices, &fault);
+                drop(devices);
+                return Err(match twin {
+                    Some(first) => fail_twice(rt, first, *file),
+                    None => fail_at_file(rt, *file, &fault),
+                });
+            }
         }
     }
     Ok(devices)
-}
-
-/// Prints why a file can't be opened after these devices of the first ones, which are closed before
-/// that.
-fn fail_after(
-    rt: &HostRuntime,
-    files: &[&str],
-    devices: Vec<FileDisk<'_, HostRuntime>>,
-    file: &str,
-    fault: &FileFault,
-) -> Status {
-    let twin = twin_of(files, &devices, fault);
-    drop(devices);
-    match twin {
-        Some(first) => fail_twice(rt, first, file),
-        None => fail_at_file(rt, file, fault),
-    }
 }
 
 /// The path of the opened file with which a further one is in use: both paths name one file.
@@ -124,7 +114,7 @@ pub fn say_right_order(rt: &HostRuntime, serving: &ServeOptions<'_>) {
     let Ok(files) = texts_of(rt.alloc(), &serving.files) else {
         return;
     };
-    let Ok(names) = files_in_order(rt, rt.alloc(), "", &files) else {
+    let Ok(names) = files_in_order(rt, "", &files) else {
         return;
     };
     if names

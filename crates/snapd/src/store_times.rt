@@ -1,7 +1,6 @@
 //! Measures how long a store takes in a folder.
 ghost use Rattle.snap_devices.specs.FileDisk.{IsUncalled};
 
-use crate::file_system::are_of_one;
 use crate::files::FirstFault;
 use snap_devices::{FileDisk, FileFault};
 use snap_disk::Disk;
@@ -12,6 +11,7 @@ use std::alloc::{AllocError, Global};
 use std::fmt::{self, Display, Formatter, Write};
 use std::fs::{self, File};
 use std::io::{self, ErrorKind};
+use std::os::unix::fs::MetadataExt;
 use std::path::Path;
 use std::time::{Duration, Instant};
 
@@ -88,8 +88,8 @@ impl From<io::Error> for MeasureFault {
 /// Stores [`STORES`] values of [`STORED_LEN`] bytes in a temporary file in the folder, and returns
 /// the times. It removes the file however it ends. The file of a process that was killed is removed
 /// by a later measurement.
-pub fn measure(rt: &HostRuntime, alloc: Global, folder: &str) -> Result<StoreTimes, MeasureFault> {
-    let own = own_path(rt, alloc, folder)?;
+pub fn measure(rt: &HostRuntime, folder: &str) -> Result<StoreTimes, MeasureFault> {
+    let own = own_path(rt, folder)?;
     let path = own.as_str();
     let told = FirstFault::new();
     let disk = match FileDisk::create(rt, path) {
@@ -99,23 +99,23 @@ pub fn measure(rt: &HostRuntime, alloc: Global, folder: &str) -> Result<StoreTim
             return Err(MeasureFault::File(fault));
         }
     };
-    let (_locked, taken) = store_all(rt, alloc, disk);
+    let (_locked, taken) = store_all(rt, disk);
     // The lock is held until the name is removed, so that no other process takes the file for a
     // left one.
     fs::remove_file(rt, path)?;
     match taken {
-        Err(MeasureFault::Store(_)) => Err(MeasureFault::Store(reason_of(alloc, &told)?)),
+        Err(MeasureFault::Store(_)) => Err(MeasureFault::Store(reason_of(rt.alloc(), &told)?)),
         taken => taken,
     }
 }
 
 /// The path of a new and empty file in the folder that only this process uses.
-fn own_path(rt: &HostRuntime, alloc: Global, folder: &str) -> Result<String, MeasureFault> {
+fn own_path(rt: &HostRuntime, folder: &str) -> Result<String, MeasureFault> {
     for number in 0..NAMES {
-        let name = format!(in alloc; "doctor-{number}.tmp")?;
-        let path = Path::new(folder).join(alloc, name.as_str())?;
+        let name = format!(in rt.alloc(); "doctor-{number}.tmp")?;
+        let path = Path::new(folder).join(rt.alloc(), name.as_str())?;
         if make_own(rt, path.as_str())? {
-            return Ok(String::from_str(alloc, path.as_str())?);
+            return Ok(String::from_str(rt.alloc(), path.as_str())?);
         }
     }
     Err(MeasureFault::Crowded)
@@ -142,7 +142,8 @@ fn remove_left(rt: &HostRuntime, path: &str) {
     }
     // If it still has this name, nobody else removes it while it is locked.
     if let (Ok(found), Ok(named)) = (left.metadata(), fs::metadata(rt, path)) {
-        if are_of_one(&found, &named) && found.len() == FILE_LEN {
+        let is_named = found.dev() == named.dev() && found.ino() == named.ino();
+        if is_named && found.len() == FILE_LEN {
             let _ = fs::remove_file(rt, path);
         }
     }
@@ -152,41 +153,36 @@ fn remove_left(rt: &HostRuntime, path: &str) {
 /// times.
 fn store_all<'p>(
     rt: &'p HostRuntime,
-    alloc: Global,
     mut disk: FileDisk<'p, HostRuntime>,
 ) -> (FileDisk<'p, HostRuntime>, Result<StoreTimes, MeasureFault>)
     requires { IsUncalled disk }
 {
     if format(&mut disk, 0, 1).is_err() {
-        return (disk, Err(MeasureFault::Store(String::new(alloc))));
+        return (disk, Err(MeasureFault::Store(String::new(rt.alloc()))));
     }
-    match Segment::open(alloc, disk, 0, 1) {
+    match Segment::open(rt.alloc(), disk, 0, 1) {
         Ok(mut segment) => {
-            let taken = time_stores(rt, alloc, &mut segment);
+            let taken = time_stores(rt, &mut segment);
             (segment.into_device(), taken)
         }
-        Err((_, disk)) => (disk, Err(MeasureFault::Store(String::new(alloc)))),
+        Err((_, disk)) => (disk, Err(MeasureFault::Store(String::new(rt.alloc())))),
     }
 }
 
 /// Stores the values, and returns the median and the 99th percentile of the times.
 fn time_stores<D: Disk>(
     rt: &HostRuntime,
-    alloc: Global,
     segment: &mut Segment<D>,
 ) -> Result<StoreTimes, MeasureFault> {
-    let mut times = Vec::with_capacity(alloc, STORES)?;
+    let mut times = Vec::with_capacity(rt.alloc(), STORES)?;
     for _ in 0..STORES {
-        if times.push(time_store(rt, alloc, segment)?).is_err() {
+        if times.push(time_store(rt, segment)?).is_err() {
             return Err(MeasureFault::NoMemory);
         }
     }
     times.sort_unstable();
     match (times.get(STORES / 2), times.get(STORES * 99 / 100)) {
-        (Some(median), Some(late)) => Ok(StoreTimes {
-            median: *median,
-            late: *late,
-        }),
+        (Some(&median), Some(&late)) => Ok(StoreTimes { median, late }),
         _ => Err(MeasureFault::NoMemory),
     }
 }
@@ -194,12 +190,11 @@ fn time_stores<D: Disk>(
 /// The time of one store.
 fn time_store<D: Disk>(
     rt: &HostRuntime,
-    alloc: Global,
     segment: &mut Segment<D>,
 ) -> Result<Duration, MeasureFault> {
     let began = Instant::now(rt)?;
     if segment.store(&[b'v'; STORED_LEN]).is_err() {
-        return Err(MeasureFault::Store(String::new(alloc)));
+        return Err(MeasureFault::Store(String::new(rt.alloc())));
     }
     Ok(began.elapsed(rt)?)
 }
