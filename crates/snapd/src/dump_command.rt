@@ -85,16 +85,18 @@ fn read_file<'f>(
     requires below { index < count }
     requires few { count ≤ MAX_COUNT }
 {
-    let disk = match open_telling(rt, file, Lock::Shared, told) {
+    let disk = match open_telling(rt, file, Lock::Shared, Some(told)) {
         Ok(disk) => disk,
         Err(fault) => return Err(fail_at_locked(rt, file, &fault)),
     };
     let len = disk.len();
     match held_value(rt.alloc(), index, count, disk) {
-        (disk, Ok(value)) => match locked.push(disk) {
-            Ok(()) => Ok(value),
-            Err(_) => Err(stop_without_memory(rt)),
-        },
+        (disk, Ok(value)) => {
+            if locked.push(disk).is_err() {
+                return Err(stop_without_memory(rt));
+            }
+            Ok(value)
+        }
         (_, Err(why)) => {
             let order = FileOrder::Get { file, index, count };
             let refused = CommandFault::Refused(why);

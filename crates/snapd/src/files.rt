@@ -105,11 +105,15 @@ pub fn open_telling<'a>(
     rt: &'a HostRuntime,
     file: &'a str,
     lock: Lock,
-    told: &'a FirstFault,
+    told: Option<&'a FirstFault>,
 ) -> Result<FileDisk<'a, HostRuntime>, FileFault>
     ensures { IfOk result IsUncalled }
 {
-    Ok(FileDisk::open(rt, file, lock)?.telling(told.place()))
+    let disk = FileDisk::open(rt, file, lock)?;
+    match told {
+        Some(told) => Ok(disk.telling(told.place())),
+        None => Ok(disk),
+    }
 }
 
 /// Whether the order writes its file.

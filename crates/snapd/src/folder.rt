@@ -217,7 +217,7 @@ pub fn findings_of<'f>(
     file: &'f str,
 ) -> Result<Findings, FolderReadFault<'f>> {
     let told = FirstFault::new();
-    let mut disk = match open_telling(rt, file, Lock::Shared, &told) {
+    let mut disk = match open_telling(rt, file, Lock::Shared, Some(&told)) {
         Ok(disk) => disk,
         Err(fault) => return Err(FolderReadFault::Path { file, fault }),
     };

@@ -33,13 +33,12 @@ fn take_files<'f>(
     files: &'f Vec<&str>,
     told: &'f Vec<FirstFault>,
 ) -> Result<Vec<FileDisk<'f, HostRuntime>>, Status>
-    requires { length told.now.items ≡ length files.now.items }
     ensures count { IfOk result (λ devices. length devices.items ≡ length files.now.items) }
     ensures uncalled { IfOk result (λ devices. All IsUncalled devices.items) }
 {
     let mut devices = or_stop(rt, Vec::with_capacity(rt.alloc(), files.len()))?;
     'files: for file in files {
-        match open_telling(rt, *file, Lock::Exclusive, &told[devices.len()]) {
+        match open_telling(rt, *file, Lock::Exclusive, told.get(devices.len())) {
             Ok(disk) => {
                 if devices.push(disk).is_err() {
                     return Err(stop_without_memory(rt));
