@@ -221,13 +221,13 @@ def test_a_call_that_waits_tries_for_so_long(snapd, _):
     """However many tries that takes, and a second apart at most; more often near the end of its time."""
     for path in (None, snapd.file("at.sock")):
         with Counter(hangs_up, path) as peer:
-            ran, seconds = took(snapd, "call", peer.address, "scan", "--wait", 6)
+            ran, seconds = took(snapd, "call", peer.address, "scan", "--wait", 9)
             rests = peer.rests()
         lines = ran.failed_with(1).errors.splitlines()
         assert lines[0].startswith(f"snapd: {peer.address}: the connection ended before the reply: "), lines
-        assert lines[1:] == [f"snapd: {peer.address}: there was no answer within 6 s (--wait)"], lines
+        assert lines[1:] == [f"snapd: {peer.address}: there was no answer within 9 s (--wait)"], lines
         # More than `--tries` has at most.
-        assert 5.9 < seconds < 20 and 10 < len(rests) < 40, (seconds, rests)
+        assert 8.9 < seconds < 25 and 10 < len(rests) < 50, (seconds, rests)
         assert all(it >= low * 0.95 for it, low in zip(rests, (0.1, 0.2, 0.4, 0.8))), rests
         assert max(rests) < 1.5 and min(rests) < 0.09, rests
 

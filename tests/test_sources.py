@@ -11,6 +11,8 @@ sys.path.insert(0, str(TOP / "verification"))
 import kit  # noqa: E402
 
 IMPORT = re.compile(r"\bRattle\.(\w+)\.(specs|proofs)\.(?:declared\.|contracts\.)?([\w.]*\w)")
+# A list of imports, in which a name may stand behind its modules.
+LIST = re.compile(r"\bRattle\.([\w.]+)\.\{([^{}]*)\}")
 HANDED_ON = re.compile(r"^pub use Rattle\.[\w.]*?(?:\{([^{}]*)\}|(\w+)$)", re.M)
 
 
@@ -21,6 +23,11 @@ def modules(crate):
     texts = [it.read_text() for it in (crate / "specs").rglob("*.antt")]
     handed_on = {name for text in texts for it in HANDED_ON.findall(text) for name in re.findall(r"\w+", " ".join(it))}
     return {".".join(it.relative_to(crate).with_suffix("").parts) for it in files}, handed_on
+
+
+def written_out(text):
+    """A text with each name of a list of imports behind its whole path."""
+    return LIST.sub(lambda it: " ".join(f"Rattle.{it[1]}.{name.strip()}" for name in it[2].split(",")), text)
 
 
 def is_module(name, part, path):
@@ -35,6 +42,7 @@ def is_module(name, part, path):
 def test_each_import_names_a_module(snapd, random):
     files = [it for part in ("src", "specs", "proofs") for it in (TOP / "crates").glob(f"*/{part}/**/*.*t*")]
     assert len(files) > 1000
-    imports = ((it.relative_to(TOP), found) for it in files for found in set(IMPORT.findall(it.read_text())))
+    texts = ((it.relative_to(TOP), written_out(it.read_text())) for it in files)
+    imports = ((file, found) for file, text in texts for found in set(IMPORT.findall(text)))
     wrong = [f"{file}: Rattle.{'.'.join(found)}" for file, found in imports if not is_module(*found)]
     assert not wrong, wrong

@@ -114,7 +114,8 @@ def test_how_connections_are_let_go_is_noted(snapd, _):
     """Of those ends that no other test names: silence, a peer that left its update, a write that failed,
     and a server that stops."""
     disk = Disk(snapd)
-    with Server(snapd, *fresh(snapd, 1), env=disk.env, more=("--idle", 1, "--log", "debug")) as server:
+    # Its one worker doesn't store itself, so it sees the end of a connection whose update is under way.
+    with Server(snapd, *fresh(snapd, 1), scanners=1, env=disk.env, more=("--idle", 1, "--log", "debug")) as server:
         disk.says("S0 sync hold 0")
         with server.connect() as quiet, server.connect() as gone:
             wanted = {
