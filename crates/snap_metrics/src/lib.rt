@@ -1,9 +1,9 @@
-//! Metrics of a running server: each worker and each storer thread counts for itself, and any
-//! thread reads without a lock. Begin with [`Metrics`] (metrics.rt).
+//! Metrics of a running server: each worker counts for itself, each segment by who has its writer,
+//! and any thread reads without a lock. Begin with [`Metrics`] (metrics.rt).
 //!
-//! A worker writes its [`WorkerMetrics`], by the [`CountingService`] around its desk. A storer
-//! thread writes the [`SegmentMetrics`] of its segment, by the [`TimedDisk`] of the segment's file.
-//! Each number has one writer, so no thread waits for another. [`Metrics::read`] takes a
+//! A worker writes its [`WorkerMetrics`], by the [`CountingService`] around its desk. Who has a
+//! segment's writer writes its [`SegmentMetrics`], by the [`TimedDisk`] of the segment's file.
+//! Each number has one writer at a time, so no thread waits for another. [`Metrics::read`] takes a
 //! [`MetricsSnapshot`]: each number as it was at some moment of the call.
 #![tactic(auto)]
 

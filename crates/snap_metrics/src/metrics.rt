@@ -9,8 +9,8 @@ use std::alloc::{AllocError, Global};
 use std::marker::Model;
 use std::sync::atomic::{AtomicU64, Ordering};
 
-/// The metrics of a server. Each worker and each storer thread writes its own part, and any thread
-/// reads all of them at any time, without a lock.
+/// The metrics of a server. Each worker writes its own part, who has a segment's writer that of the
+/// segment, and any thread reads all of them at any time, without a lock.
 ///
 /// Models the number of workers and the number of segments.
 #[derive(Drop)]

@@ -39,8 +39,8 @@ fn is_repeat(told: Result<u64, Refusal>, before: u64, behind: u64) -> bool
 
 /// The metrics of one segment, with any number of lock-free readers.
 ///
-/// Only the segment's storer thread writes them: by the [`TimedDisk`](crate::TimedDisk) of its
-/// file, and by [`settle`](SegmentMetrics::settle).
+/// Only the thread that has the segment's writer writes them: by the
+/// [`TimedDisk`](crate::TimedDisk) of its file, and by [`settle`](SegmentMetrics::settle).
 #[derive(Drop)]
 pub struct SegmentMetrics {
     stores: Histogram,
