@@ -3,8 +3,7 @@ use std::sync::atomic::{AtomicU64, Ordering};
 
 /// A saturating 64-bit counter with one writer and any number of lock-free readers. It begins at 0.
 ///
-/// Only one thread may write it: of two concurrent writes one can be lost. No contract says which
-/// number it holds.
+/// Only one thread may write it: of two concurrent writes one can be lost. No contract says which number it holds.
 #[derive(Drop)]
 pub struct Counter {
     number: AtomicU64,
@@ -33,8 +32,7 @@ impl Counter {
         self.number.load(Ordering::SeqCst)
     }
 
-    /// Adds the growth of another number, from `before` to `now`. Writes nothing if it hasn't
-    /// grown.
+    /// Adds the growth of another number, from `before` to `now`. Writes nothing if it hasn't grown.
     pub(crate) fn follow(&self, before: u64, now: u64) {
         if now != before {
             self.add(now.saturating_sub(before));

@@ -1,9 +1,9 @@
 //! A service that counts its answers.
-ghost use Rattle.std.specs.Prelude.{◌≡◌, ◌-◌, [], ◌∷◌, ◌++◌, IfSome, IfNone};
+ghost use Rattle.std.specs.Prelude.{◌≡◌, ◌-◌, IfSome, IfNone};
 ghost use Rattle.snap_frame.specs.Messages.{IsAskable, IsInLimits};
 ghost use Rattle.snap_session.specs.Asked.{WasAsked};
+ghost use Rattle.snap_metrics.specs.Tallies.{nothing, counted};
 
-use crate::log::Log;
 use crate::looks::Looking;
 use crate::snapshot::RequestCounts;
 use crate::worker::WorkerMetrics;
@@ -12,93 +12,50 @@ use snap_frame::{Reply, Request};
 use snap_session::Service;
 use std::marker::Model;
 
-/// The answer to one request.
-#[derive(Debug, Drop)]
-pub struct CountedAnswer {
-    pub reply: Reply,
-    /// The number of looks at registers that the service took for it.
-    pub looks: u64,
-}
-
-/// A service that counts its answers and publishes the counts. Its replies are those of the inner
-/// service.
+/// A service that counts its answers and publishes the counts. Its replies are those of the inner service.
 ///
-/// Models the inner service and the list of all requests that it answered, in order, each with its
-/// reply and its looks. The counts are always those of that whole list: no request is missed or
-/// counted twice, and no number falls. A request that was handed over enters the list once it is
-/// answered.
+/// Models the inner service and the counts. Each request is counted once, as it is answered, with its reply and its
+/// looks; one that was handed over, as it is finished. No number falls.
 #[derive(Drop)]
 pub struct CountingService<'a, S: Drop> {
     service: S,
-    answered: Log<Request, CountedAnswer>,
     tally: RequestCounts,
     metrics: &'a WorkerMetrics,
 }
 
 impl<'a, S: Drop> Model for CountingService<'a, S> {
-    ghost use Rattle.std.specs.Prelude.{◌≡◌};
-    ghost use Rattle.snap_metrics.specs.Answered.{CountedState, tally_of};
+    ghost use Rattle.snap_metrics.specs.Answered.{CountedState};
 
     ghost Value = { CountedState S };
 
-    ghost view = { λ c. record { service = c.service; answered = c.answered.items } };
-
-    ghost invariant = { λ c. c.tally ≡ tally_of c.answered.items };
+    ghost view = { λ c. record { service = c.service; tally = c.tally } };
 }
 
 impl<'a, S: Drop> CountingService<'a, S> {
-    ghost use Rattle.snap_metrics.specs.Answered.{tally_of, IsTallyOf};
-
-    /// Wraps `service`, with no request answered yet. The counts are published in `metrics`, which
-    /// nothing else writes.
+    /// Wraps `service`, with no request answered yet. The counts are published in `metrics`, which nothing else writes.
     pub fn new(service: S, metrics: &'a WorkerMetrics) -> CountingService<'a, S>
-        ensures service { result.service ≡ service }
-        ensures answered { result.answered ≡ [] }
+        ensures { result ≡ record { service = service; tally = nothing } }
     {
         CountingService {
             service,
-            answered: Log::new(),
             tally: RequestCounts::new(),
             metrics,
         }
     }
-
-    /// The counts of all requests that the service answered.
-    #[tactic(auto, using(crate::proofs::TallyLaws::is_tally_of))]
-    pub fn tally(&self) -> RequestCounts
-        ensures one_by_one { result ≡ tally_of self.now.answered }
-        ensures together { IsTallyOf self.now.answered result }
-    {
-        self.tally
-    }
-
-    /// Returns the inner service, unchanged.
-    pub fn into_service(self) -> S
-        ensures { result ≡ self.entry.service }
-    {
-        self.service
-    }
 }
 
 impl<S: Service + Looking + Drop> CountingService<'_, S> {
-    /// Counts a request that the service answered. `looks_before` is the number of looks that were
-    /// left before it.
-    fn count(&mut self, request: &Request, reply: Reply, looks_before: u64) -> Reply
-        requires limits { IsInLimits reply }
-        ensures reply { result ≡ reply }
+    /// Counts a request that the service answered. `looks_before` is the number of looks that were left before it.
+    fn count(&mut self, request: &Request, reply: &Reply, looks_before: u64)
+        requires limits { IsInLimits reply.now }
         ensures service { self.new.service ≡ self.old.service }
-        ensures answered { self.new.answered ≡ self.old.answered
-            ++ (request.now, record { reply = reply; looks = looks_before - S.looks self.old.service }) ∷ [] }
+        ensures tally { self.new.tally ≡ counted self.old.tally request.now reply.now
+            (looks_before - S.looks self.old.service) }
     {
-        let answer = CountedAnswer {
-            reply,
-            looks: looks_before.saturating_sub(self.service.looks_left()),
-        };
+        let looks = looks_before.saturating_sub(self.service.looks_left());
         let before = self.tally;
-        self.tally.count(request, &answer.reply, answer.looks);
-        self.answered = self.answered.and(request, &answer);
+        self.tally.count(request, reply, looks);
         self.metrics.follow(&before, &self.tally);
-        answer.reply
     }
 }
 
@@ -131,7 +88,8 @@ impl<S: Service + Looking + Drop> Service for CountingService<'_, S> {
     {
         let looks = self.service.looks_left();
         let reply = self.service.answer(request, key)?;
-        Some(self.count(request, reply, looks))
+        self.count(request, &reply, looks);
+        Some(reply)
     }
 
     fn finish(&mut self, request: &Request, outcome: S::Outcome) -> Reply
@@ -143,7 +101,8 @@ impl<S: Service + Looking + Drop> Service for CountingService<'_, S> {
     {
         let looks = self.service.looks_left();
         let reply = self.service.finish(request, outcome);
-        self.count(request, reply, looks)
+        self.count(request, &reply, looks);
+        reply
     }
 
     fn let_wait(&self, may_wait: bool) {

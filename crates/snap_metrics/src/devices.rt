@@ -7,8 +7,7 @@ use snap_disk::Disk;
 use std::alloc::{AllocError, Global};
 use std::rt::Clock;
 
-/// Wraps each device, in order of segment, so that the times of its stores are counted in its
-/// segment's metrics.
+/// Wraps each device, in order of segment, so that the times of its stores are counted in its segment's metrics.
 pub fn time_all<'f, D: Disk + Drop, R: Clock + Copy>(
     alloc: Global,
     devices: Vec<D>,

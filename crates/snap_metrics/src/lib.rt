@@ -13,7 +13,6 @@ mod devices;
 mod frame_len;
 mod histogram;
 mod list;
-mod log;
 mod looks;
 mod metrics;
 mod request_counts;
@@ -25,7 +24,7 @@ mod timed_disk;
 mod worker;
 
 pub use counter::Counter;
-pub use counting_service::{CountedAnswer, CountingService};
+pub use counting_service::CountingService;
 pub use devices::time_all;
 pub use frame_len::{reply_frame_len, request_frame_len};
 pub use histogram::{Histogram, nanoseconds_of, place_of};

@@ -82,8 +82,7 @@ impl Metrics {
         self.ended.fetch_add(1, Ordering::SeqCst);
     }
 
-    /// Reads all metrics, each number as it was at some moment of this call. Neither the reader nor
-    /// a writer waits.
+    /// Reads all metrics, each number as it was at some moment of this call. Neither the reader nor a writer waits.
     pub fn read(&self, alloc: Global) -> Result<MetricsSnapshot, AllocError>
         ensures segments { IfOk result (λ r. length r.segments.items ≡ self.now.segments) }
         ensures connections { IfOk result IsWithinAccepted }

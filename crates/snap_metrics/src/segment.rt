@@ -86,9 +86,8 @@ impl SegmentMetrics {
         self.first_waits.observe(took(from, until));
     }
 
-    /// Counts a store: when it began, when its first sync ended, and when it ended, also as the
-    /// time since the beginning of 1970. A time of less than a millisecond since 1970 counts as
-    /// none.
+    /// Counts a store: when it began, when its first sync ended, and when it ended, also as the time since the
+    /// beginning of 1970. A time of less than a millisecond since 1970 counts as none.
     pub(crate) fn store(
         &self,
         began: Option<Instant>,

@@ -1,7 +1,6 @@
 //! Snapshots: metrics that were read, as plain numbers.
 
-/// The number of a histogram's bounds. The first is [`FIRST_BOUND`], and each further one is twice
-/// the one before.
+/// The number of a histogram's bounds. The first is [`FIRST_BOUND`], and each further one is twice the one before.
 pub const BOUNDS: usize = 21;
 
 /// The first bound, in microseconds.
@@ -20,8 +19,7 @@ pub struct HistogramSnapshot {
     pub total: u64,
 }
 
-/// Counts of the requests that one worker, or all workers together, answered. Each number stops at
-/// 2^64 - 1.
+/// Counts of the requests that one worker, or all workers together, answered. Each number stops at 2^64 - 1.
 #[derive(Clone, Copy, Debug, PartialEq, Eq)]
 pub struct RequestCounts {
     /// Updates that were answered, with a number or with a refusal.
@@ -57,8 +55,7 @@ pub struct SegmentSnapshot {
     pub second_waits: HistogramSnapshot,
     /// Updates that were acknowledged without a store, since the segment had the value already.
     pub repeats: u64,
-    /// The time of the last store, in milliseconds since 1970; `None` if there was none since the
-    /// start.
+    /// The time of the last store, in milliseconds since 1970; `None` if there was none since the start.
     pub updated: Option<u64>,
 }
 

@@ -44,9 +44,8 @@ impl Stage {
         }
     }
 
-    /// The stage after a sync that succeeded and began at `from`: a store's first sync makes its
-    /// value durable, and its second one ends the store. Counts their times, and at the end sets
-    /// the time of the last update.
+    /// The stage after a sync that succeeded and began at `from`: a store's first sync makes its value durable, and its
+    /// second one ends the store. Counts their times, and at the end sets the time of the last update.
     pub(crate) fn after_sync<R: Clock>(
         self,
         clock: &R,

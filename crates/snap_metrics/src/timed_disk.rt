@@ -9,12 +9,11 @@ use std::rt::Clock;
 
 /// A device that times its stores, and otherwise behaves as the inner device.
 ///
-/// A store writes and syncs twice. It begins with its first write and ends when its second sync
-/// succeeds: then it is counted with its times, and the time of the segment's last update is set.
-/// Its first wait is the first sync; its second wait is the write of one byte after it and the
-/// second sync. If a call fails the store is over and isn't counted, and the next write begins a
-/// new one. Reads aren't counted. The clock is read four times per store; a span isn't counted if
-/// its begin or its end couldn't be read.
+/// A store writes and syncs twice. It begins with its first write and ends when its second sync succeeds: then it is
+/// counted with its times, and the time of the segment's last update is set. Its first wait is the first sync; its
+/// second wait is the write of one byte after it and the second sync. If a call fails the store is over and isn't
+/// counted, and the next write begins a new one. Reads aren't counted. The clock is read four times per store; a span
+/// isn't counted if its begin or its end couldn't be read.
 #[derive(Drop)]
 pub struct TimedDisk<'a, D: Disk + Drop, R: Clock + Copy> {
     disk: D,

@@ -41,8 +41,7 @@ impl WorkerMetrics {
         }
     }
 
-    /// Publishes the counts `now`; `before` are those that were published last. Writes only the
-    /// numbers that differ.
+    /// Publishes the counts `now`; `before` are those that were published last. Writes only the numbers that differ.
     pub fn follow(&self, before: &RequestCounts, now: &RequestCounts) {
         self.updates.follow(before.updates, now.updates);
         self.scans.follow(before.scans, now.scans);
