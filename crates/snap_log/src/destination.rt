@@ -1,7 +1,4 @@
 //! Where standard error leads: to the journal of systemd or elsewhere.
-ghost use Rattle.std.specs.Prelude.{◌≡◌, ◌↔◌, IfOk, IsTrue};
-ghost use Rattle.snap_log.specs.Line.{stream_text};
-
 use std::alloc::{AllocError, Global};
 use std::fs;
 use std::os::unix::fs::MetadataExt;
@@ -27,9 +24,8 @@ const LONGEST: usize = 41;
 const STANDARD_ERROR: &str = "/proc/self/fd/2";
 
 impl Destination {
-    /// Finds out where standard error goes. It is the journal if the variable `JOURNAL_STREAM`
-    /// names this very stream: a program may inherit the variable although its standard error goes
-    /// elsewhere.
+    /// Finds out where standard error goes. It is the journal if the variable `JOURNAL_STREAM` names this very stream:
+    /// a program may inherit the variable although its standard error goes elsewhere.
     ///
     /// If that can't be found out, without `/proc` or without memory, it is [`Destination::Other`].
     pub fn of_standard_error<R: Env + Files>(rt: &R, alloc: Global) -> Destination {
@@ -48,9 +44,7 @@ impl Destination {
 }
 
 /// Whether `named`, the variable's value, is `DEVICE:INODE` with these numbers.
-fn is_named(alloc: Global, named: &[u8], device: u64, inode: u64) -> Result<bool, AllocError>
-    ensures { IfOk result (λ is. IsTrue is ↔ (named.now ≡ stream_text device inode)) }
-{
+fn is_named(alloc: Global, named: &[u8], device: u64, inode: u64) -> Result<bool, AllocError> {
     let stream = format!(in alloc; "{device}:{inode}")?;
     Ok(named == stream.as_bytes())
 }

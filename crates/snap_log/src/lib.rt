@@ -1,9 +1,8 @@
 //! The log of a server: a line for each event, written to standard error by one thread.
 //!
-//! [`Lines`] takes the records of all threads, by the macros of the crate `log`. It makes one line
-//! of each and sends it to the one thread that writes, in [`write_lines`]. So no thread that serves
-//! waits for standard error, and no two lines mix. Logging a record never fails: if its line can't
-//! be sent it is lost, and a later line says how many were.
+//! [`Lines`] takes the records of all threads, by the macros of the crate `log`. It makes one line of each and sends it
+//! to the one thread that writes, in [`write_lines`]. So no thread that serves waits for standard error, and no two
+//! lines mix. Logging a record never fails: if its line can't be sent it is lost, and a later line says how many were.
 //!
 //! ```text
 //! let destination = Destination::of_standard_error(rt, alloc);

@@ -1,7 +1,4 @@
 //! The text of one line.
-ghost use Rattle.std.specs.Prelude.{◌≡◌, ◌++◌, IfOk, OnOk, string_bytes};
-ghost use Rattle.snap_log.specs.Line.{is_hidden, hidden_text, shown_char, shown_text, log_line};
-
 use log::Level;
 use std::alloc::{AllocError, Global};
 use std::fmt::Write;
@@ -14,10 +11,7 @@ pub(crate) fn line_of(
     level: Level,
     target: &str,
     text: &str,
-) -> Result<String, AllocError>
-    ensures { IfOk result (λ line.
-        string_bytes line ≡ log_line stamp.now level target.now text.now) }
-{
+) -> Result<String, AllocError> {
     let mut line = String::new(alloc);
     push_shown(&mut line, stamp)?;
     line.push_str(level.as_str())?;
@@ -29,11 +23,8 @@ pub(crate) fn line_of(
     Ok(line)
 }
 
-/// Appends a text with its hidden characters escaped. If memory runs out, a beginning of it may
-/// have been appended.
-fn push_shown(line: &mut String, text: &str) -> Result<(), AllocError>
-    ensures { OnOk result (string_bytes line.new ≡ string_bytes line.old ++ shown_text text.now) }
-{
+/// Appends a text with its hidden characters escaped. If memory runs out, a beginning of it may have been appended.
+fn push_shown(line: &mut String, text: &str) -> Result<(), AllocError> {
     for c in text.chars() {
         push_char(line, c)?;
     }
@@ -41,9 +32,7 @@ fn push_shown(line: &mut String, text: &str) -> Result<(), AllocError>
 }
 
 /// Appends a character, escaped if it is hidden.
-fn push_char(line: &mut String, c: char) -> Result<(), AllocError>
-    ensures { OnOk result (string_bytes line.new ≡ string_bytes line.old ++ shown_char c) }
-{
+fn push_char(line: &mut String, c: char) -> Result<(), AllocError> {
     if is_hidden(c) {
         push_hidden(line, c)
     } else {
@@ -52,9 +41,7 @@ fn push_char(line: &mut String, c: char) -> Result<(), AllocError>
 }
 
 /// Appends the escape of a character: a letter or its number.
-fn push_hidden(line: &mut String, c: char) -> Result<(), AllocError>
-    ensures { OnOk result (string_bytes line.new ≡ string_bytes line.old ++ hidden_text c) }
-{
+fn push_hidden(line: &mut String, c: char) -> Result<(), AllocError> {
     match c {
         '\n' => line.push_str("\\n"),
         '\r' => line.push_str("\\r"),
@@ -64,9 +51,7 @@ fn push_hidden(line: &mut String, c: char) -> Result<(), AllocError>
 }
 
 /// Whether a character is escaped: a control character, or one that ends a line in Unicode.
-fn is_hidden(c: char) -> bool
-    ensures { result ≡ is_hidden c }
-{
+fn is_hidden(c: char) -> bool {
     c.is_control() || ('\u{2028}'..='\u{2029}').contains(&c)
 }
 

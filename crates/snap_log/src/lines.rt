@@ -1,7 +1,6 @@
 //! The sink that all threads log to.
-ghost use Rattle.std.specs.Prelude.{◌≡◌, Some, [], IfOk, string_bytes};
+ghost use Rattle.std.specs.Prelude.{◌≡◌, Some, [], IfOk};
 ghost use Rattle.log.specs.Level.{allows};
-ghost use Rattle.snap_log.specs.Line.{IsOneLine};
 
 use crate::Destination;
 use crate::line::line_of;
@@ -17,8 +16,7 @@ use std::rt::Clock;
 use std::sync::atomic::{AtomicU64, Ordering};
 use std::sync::{Arc, Wait};
 
-/// The most lines that wait to be written. Threads that send at the same moment may exceed it by
-/// one each.
+/// The most lines that wait to be written. Threads that send at the same moment may exceed it by one each.
 const MAX_WAITING: usize = 4_096;
 
 /// A line on its way to the writing thread.
@@ -28,7 +26,6 @@ pub(crate) struct Line {
     pub(crate) text: String,
     /// How many lines had been lost before this one was sent.
     pub(crate) lost: u64,
-    ghost one_line: { ∥ IsOneLine (string_bytes text) ∥₁ },
 }
 
 /// Takes the records of a program up to a level, and sends a line for each to the writing thread.
@@ -55,8 +52,7 @@ pub struct Waiting {
 impl<'a, R: Wait + Clock> Lines<'a, R> {
     ghost use Rattle.snap_log.specs.Lines.{lines_level};
 
-    /// A log of the records up to a level, and the receiving side of its lines. Fails only if
-    /// memory runs out.
+    /// A log of the records up to a level, and the receiving side of its lines. Fails only if memory runs out.
     pub fn new(
         rt: &'a R,
         alloc: Global,
@@ -105,9 +101,7 @@ impl<'a, R: Wait + Clock> Lines<'a, R> {
     fn line<D: Display, K: Source, S: Spans>(
         &self,
         record: &Record<'_, D, K, S>,
-    ) -> Result<String, AllocError>
-        ensures { IfOk result (λ line. IsOneLine (string_bytes line)) }
-    {
+    ) -> Result<String, AllocError> {
         let stamp = stamp(self.rt, self.destination);
         let text = format!(in self.alloc; "{}", Message(record))?;
         line_of(

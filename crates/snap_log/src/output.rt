@@ -1,8 +1,4 @@
 //! The writing thread.
-ghost use Rattle.std.specs.Prelude.{◌≡◌, ◌≤◌, IfOk, not, string_bytes, true};
-ghost use Rattle.std.specs.Io.KnownBytes.{Appends};
-ghost use Rattle.snap_log.specs.{Line.lost_line, Line.on_its_own, Progress.TellsLost};
-
 use crate::line::line_of;
 use crate::lines::Waiting;
 use crate::stamp::{beginning, stamp};
@@ -25,10 +21,9 @@ struct Progress {
 
 /// Writes the lines. It returns once every sender has been dropped and no line waits.
 ///
-/// If lines were lost, a line says how many, before the next one that wasn't, or at once if none
-/// waits: `WARN log: lines lost: 12`. It is written at every level of the log; if memory runs out
-/// for it, it is written later. A line that can't be written whole is lost too, and the next one
-/// begins on a line of its own.
+/// If lines were lost, a line says how many, before the next one that wasn't, or at once if none waits: `WARN log:
+/// lines lost: 12`. It is written at every level of the log; if memory runs out for it, it is written later. A line
+/// that can't be written whole is lost too, and the next one begins on a line of its own.
 pub fn write_lines<R: Wait + Clock, E: Write>(rt: &R, waiting: &Waiting, errors: &mut E) {
     let mut progress = Progress {
         told: 0,
@@ -58,11 +53,7 @@ fn tell_lost<R: Clock, E: Write>(
     lost: u64,
     progress: &mut Progress,
     errors: &mut E,
-)
-    ensures tells { TellsLost lost progress.old progress.new (E.contents errors.old)
-        (E.contents errors.new) }
-    ensures none { lost ≤ progress.old.told → E.contents errors.new ≡ E.contents errors.old }
-{
+) {
     if lost <= progress.told {
         return;
     }
@@ -80,19 +71,13 @@ fn tell_lost<R: Clock, E: Write>(
 }
 
 /// The line that reports `lost` lost lines.
-fn lost_line(alloc: Global, stamp: &str, lost: u64) -> Result<String, AllocError>
-    ensures { IfOk result (λ line. string_bytes line ≡ lost_line stamp.now lost) }
-{
+fn lost_line(alloc: Global, stamp: &str, lost: u64) -> Result<String, AllocError> {
     let text = format!(in alloc; "lines lost: {lost}")?;
     line_of(alloc, stamp, Level::Warn, "log", text.as_str())
 }
 
 /// Writes a line, after a line feed if the last one was torn. Returns whether it was written whole.
-fn write_line<E: Write>(errors: &mut E, is_torn: &mut bool, line: &str) -> bool
-    ensures torn { is_torn.new ≡ not result }
-    ensures whole { result ≡ true → Appends (E.contents errors.old) (E.contents errors.new)
-        (on_its_own is_torn.old line.now) }
-{
+pub(crate) fn write_line<E: Write>(errors: &mut E, is_torn: &mut bool, line: &str) -> bool {
     if *is_torn && write_whole(errors, b"\n").is_err() {
         return false;
     }

@@ -1,6 +1,4 @@
 //! The beginning of a line: the time, or the journal's priority.
-ghost use Rattle.std.specs.{Prelude.◌≡◌, Prelude.[], Fmt.InlineText.inline_text};
-
 use crate::Destination;
 use jiff::Timestamp;
 use log::Level;
@@ -12,9 +10,7 @@ const ROOM: usize = 32;
 
 /// The current time and a space, such as `2026-11-25T16:47:28.123Z `. Empty if the clock can't be
 /// read, and for the journal, for which the clock isn't read.
-pub(crate) fn stamp<R: Clock>(rt: &R, destination: Destination) -> InlineText<ROOM>
-    ensures { destination ≡ Destination.Journal → inline_text result ≡ [] }
-{
+pub(crate) fn stamp<R: Clock>(rt: &R, destination: Destination) -> InlineText<ROOM> {
     if destination == Destination::Journal {
         return InlineText::new();
     }

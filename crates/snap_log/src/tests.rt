@@ -1,4 +1,5 @@
 //! Tests of whole logs.
+use crate::output::write_line;
 use crate::{Destination, Lines, write_lines};
 use log::{LevelFilter, debug, error, info, warn};
 use snap_stream::TestStream;
@@ -95,6 +96,22 @@ fn what_cannot_be_written_ends_nothing(rt: HostRuntime) -> Result<(), Fail> {
     let mut errors = stream(&rt, 16);
     write_lines(&rt, &waiting, &mut errors);
     assert_eq!(rt; errors.bytes.as_slice(), b"<4>WARN t: b\n<4>".as_slice());
+    Ok(())
+}
+
+#[test]
+fn a_line_after_a_torn_one_is_its_own(rt: HostRuntime) -> Result<(), Fail> {
+    let (mut errors, mut is_torn) = (stream(&rt, 3), false);
+    for (passes, is_whole) in [
+        (3, false),
+        (3, false),
+        (usize::MAX, true),
+        (usize::MAX, true),
+    ] {
+        errors.passes = passes;
+        assert_eq!(rt; write_line(&mut errors, &mut is_torn, "torn\n"), is_whole);
+    }
+    assert_eq!(rt; errors.bytes.as_slice(), b"tor\ntorn\ntorn\n".as_slice());
     Ok(())
 }
 
