@@ -8,7 +8,7 @@ use Rattle.atomic_table.{specs.Table.Act.keeps, proofs.Lists.at_set}
 use Rattle.snap_register.specs.History.{entry, sight, only, count, start_at}
 use Rattle.snap_register.specs.Rule.{segments, buffers, width, given, cell, Has, IsLegal, total, on, far}
 use Rattle.snap_register.specs.Rule.{beyond, other, Holds, Register, Pinned, Knows, Kept, Learns, pinning, giving}
-use Rattle.snap_register.specs.Rule.{heard, read}
+use Rattle.snap_register.specs.Rule.{heard, read, revisited}
 use Rattle.snap_register.proofs.Lines.{prefix_self, prefix_trans, count_prefix, record_prefix, legal_prefix}
 use Rattle.snap_register.proofs.Places.{Apart, word_apart, given_apart, given_same, given_behind, cell_behind}
 use Rattle.snap_register.proofs.Places.{given_cell, given_inside}
@@ -177,12 +177,12 @@ module _ (S : Type 0) where
         (λ a has. (refl, refl, refl)) (k.each_seat i u there))
 
     -- a load that changes no pin and no pool
-    unmoved : (c : ℕ) (cs : List (ℕ × S)) → w.left ≡ v.left → w.pins ≡ v.pins
+    unmoved : (c : ℕ) (cs : List (ℕ × S)) → w.left ≤ v.left → w.pins ≡ v.pins
         → Knows p k.history s.words k.writer k.pools id w → Kept p (stepped s c (get_or s.words c 0) id cs w keeps)
     unmoved c cs left pins mine = loaded s c id cs w
         (kept_after s.words k.history k.pools k.pinned refl k.legal
         (λ i li. register_beside id v w at (ap (λ (l : List ℕ). get_or l i 0) (sym pins))
-        (omega arith) (words_same p s.words i) refl (k.registers i li)) mine
+        left (words_same p s.words i) refl (k.registers i li)) mine
         (λ j u _. k.each_seat j u))
 
   pub reads : (p : Plan) (slots id : ℕ) (m : M) (c : ℕ) → m.0.spent ≡ false
@@ -192,7 +192,7 @@ module _ (S : Type 0) where
       let v : SeatView = m.0 in
       let known = k.each_seat id v at in (
         v,
-        unmoved k id v at refl c m.1 refl refl known,
+        unmoved k id v at refl c m.1 (le_refl v.left) refl known,
         (
           refl,
           legal_prefix v.plan v.seen k.history known.seen k.legal,
@@ -215,7 +215,7 @@ module _ (S : Type 0) where
       let known = k.each_seat id v at in
       let w : SeatView = record v { seen = k.history; received = []; seen_end = v.high } in (
         w,
-        unmoved k id w at refl j m.1 refl refl record {
+        unmoved k id w at refl j m.1 (le_refl v.left) refl record {
           plan = λ _. refl;
           seen = prefix_self k.history;
           received = (k.history, refl);
@@ -225,6 +225,55 @@ module _ (S : Type 0) where
         },
         (told_all v w k id at, refl, refl),
       ))
+
+  pub revisits : (p : Plan) (slots id : ℕ) (m : M) (j : ℕ) → m.0.spent ≡ false → j < segments m.0.plan
+      → j < length m.0.records → 0 < m.0.left
+      → Allows (Kept p) slots id m j (λ n. n) (revisited (step slots j 0 0 maybe.none) m)
+  revisits table slots id m j here lj wide_records some_left =
+      allowed table slots id m j (λ n. n) (revisited (step slots j 0 0 maybe.none) m) here (λ s k at.
+      let v : SeatView = m.0 in
+      let h : List Entry = k.history in
+      let d : Pool = k.pools j in
+      let x : ℕ = k.pinned j in
+      let known = k.each_seat id v at in
+      let r = k.registers j lj in
+      let w : SeatView = record v {
+        seen = h;
+        received = [];
+        seen_end = v.high;
+        left = v.left - 1;
+        records = set v.records j (count j h);
+        sights = v.sights ++ sight h ∷ [];
+      } in
+      let there : Pinned v.plan h s.words j d.current (get_or w.records j 0) =
+      rw (get_or-set_same v.records j (count j h) 0 wide_records) (record {
+        inside = r.current;
+        old = le_refl (count j h);
+        holds = r.latest;
+      }) in
+      dite (ℕ_discrete (get_or v.pins j 0) (get_or s.words j 0 / 2 ^ 56 + 1))
+      (λ same.
+      let few : x < 2 ^ 56 = omega (arith, r.wears d.current r.current, pins_at d x d.current refl) in
+      let found : get_or s.words j 0 / 2 ^ 56 ≡ d.current = ap (λ (z : ℕ). z / 2 ^ 56) r.word
+      ∙ div-mul-add d.current (2 ^ 56) x few in (
+        w,
+        unmoved k id w at refl j m.1 (omega arith) refl record {
+          plan = λ _. refl;
+          seen = prefix_self h;
+          received = (h, refl);
+          role = λ i has. grind (arith, known.role i has);
+          pins = λ i b li on_b. dite (ℕ_discrete i j)
+              (λ e. let same_b : b ≡ d.current = omega (arith, same, found, rw e at on_b) in rw (e, same_b) there)
+              (λ ne. rw (get_or-set_other v.records j i (count j h) 0 ne) (known.pins i b li on_b));
+          pin_quota = known.pin_quota;
+        },
+        ((λ _. (told_all v w k id at, refl, refl)), λ other. absurd (other same)),
+      ))
+      (λ other. (
+        v,
+        unmoved k id v at refl j m.1 (le_refl v.left) refl known,
+        ((λ same. absurd (other same)), λ _. refl),
+      )))
 
   pub pins : (p : Plan) (slots id : ℕ) (m : M) (j : ℕ) → m.0.spent ≡ false → j < segments m.0.plan
       → get_or m.0.pins j 0 ≡ 0 → j < length m.0.pins → j < length m.0.records → 0 < m.0.left → 0 < m.0.pin_quota

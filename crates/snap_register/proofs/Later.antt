@@ -61,6 +61,28 @@ module _ {S : Type 0} {words left : ℕ} {pins : List ℕ} {m : Me S SeatView}
   seated_set j x seen ms ss lj wide few same lefts is wide_ms =
       grind (arith, seated_with, length-set, set_each, get_or-set_same, get_or-set_other)
 
+  -- after a look at j the records are among what was seen
+  looked_records : (j : ℕ) (h : List Entry) → j < segments m.0.plan → IsPrefix m.0.seen h → (i : ℕ)
+      → i < segments m.0.plan → get_or (set m.0.records j (count j h)) i 0 ≤ count i h
+  looked_records j h lj later =
+      set_each (λ i y. i < segments m.0.plan → y ≤ count i h) m.0.records j (count j h)
+      (let a = seated.wide_records in omega arith) (λ _. le_refl (count j h))
+      (λ i ne li. omega (arith, count_prefix i m.0.seen h later, seated.records_are i li))
+
+  pub seated_revisited : {n s block_words whole words' left' : ℕ} {m' : Me S SeatView} (j : ℕ)
+      → IsSized n s block_words whole m.0.plan → j < segments m.0.plan → words' ≡ words → left' + 1 ≡ left
+      → IsPrefix m.0.seen m'.0.seen → IsLegal m.0.plan m'.0.seen
+      → m' ≡ changed m m'.0.seen (m.0.left - 1) m.0.pins (set m.0.records j (count j m'.0.seen))
+      (m.0.sights ++ sight m'.0.seen ∷ []) m.0.pool
+      → IsSeated words' pins left' m'
+  seated_revisited {m' = m'} j sized lj same less later legal is =
+      let h : List Entry = m'.0.seen in
+      let ms : List ℕ = set m.0.records j (count j h) in
+      let old = looked_records j h lj later in
+      seated_with h m.0.pins ms (m.0.sights ++ sight h ∷ []) m.0.pool same (omega (arith, seated.left_is)) is refl
+      (length-set m.0.records j (count j h)) seated.pins_are seated.pins_inside old
+      (all_readable ms sized legal old)
+
   pub seated_pinned : {n s block_words whole words' left' : ℕ} {m' : Me S SeatView} (j x : ℕ)
       → IsSized n s block_words whole m.0.plan → j < segments m.0.plan → j < length pins
       → x < buffers m.0.plan → words' ≡ words → left' + 1 ≡ left → IsPrefix m.0.seen m'.0.seen
@@ -71,10 +93,7 @@ module _ {S : Type 0} {words left : ℕ} {pins : List ℕ} {m : Me S SeatView}
   seated_pinned {m' = m'} j x sized lj wide few same less later legal is =
       let h : List Entry = m'.0.seen in
       let ms : List ℕ = set m.0.records j (count j h) in
-      let old : (i : ℕ) → i < segments m.0.plan → get_or ms i 0 ≤ count i h =
-      set_each (λ i y. i < segments m.0.plan → y ≤ count i h) m.0.records j (count j h)
-      (let a = seated.wide_records in omega arith) (λ _. le_refl (count j h))
-      (λ i ne li. omega (arith, count_prefix i m.0.seen h later, seated.records_are i li)) in
+      let old = looked_records j h lj later in
       seated_set j (x + 1) h ms (m.0.sights ++ sight h ∷ []) lj wide (omega arith) same
       (omega (arith, seated.left_is)) is (length-set m.0.records j (count j h)) old
       (all_readable ms sized legal old)

@@ -47,8 +47,7 @@ pub record IsPinned (v w : SeatView) (j : ℕ) : Type 0 where
   pub others : (i : ℕ) → i ≢ j → (slice_index w.pins i ≡ slice_index v.pins i)
       × (slice_index w.records i ≡ slice_index v.records i)
 
--- the last update seen is that of segment i to this value, under number k; nothing else changed but
--- the pool
+-- the last update seen is that of segment i to this value, under number k; nothing else changed but the pool
 pub record IsShown (v w : SeatView) (i k : ℕ) (value : List ℕ) : Type 0 where
   pub same : w ≡ record v { seen = w.seen; pool = w.pool }
   pub between : List Entry

@@ -5,8 +5,7 @@ use Rattle.snap_register.specs.{declared.words.TheConstants.BLOCK_WORDS, declare
 use Rattle.snap_register.specs.{declared.plan.Plan.Plan, History.starts, Words.IsBlock, Rule.segments, Seat.Known}
 use Rattle.snap_register.specs.Registers.{RegistersId}
 
--- a seat that has seen nothing yet and has all its looks, and writes the segments from `low` on and
--- below `high`
+-- a seat that has seen nothing yet and has all its looks, and writes the segments from `low` on and below `high`
 pub record IsNewSeat (z : RegistersId) (p : Plan) (low high : ℕ) (a : Known) : Type 0 where
   pub table_is : a.table ≡ z
   pub plan_is : a.plan ≡ p

@@ -1,6 +1,5 @@
--- The rule of the registers' words, and the result of each step. Word i is the current word of
--- register i: its buffer's index times 2^56, plus the pins on it. After these words come the
--- given-back counts, then the buffers.
+-- The rule of the registers' words, and the result of each step. Word i is the current word of register i: its buffer's
+-- index times 2^56, plus the pins on it. After these words come the given-back counts, then the buffers.
 use Rattle.std.specs.Prelude.{◌≡◌, ℕ, ◌+◌, ◌-◌, ◌*◌, ◌/◌, ◌^◌, ◌<◌, ◌≤◌, ◌==◌, ltb, cond, List, [], ◌∷◌, ◌++◌, length}
 use Rattle.std.specs.Prelude.{slice_index, slice_set, take, true, false}
 use Rattle.atomic_table.specs.Table.{State, Me, Step}
@@ -86,10 +85,9 @@ abbrev pub Holds : Plan → List ℕ → ℕ → ℕ → List ℕ → Type 0
 Holds p words i b l = (q : ℕ) → q < width p → q < length l
     → slice_index words (cell p i b q) ≡ slice_index l q
 
--- Register i, whose current word counts x pins. The pins counted for a buffer are those returned
--- and those held. The buffer found free has no pins. The buffers found pinned, plus the pins on
--- buffers other than these and the current one, are no more than the seats. No count comes near
--- 2^56.
+-- Register i, whose current word counts x pins. The pins counted for a buffer are those returned and those held. The
+-- buffer found free has no pins. The buffers found pinned, plus the pins on buffers other than these and the current
+-- one, are no more than the seats. No count comes near 2^56.
 module _ (p : Plan) (h : List Entry) (words : List ℕ) (views : List SeatView) (i : ℕ) where
   pub record Register (d : Pool) (x : ℕ) : Type 0 where
     pub word : slice_index words i ≡ d.current * 2 ^ 56 + x
@@ -116,8 +114,7 @@ pub record Pinned (p : Plan) (h : List Entry) (words : List ℕ) (i b r : ℕ) :
 
 module _ (p : Plan) (h : List Entry) (words : List ℕ) (writer : ℕ → ℕ) (pools : ℕ → Pool)
     (seat : ℕ) (v : SeatView) where
-  -- the seat is the writer of segment i: it has seen or received all its updates, and knows its
-  -- pool
+  -- the seat is the writer of segment i: it has seen or received all its updates, and knows its pool
   pub record Writes (i : ℕ) : Type 0 where
     pub inside : i < segments p
     pub own : writer i ≡ seat
@@ -275,6 +272,20 @@ module _ {S : Type 0} where
         records = slice_set m.0.records st.word (count st.word m'.0.seen);
         sights = m.0.sights ++ sight m'.0.seen ∷ [];
       })
+
+  -- a load of a current word: a look, if it is the buffer that the seat pins
+  abbrev pub revisited : Step S → Me S SeatView → ℕ → Me S SeatView → Type 0
+  revisited st m found m' = (slice_index m.0.pins st.word ≡ found / 2 ^ 56 + 1
+      → Learns m.0 m'.0 × (m'.1 ≡ m.1)
+      × (m'.0 ≡ record m.0 {
+        seen = m'.0.seen;
+        received = [];
+        seen_end = m.0.high;
+        left = m.0.left - 1;
+        records = slice_set m.0.records st.word (count st.word m'.0.seen);
+        sights = m.0.sights ++ sight m'.0.seen ∷ [];
+      }))
+      × ((slice_index m.0.pins st.word ≡ found / 2 ^ 56 + 1 → ⊥) → m' ≡ m)
 
   -- a fetch_add on the given-back count of a pinned buffer
   abbrev pub giving : Step S → Me S SeatView → ℕ → Me S SeatView → Type 0

@@ -120,8 +120,7 @@ pub record IsView (a : Known) (j set : ℕ) (xs : List (ℕ × List ℕ)) : Type
   pub before : looked a j ≡ Some (number_in a part j + 1)
   pub memory : IsMemoryOf a set part xs
 
--- all last looks found the numbers after a beginning of what was seen that has all updates of the
--- seat's own segment
+-- all last looks found the numbers after a beginning of what was seen that has all updates of the seat's own segment
 pub record IsCollected (a : Known) : Type 0 where
   pub part : List Update
   pub beginning : IsBeginning part a.seen

@@ -92,8 +92,7 @@ pub record IsSeated {S : Type 0} (words : ℕ) (pins : List ℕ) (left : ℕ)
   pub readable : (i : ℕ) → i < segments m.0.plan
       → Readable m.0.plan m.0.seen i (slice_index m.0.records i)
 
--- the seat writes segment i alone, at number k, and knows its current buffer and the pins counted
--- for each buffer
+-- the seat writes segment i alone, at number k, and knows its current buffer and the pins counted for each buffer
 pub record IsPool {S : Type 0} (i k current : ℕ) (counted : List ℕ)
     (m : Me S SeatView) : Type 0 where
   pub role : IsWriter m.0 i
@@ -115,8 +114,7 @@ abbrev pub opening_words : Plan → List ℕ
 opening_words p = replicate (segments p + segments p * buffers p) 0
     ++ flat_map (λ s. s.words ++ replicate (unused p) 0) p.start
 
--- the values fill the first words, which begin with their numbers, and the looks can't bring a
--- count near 2^56
+-- the values fill the first words, which begin with their numbers, and the looks can't bring a count near 2^56
 pub record IsReady (p : Plan) : Type 0 where
   pub each : (i : ℕ) → i < segments p → HasStart p i × IsNumber (start_at p i).number
   pub block_words_is : p.block_words ≡ BLOCK_WORDS

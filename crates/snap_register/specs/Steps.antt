@@ -82,6 +82,10 @@ abbrev pub HasPool : Access → Access → Pool → Type 0
 HasPool a b d = b.seat.me ≡ (record (view_of a) { pool = d }, a.seat.me.1)
 
 -- only the draft has changed, to ws
+abbrev pub Drafts : Seat (Unit {0}) SeatView → Seat (Unit {0}) SeatView → List ℕ → Type 0
+Drafts s t ws = (t.table_id ≡ s.table_id) × (t.id ≡ s.id)
+    × (t.me ≡ (record (view_at s) { pool = record (view_at s).pool { draft = ws } }, s.me.1))
+
 abbrev pub HasDrafted : Access → Access → List ℕ → Type 0
 HasDrafted a b ws = (b.left ≡ a.left) × (b.seat.table_id ≡ a.seat.table_id)
     × (b.seat.id ≡ a.seat.id) × HasPool a b (record (pool_of a) { draft = ws })

@@ -6,7 +6,7 @@ ghost use Rattle.snap_register.specs.Rule.{segments, buffers, width, given, cell
 ghost use Rattle.snap_register.specs.Setup.{IsSized, IsSeated};
 
 mod draft;
-mod looks;
+pub(crate) mod looks;
 mod meetings;
 mod publications;
 
@@ -71,8 +71,7 @@ impl Access {
     /// The place of the given-back count of buffer `b` of register `i`.
     pub(crate) fn given(&self, i: usize, b: usize) -> usize
         requires { (i < segments (view_of self.now).plan) × (b < buffers (view_of self.now).plan) }
-        ensures { (result ≡ given (view_of self.now).plan i b)
-            × (result < self.now.seat.table_id.words) }
+        ensures { (result ≡ given (view_of self.now).plan i b) × (result < self.now.seat.table_id.words) }
     {
         let _words = self.words;
         let buffers = self.buffers();
@@ -83,8 +82,7 @@ impl Access {
     pub(crate) fn cell(&self, i: usize, b: usize, q: usize) -> usize
         requires { (i < segments (view_of self.now).plan) × (b < buffers (view_of self.now).plan)
             × (q < width (view_of self.now).plan) }
-        ensures { (result ≡ cell (view_of self.now).plan i b q)
-            × (result < self.now.seat.table_id.words) }
+        ensures { (result ≡ cell (view_of self.now).plan i b q) × (result < self.now.seat.table_id.words) }
     {
         let _words = self.words;
         let buffers = self.buffers();

@@ -32,8 +32,7 @@ impl Registers {
         requires scanners { scanners ≤ MAX_SCANNERS }
         requires looks { looks ≤ 2 ^ 50 }
         requires numbers { (i : ℕ) (x : _) → slice_get values.now i ≡ Some x → IsNumber x.0 }
-        requires sizes { (i : ℕ) (x : _) → slice_get values.now i ≡ Some x
-            → IsShort x.1.items }
+        requires sizes { (i : ℕ) (x : _) → slice_get values.now i ≡ Some x → IsShort x.1.items }
         ensures writers { IfOk result (λ r. length r.writers.items ≡ length values.now) }
         ensures scanners { IfOk result (λ r. length r.scanners.items ≡ scanners) }
         ensures seats { IfOk result (λ r. (z : TableId) × (p : Plan)

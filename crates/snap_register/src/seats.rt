@@ -38,10 +38,9 @@ pub trait Looker {
         requires segment { j < segments (known self.now).plan }
         ensures looked { IsTrue result ↔ HasLooked (known self.now) j };
 
-    /// Looks at segment `j`, without waiting: the seat sees all updates in the history at this
-    /// moment. Returns the number of `j` among them. The record found can't change before the
-    /// seat's next look there. The look is appended to the list of what the seat had seen at each
-    /// of its looks.
+    /// Looks at segment `j`, without waiting: the seat sees all updates in the history at this moment. Returns the
+    /// number of `j` among them. The record found can't change before the seat's next look there. The look is appended
+    /// to the list of what the seat had seen at each of its looks.
     fn look(&mut self, j: usize) -> u64
         requires segment { j < segments (known self.old).plan }
         requires left { 0 < (known self.old).left }
@@ -49,8 +48,7 @@ pub trait Looker {
         ensures below { IsBelow (known self.new) }
         ensures number { result ≡ number_in (known self.new) (known self.new).seen j }
         ensures looked { Looks (known self.old) (known self.new) j result }
-        ensures sights { (known self.new).sights ≡ (known self.old).sights
-            ++ (known self.new).seen ∷ [] }
+        ensures sights { (known self.new).sights ≡ (known self.old).sights ++ (known self.new).seen ∷ [] }
         ensures left { (known self.new).left + 1 ≡ (known self.old).left };
 
     /// Copies the value of `j` that the last look found to the front of `out`. Returns its length.
@@ -79,8 +77,7 @@ pub trait Looker {
         requires updated { HasFoundUpdate (known self.old) j }
         requires room { length out.old ≡ segments (known self.old).plan }
         ensures view { IsView (known self.old) j set.bits out.new }
-        ensures others { (i : ℕ) → (Names set.bits i → ⊥)
-            → slice_get out.new i ≡ slice_get out.old i }
+        ensures others { (i : ℕ) → (Names set.bits i → ⊥) → slice_get out.new i ≡ slice_get out.old i }
         ensures same { known self.new ≡ known self.old };
 }
 
@@ -141,9 +138,8 @@ impl ReadSeat {
         ReadSeat { access }
     }
 
-    /// Joins what both seats have seen. Afterwards both have seen all that either had, and all that
-    /// was in the history at one moment of this call. It isn't a look, and both seats keep their
-    /// looks.
+    /// Joins what both seats have seen. Afterwards both have seen all that either had, and all that was in the history
+    /// at one moment of this call. It isn't a look, and both seats keep their looks.
     pub fn meet(&mut self, writer: &mut WriteSeat)
         requires together { AreTogether self.old writer.old }
         ensures scanner { Meets self.old self.new }
@@ -212,8 +208,7 @@ impl Looker for WriteSeat {
 impl WriteSeat {
     pub(crate) fn of(access: Access, segment: usize, number: u64) -> WriteSeat
         requires role { Owns (view_of access) segment }
-        requires number { (number ≡ (start_at (view_of access).plan segment).number)
-            × ((view_of access).seen ≡ []) }
+        requires number { (number ≡ (start_at (view_of access).plan segment).number) × ((view_of access).seen ≡ []) }
         requires pool { pool_of access ≡ first_pool (view_of access).plan }
         ensures { result ≡ known_of access }
     {
@@ -242,9 +237,8 @@ impl WriteSeat {
         self.number
     }
 
-    /// Shows an update of the seat's segment to `value`, with this view, and returns its number.
-    /// The update is in the history from one moment of this call on. It always finds a free buffer,
-    /// so it never waits and never fails.
+    /// Shows an update of the seat's segment to `value`, with this view, and returns its number. The update is in the
+    /// history from one moment of this call on. It always finds a free buffer, so it never waits and never fails.
     pub fn publish(&mut self, value: &[u8], view: &View) -> u64
         requires size { IsShort value.now }
         requires next { IsNumber (number_in self.old self.old.seen (own_of self.old) + 1) }

@@ -1,8 +1,7 @@
-//! The table of the registers' words, its rule (specs/Rule.antt), and the result of each step on
-//! it.
-ghost use Rattle.snap_register.specs.Rule.{Kept, pinning, giving, heard, read, checked, reused, redrafted, published};
-ghost use Rattle.snap_register.specs.Rule.{messenger, reader, without_reader, first_role, without_first_role};
-ghost use Rattle.snap_register.specs.Rule.{with_received, with_seen_of, spent};
+//! The table of the registers' words, its rule (specs/Rule.antt), and the result of each step on it.
+ghost use Rattle.snap_register.specs.Rule.{Kept, pinning, revisited, giving, heard, read, checked, reused, redrafted};
+ghost use Rattle.snap_register.specs.Rule.{published, messenger, reader, without_reader, first_role};
+ghost use Rattle.snap_register.specs.Rule.{without_first_role, with_received, with_seen_of, spent};
 
 use crate::plan::{Opening, SeatView};
 use atomic_table::{Join, Play, Seat, Split, Table, TableRule};
@@ -37,6 +36,13 @@ pub(crate) struct Pin;
 
 impl Play<(), SeatView> for Pin {
     ghost then = { pinning };
+}
+
+// A load of a current word, in place of a pin.
+pub(crate) struct Revisit;
+
+impl Play<(), SeatView> for Revisit {
+    ghost then = { revisited };
 }
 
 // A fetch_add on a given-back count.

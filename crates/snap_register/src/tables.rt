@@ -38,8 +38,7 @@ fn append_zeros(words: &mut Vec<u64>, count: usize) -> Result<(), AllocError>
 }
 
 fn append(words: &mut Vec<u64>, x: &Opening, rest: usize) -> Result<(), AllocError>
-    ensures { OnOk result (words.new.items ≡ words.old.items ++
-        (x.now.words.items ++ replicate rest 0)) }
+    ensures { OnOk result (words.new.items ≡ words.old.items ++ (x.now.words.items ++ replicate rest 0)) }
 {
     words.extend_from_slice(x.words.as_slice())?;
     append_zeros(words, rest)
@@ -160,8 +159,7 @@ pub(crate) fn open(
     scanners: usize,
     looks: u64,
 ) -> Result<Parts, AllocError>
-    requires count { (0 < length values.now.items) × (length values.now.items ≤ MAX_COUNT)
-        × (scanners ≤ MAX_SCANNERS) }
+    requires count { (0 < length values.now.items) × (length values.now.items ≤ MAX_COUNT) × (scanners ≤ MAX_SCANNERS) }
     requires ready { IsReady (plan_with scanners looks block_words values.now.items) }
     ensures counts { IfOk result (λ r. (length r.writers.items ≡ length values.now.items)
         × (length r.scanners.items ≡ scanners)) }

@@ -34,8 +34,7 @@ pub(crate) fn word_of(bytes: &[u8]) -> u64
 pub(crate) fn tail_word(bytes: &[u8]) -> u64
     requires { length bytes.now < 8 }
     ensures front { take (length bytes.now) (to_le_bytes w64 result) ≡ bytes.now }
-    ensures zeros { drop (length bytes.now) (to_le_bytes w64 result)
-        ≡ replicate (8 - length bytes.now) 0 }
+    ensures zeros { drop (length bytes.now) (to_le_bytes w64 result) ≡ replicate (8 - length bytes.now) 0 }
 {
     let mut word = [0; 8];
     word[..bytes.len()].copy_from_slice(bytes);

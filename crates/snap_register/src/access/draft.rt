@@ -1,21 +1,22 @@
 //! The record of an update, drafted word by word in a free buffer.
-ghost use Rattle.std.specs.Prelude.{◌≡◌, ◌+◌, ◌*◌, ◌<◌, ◌≤◌, ◌++◌, ◌∷◌, length, take, []};
+ghost use Rattle.std.specs.Prelude.{◌≡◌, ℕ, ◌+◌, ◌^◌, ◌*◌, ◌<◌, ◌≤◌, ◌++◌, ◌∷◌, length, take, []};
 ghost use Rattle.snap_history.specs.Limits.{IsShort};
 ghost use Rattle.snap_register.specs.declared.words.TheConstants.{BLOCK_WORDS};
 ghost use Rattle.snap_register.specs.Rule.{segments, width, without_last};
 ghost use Rattle.snap_register.specs.Words.{IsWhole, IsBlock, AreBlocks, bytes_at, piece, size_at, words_for};
 ghost use Rattle.snap_register.specs.Held.{held, taken, CanTake};
-ghost use Rattle.snap_register.specs.Steps.{view_of, draft_of, Owns, IsFree, HasPin, IsNext, IsLast, HasDrafted};
+ghost use Rattle.snap_register.specs.Steps.{view_at, view_of, draft_of, HasSeat, Owns, IsFree, HasPin, LiesAt, IsNext};
+ghost use Rattle.snap_register.specs.Steps.{IsLast, Drafts, HasDrafted};
 ghost use mathlib.Core.List.{IsPrefix};
 
 use crate::access::Access;
-use crate::setup::{Redraft, Reuse};
+use crate::access::looks::load_word;
+use crate::setup::{Redraft, Reuse, TableSeat, WordTable};
 use crate::view::View;
 use crate::words::{block_size, tail_word, word_of};
 
 impl Access {
-    /// Stores the block of this number and value at the start of the free buffer. Returns how many
-    /// words it takes.
+    /// Stores the block of this number and value at the start of the free buffer. Returns how many words it takes.
     pub(crate) fn draft_value(&mut self, i: usize, b: usize, number: u64, value: &[u8]) -> usize
         requires own { Owns (view_of self.old) i }
         requires buffer { IsFree (view_of self.old) b }
@@ -112,55 +113,85 @@ impl Access {
         }
     }
 
-    // Appends the block at place `from` of the pinned record of `j` to the draft. Returns how many
-    // words it takes.
+    // Appends the block at place `from` of the pinned record of `j` to the draft. Returns how many words it takes.
     fn copy_block(&mut self, i: usize, b: usize, to: usize, j: usize, from: usize) -> usize
         requires own { Owns (view_of self.old) i }
         requires buffer { IsFree (view_of self.old) b }
         requires pinned { HasPin (view_of self.old) j }
         requires block { IsWhole (held (view_of self.old) j) from }
-        requires place { (to ≡ length (draft_of self.old))
-            × (to + BLOCK_WORDS ≤ width (view_of self.old).plan) }
+        requires place { (to ≡ length (draft_of self.old)) × (to + BLOCK_WORDS ≤ width (view_of self.old).plan) }
         ensures same { HasDrafted self.old self.new
             (draft_of self.old ++ piece (held (view_of self.old) j) from result) }
-        ensures size { (result ≡ size_at (held (view_of self.old) j) from)
-            × (result ≤ BLOCK_WORDS) }
+        ensures size { (result ≡ size_at (held (view_of self.old) j) from) × (result ≤ BLOCK_WORDS) }
     {
         let source = self.place(j, from);
         let target = self.cell(i, b, to);
         let count = self.size_at(j, from);
-        for q in 0..count {
-            let word = self.load(source + q);
-            self.draft(target + q, word);
-        }
+        copy_words(&self.table, &mut self.seat, source, target, count);
         count
     }
 
-    // Makes x the next word of the free buffer, which is at this place. Most words of an update are
-    // there already, from the record that the buffer held before, and a load takes a fraction of
-    // the time of a sequentially consistent store.
+    // Makes x the next word of the free buffer, which is at this place.
     fn draft(&mut self, place: usize, x: u64)
         requires place { IsNext (view_of self.old) place }
         ensures { HasDrafted self.old self.new (draft_of self.old ++ x ∷ []) }
     {
-        if self.reuse(place) != x {
-            self.redraft(place, x);
-        }
+        draft_word(&self.table, &mut self.seat, place, x);
     }
+}
 
-    // Takes the next word of the free buffer into the draft as it is.
-    fn reuse(&mut self, place: usize) -> u64
-        requires place { IsNext (view_of self.old) place }
-        ensures { HasDrafted self.old self.new (draft_of self.old ++ result ∷ []) }
-    {
-        self.table.shared.load::<Reuse>(&mut self.seat, place)
+// Appends `count` words of a pinned record, from this place on, to the draft, whose next word is at `target`. The table
+// is an argument of its own, so that no word needs a lookup of where it is.
+fn copy_words(table: &WordTable, seat: &mut TableSeat, source: usize, target: usize, count: usize)
+    requires own { seat.old.table_id ≡ table.now.shared.table_id }
+    requires seated { HasSeat seat.old }
+    requires words { (j : ℕ) × (from : ℕ) × LiesAt (view_at seat.old) j from source
+        × (from + count ≤ length (held (view_at seat.old) j)) }
+    requires place { IsNext (view_at seat.old) target
+        × (length (view_at seat.old).pool.draft + count ≤ width (view_at seat.old).plan) }
+    requires fits { (source + count < 2 ^ 64) × (target + count < 2 ^ 64) }
+    ensures copied { (j from : ℕ) → LiesAt (view_at seat.old) j from source
+        → from + count ≤ length (held (view_at seat.old) j) → Drafts seat.old seat.new
+        ((view_at seat.old).pool.draft ++ piece (held (view_at seat.old) j) from count) }
+{
+    for q in 0..count {
+        let word = load_word(table, seat, source + q);
+        draft_word(table, seat, target + q, word);
     }
+}
 
-    // Stores x in place of the last drafted word, which is at this place.
-    fn redraft(&mut self, place: usize, x: u64)
-        requires place { IsLast (view_of self.old) place }
-        ensures { HasDrafted self.old self.new (without_last (draft_of self.old) ++ x ∷ []) }
-    {
-        self.table.shared.store::<Redraft>(&mut self.seat, place, x);
+// Makes x the next word of the free buffer, which is at this place. Most words of an update are there already, from the
+// record that the buffer held before, and a load takes a fraction of the time of a sequentially consistent store.
+fn draft_word(table: &WordTable, seat: &mut TableSeat, place: usize, x: u64)
+    requires own { seat.old.table_id ≡ table.now.shared.table_id }
+    requires seated { HasSeat seat.old }
+    requires place { IsNext (view_at seat.old) place }
+    ensures drafted { Drafts seat.old seat.new ((view_at seat.old).pool.draft ++ x ∷ []) }
+    ensures seated { HasSeat seat.new }
+{
+    if reuse(table, seat, place) != x {
+        redraft(table, seat, place, x);
     }
+}
+
+// Takes the next word of the free buffer into the draft as it is.
+fn reuse(table: &WordTable, seat: &mut TableSeat, place: usize) -> u64
+    requires own { seat.old.table_id ≡ table.now.shared.table_id }
+    requires seated { HasSeat seat.old }
+    requires place { IsNext (view_at seat.old) place }
+    ensures drafted { Drafts seat.old seat.new ((view_at seat.old).pool.draft ++ result ∷ []) }
+    ensures seated { HasSeat seat.new }
+{
+    table.shared.load::<Reuse>(seat, place)
+}
+
+// Stores x in place of the last drafted word, which is at this place.
+fn redraft(table: &WordTable, seat: &mut TableSeat, place: usize, x: u64)
+    requires own { seat.old.table_id ≡ table.now.shared.table_id }
+    requires seated { HasSeat seat.old }
+    requires place { IsLast (view_at seat.old) place }
+    ensures drafted { Drafts seat.old seat.new (without_last (view_at seat.old).pool.draft ++ x ∷ []) }
+    ensures seated { HasSeat seat.new }
+{
+    table.shared.store::<Redraft>(seat, place, x);
 }

@@ -1,6 +1,6 @@
 //! Looks: a seat returns its old pin, pins the current buffer, and reads what it pins.
 ghost use Rattle.std.specs.Prelude.{◌≡◌, ℕ, ◌+◌, ◌^◌, ◌<◌, ◌≤◌, length, slice_index, ◌*◌, ◌++◌, ◌∷◌, [], slice_set};
-ghost use Rattle.std.specs.Prelude.{take, slice_get, IfOk, MatchBool};
+ghost use Rattle.std.specs.Prelude.{take, slice_get, IfOk, IsTrue, IsFalse, MatchBool};
 ghost use Rattle.snap_history.specs.{Limits.IsShort, declared.limits.TheConstants.MAX_VALUE_LEN};
 ghost use Rattle.snap_scan.specs.Sets.{Names};
 ghost use Rattle.snap_register.specs.declared.words.TheConstants.{BLOCK_WORDS};
@@ -12,7 +12,7 @@ ghost use Rattle.snap_register.specs.Seat.{IsView};
 ghost use Rattle.snap_register.specs.Steps.{view_at, view_of, known_of, HasPin, LiesAt, HasSeat, IsSame};
 
 use crate::access::{Access, PIN_RANGE};
-use crate::setup::{GiveBack, Pin, Read, TableSeat, WordTable};
+use crate::setup::{GiveBack, Pin, Read, Revisit, TableSeat, WordTable};
 use crate::snapshot::{Held, SnapshotBuf};
 use crate::words::block_size;
 use bytes::Bytes;
@@ -27,17 +27,51 @@ impl Access {
         ensures below { IsBelow (known_of self.new) }
         ensures number { result ≡ number_in (known_of self.new) (known_of self.new).seen j }
         ensures looked { Looks (known_of self.old) (known_of self.new) j result }
-        ensures sights { (known_of self.new).sights ≡ (known_of self.old).sights
-            ++ (known_of self.new).seen ∷ [] }
+        ensures sights { (known_of self.new).sights ≡ (known_of self.old).sights ++ (known_of self.new).seen ∷ [] }
         ensures left { self.new.left + 1 ≡ self.old.left }
         ensures same { (self.new.seat.table_id ≡ self.old.seat.table_id)
             × (self.new.seat.id ≡ self.old.seat.id) × (self.new.seat.me.1 ≡ self.old.seat.me.1) }
         ensures view { HasLookedFrom (view_of self.old) (view_of self.new) }
         ensures learns { Learns (view_of self.old) (view_of self.new) }
     {
-        self.give_back(j);
-        self.pin(j);
+        self.hold(j);
         self.read(j, 0)
+    }
+
+    // Looks at `j`: afterwards the seat pins the current buffer there.
+    fn hold(&mut self, j: usize)
+        requires { (j < segments (view_of self.old).plan) × (0 < self.old.left) }
+        ensures learns { Learns (view_of self.old) (view_of self.new) }
+        ensures looks { IsPinned (view_of self.old) (view_of self.new) j }
+        ensures left { self.new.left + 1 ≡ self.old.left }
+        ensures same { (self.new.seat.table_id ≡ self.old.seat.table_id)
+            × (self.new.seat.id ≡ self.old.seat.id) × (self.new.seat.me.1 ≡ self.old.seat.me.1) }
+        ensures view { HasLookedFrom (view_of self.old) (view_of self.new) }
+    {
+        if !self.revisit(j) {
+            self.give_back(j);
+            self.pin(j);
+        }
+    }
+
+    // Looks at `j`, if the buffer that the seat pins there is still the current one. Threads take turns for additions,
+    // and not for a load.
+    fn revisit(&mut self, j: usize) -> bool
+        requires { (j < segments (view_of self.old).plan) × (0 < self.old.left) }
+        ensures learns { IsTrue result → Learns (view_of self.old) (view_of self.new) }
+        ensures looks { IsTrue result → IsPinned (view_of self.old) (view_of self.new) j }
+        ensures left { IsTrue result → self.new.left + 1 ≡ self.old.left }
+        ensures view { IsTrue result → HasLookedFrom (view_of self.old) (view_of self.new) }
+        ensures same { (self.new.seat.table_id ≡ self.old.seat.table_id)
+            × (self.new.seat.id ≡ self.old.seat.id) × (self.new.seat.me.1 ≡ self.old.seat.me.1) }
+        ensures moved { IsFalse result → IsSame self.old self.new }
+    {
+        let found = self.table.shared.load::<Revisit>(&mut self.seat, j);
+        let is_pinned = self.pins[j] == found / PIN_RANGE + 1;
+        if is_pinned {
+            self.left -= 1;
+        }
+        is_pinned
     }
 
     // Returns the pin on `j`, if there is one.
@@ -142,8 +176,7 @@ impl Access {
         requires block { IsWhole (held (view_of self.old) j) at }
         requires room { 8 * words_for (length_at (held (view_of self.old) j) at) ≤ length out.old }
         ensures value { take result out.new ≡ value_at (held (view_of self.old) j) at }
-        ensures size { (result ≡ slice_index (held (view_of self.old) j) (at + 1))
-            × (result ≤ MAX_VALUE_LEN) }
+        ensures size { (result ≡ slice_index (held (view_of self.old) j) (at + 1)) × (result ≤ MAX_VALUE_LEN) }
         ensures room { length out.new ≡ length out.old }
         ensures same { IsSame self.old self.new }
     {
@@ -176,8 +209,7 @@ impl Access {
         requires updated { HasFoundUpdate (known_of self.old) j }
         requires room { length out.old ≡ segments (view_of self.old).plan }
         ensures view { IsView (known_of self.old) j set.bits out.new }
-        ensures others { (i : ℕ) → (Names set.bits i → ⊥)
-            → slice_get out.new i ≡ slice_get out.old i }
+        ensures others { (i : ℕ) → (Names set.bits i → ⊥) → slice_get out.new i ≡ slice_get out.old i }
         ensures same { IsSame self.old self.new }
     {
         let segments = self.count_segments();
@@ -235,8 +267,7 @@ fn copy_value(table: &WordTable, seat: &mut TableSeat, place: usize, count: usiz
     ensures bytes { (j at : ℕ) → LiesAt (view_at seat.old) j at place
         → at + 2 + count ≤ length (held (view_at seat.old) j)
         → take (8 * count) out.new ≡ bytes_at (held (view_at seat.old) j) (at + 2) count }
-    ensures same { (seat.new.table_id ≡ seat.old.table_id) × (seat.new.id ≡ seat.old.id)
-        × (seat.new.me ≡ seat.old.me) }
+    ensures same { (seat.new.table_id ≡ seat.old.table_id) × (seat.new.id ≡ seat.old.id) × (seat.new.me ≡ seat.old.me) }
 {
     for q in 0..count {
         let word = load_word(table, seat, place + 2 + q);
@@ -246,15 +277,14 @@ fn copy_value(table: &WordTable, seat: &mut TableSeat, place: usize, count: usiz
 }
 
 // Loads the word at this place of the table.
-fn load_word(table: &WordTable, seat: &mut TableSeat, place: usize) -> u64
+pub(crate) fn load_word(table: &WordTable, seat: &mut TableSeat, place: usize) -> u64
     requires own { seat.old.table_id ≡ table.now.shared.table_id }
     requires seated { HasSeat seat.old }
     requires place { (j : ℕ) × (q : ℕ) × LiesAt (view_at seat.old) j q place }
     ensures word { (j q : ℕ) → LiesAt (view_at seat.old) j q place
         → result ≡ slice_index (held (view_at seat.old) j) q }
     ensures legal { IsLegal (view_at seat.old).plan (view_at seat.old).seen }
-    ensures same { (seat.new.table_id ≡ seat.old.table_id) × (seat.new.id ≡ seat.old.id)
-        × (seat.new.me ≡ seat.old.me) }
+    ensures same { (seat.new.table_id ≡ seat.old.table_id) × (seat.new.id ≡ seat.old.id) × (seat.new.me ≡ seat.old.me) }
 {
     table.shared.load::<Read>(seat, place)
 }

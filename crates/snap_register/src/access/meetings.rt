@@ -56,8 +56,7 @@ fn hear(table: &WordTable, seat: &mut TableSeat)
     requires own { seat.old.table_id ≡ table.now.shared.table_id }
     requires words { 0 < table.now.shared.table_id.words }
     requires here { (view_at seat.old).spent ≡ false }
-    ensures { (seat.new.table_id ≡ seat.old.table_id) × (seat.new.id ≡ seat.old.id)
-        × HasHeard seat.old.me seat.new.me }
+    ensures { (seat.new.table_id ≡ seat.old.table_id) × (seat.new.id ≡ seat.old.id) × HasHeard seat.old.me seat.new.me }
 {
     table.shared.load::<Hear>(seat, 0);
 }

@@ -12,9 +12,8 @@ use crate::setup::{Check, Publish};
 use crate::view::View;
 
 impl Access {
-    /// Fills a free buffer of the seat's own register `i` with the record of the number `next`,
-    /// this value and this view, and makes it the current one. Returns the buffer, and how many
-    /// pins the old current word had counted.
+    /// Fills a free buffer of the seat's own register `i` with the record of the number `next`, this value and this
+    /// view, and makes it the current one. Returns the buffer, and how many pins the old current word had counted.
     pub(crate) fn publish(
         &mut self,
         i: usize,
@@ -25,16 +24,13 @@ impl Access {
         view: &View,
     ) -> (usize, u64)
         requires pool { IsPool i (next - 1) current counted.now self.old.seat.me }
-        requires next { (next ≡ number (view_of self.old).plan (view_of self.old).seen i + 1)
-            × IsNumber next }
+        requires next { (next ≡ number (view_of self.old).plan (view_of self.old).seen i + 1) × IsNumber next }
         requires size { IsShort value.now }
-        requires view { CanTake (view_of self.old) view.now
-            × MayTake (view_of self.old) i view.now }
+        requires view { CanTake (view_of self.old) view.now × MayTake (view_of self.old) i view.now }
         ensures shown { IsShown (view_of self.old) (view_of self.new) i next value.now }
         ensures pool { (result.0 < buffers (view_of self.old).plan)
             × (pool_of self.new ≡ moved_pool (view_of self.old) result.0 result.1) }
-        ensures small { slice_index (pool_of self.old).counted
-            (pool_of self.old).current + result.1 < 2 ^ 56 }
+        ensures small { slice_index (pool_of self.old).counted (pool_of self.old).current + result.1 < 2 ^ 56 }
         ensures same { IsSameSeat self.old self.new × (self.new.seat.me.1 ≡ self.old.seat.me.1) }
     {
         let b = self.find_free(i, current, counted);
@@ -44,14 +40,12 @@ impl Access {
         (b, pins)
     }
 
-    // Finds a free buffer of the seat's own register `i`: one that isn't current and that nobody
-    // pins.
+    // Finds a free buffer of the seat's own register `i`: one that isn't current and that nobody pins.
     //
-    // The writer knows for each buffer all pins ever taken on it: those that the current word
-    // counted while the buffer was current. The given-back count has the pins that were returned.
-    // If both are equal, nobody pins the buffer, and nobody will before it is current again,
-    // because only the current buffer is pinned. Each of the n + S seats pins at most one buffer of
-    // a register, and n + S + 1 buffers aren't current, so one of them is free: the loop always
+    // The writer knows for each buffer all pins ever taken on it: those that the current word counted while the buffer
+    // was current. The given-back count has the pins that were returned. If both are equal, nobody pins the buffer, and
+    // nobody will before it is current again, because only the current buffer is pinned. Each of the n + S seats pins
+    // at most one buffer of a register, and n + S + 1 buffers aren't current, so one of them is free: the loop always
     // ends by its `return`.
     fn find_free(&mut self, i: usize, current: usize, counted: &[u64; MAX_BUFFERS]) -> usize
         requires own { Owns (view_of self.old) i }
@@ -82,8 +76,7 @@ impl Access {
     // `counted` pins were taken on it.
     fn check(&mut self, i: usize, b: usize, counted: u64) -> bool
         requires own { Owns (view_of self.old) i }
-        requires buffer { (b ≡ next_other (pool_of self.old))
-            × (b < buffers (view_of self.old).plan) }
+        requires buffer { (b ≡ next_other (pool_of self.old)) × (b < buffers (view_of self.old).plan) }
         requires counted { counted ≡ slice_index (pool_of self.old).counted b }
         ensures free { IsTrue result → HasPool self.old self.new
             (record (pool_of self.old) { free_buffer = b; draft = [] }) }
@@ -102,8 +95,7 @@ impl Access {
     fn swap(&mut self, i: usize, current: usize, b: usize) -> u64
         requires own { Owns (view_of self.old) i }
         requires buffer { IsFree (view_of self.old) b }
-        requires current { (current ≡ (pool_of self.old).current)
-            × (current < buffers (view_of self.old).plan) }
+        requires current { (current ≡ (pool_of self.old).current) × (current < buffers (view_of self.old).plan) }
         requires next { IsNumber (number (view_of self.old).plan (view_of self.old).seen i + 1) }
         requires view { IsLegal (view_of self.old).plan (view_of self.old).seen
             → Follows (view_of self.old).plan (view_of self.old).seen

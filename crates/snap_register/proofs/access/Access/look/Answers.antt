@@ -1,23 +1,21 @@
-use Rattle.std.proofs.Common.{rules, ℕ, ◌<◌, List, ap, ◌∙◌, arith, get_or}
+use Rattle.std.proofs.Common.{rules, ℕ, ◌<◌, List, ap, arith, get_or}
 use Rattle.snap_register.specs.Held.{HasLookedFrom, Readable}
 use Rattle.snap_register.proofs.Updates.{number_is, grows_is, below_is}
 use Rattle.snap_register.specs.{Registers.Mine, declared.plan.SeatView.SeatView}
 use Rattle.snap_register.specs.{History.number, Rule.segments, Rule.Learns, Steps.view_of}
 use Rattle.snap_register.proofs.access.Access.look.Goals as goal
-use Rattle.snap_register.proofs.access.Access.look.Goals.{After-pin, After-read}
+use Rattle.snap_register.proofs.access.Access.look.Goals.{After-hold, After-read}
 
-in_plan : (c : After-pin) → c.args.j < segments (view_of c.pin.new.self).plan
-in_plan c =
-    let gone = ap (λ (m : Mine). m.0.plan) c.give_back.ensures.3 in
-    rw (ap (λ (u : SeatView). u.plan) c.pin.ensures.view ∙ gone) c.requires.0
+in_plan : (c : After-hold) → c.args.j < segments (view_of c.hold.new.self).plan
+in_plan c = rw (ap (λ (u : SeatView). u.plan) c.hold.ensures.view) c.requires.0
 
-read_of : (c : After-pin) → Readable (view_of c.pin.new.self).plan (view_of c.pin.new.self).seen
-    c.args.j (get_or (view_of c.pin.new.self).records c.args.j 0)
-read_of c = c.pin.new.self.seated.readable c.args.j (in_plan c)
+read_of : (c : After-hold) → Readable (view_of c.hold.new.self).plan (view_of c.hold.new.self).seen
+    c.args.j (get_or (view_of c.hold.new.self).records c.args.j 0)
+read_of c = c.hold.new.self.seated.readable c.args.j (in_plan c)
 
 pub read-requires-clause-place : goal.read-requires-clause-place
 read-requires-clause-place c =
-    let r = read_of (goal.at.read-requires-clause-place c).After-pin in
+    let r = read_of (goal.at.read-requires-clause-place c).After-hold in
     omega (arith, r.own.whole.inside)
 
 -- a look changes nothing else
@@ -25,9 +23,7 @@ looked_from : (c : After-read) → HasLookedFrom (view_of c.args.self.now) (view
 looked_from c = search rules
 
 learns : (c : After-read) → Learns (view_of c.args.self.now) (view_of c.read.new.self)
-learns c =
-    let l = rw c.give_back.ensures.3 at c.pin.ensures.learns in
-    rw c.read.ensures.same.2 (assumption l)
+learns c = rw c.read.ensures.same.2 c.hold.ensures.learns
 
 pub returns-clause-seen : goal.returns-clause-seen
 returns-clause-seen c =
@@ -50,16 +46,16 @@ returns-clause-below c =
 
 pub returns-clause-number : goal.returns-clause-number
 returns-clause-number c =
-    let now = c.pin.new.self in
+    let now = c.hold.new.self in
     let v : SeatView = view_of now in
     let w : SeatView = view_of c.read.new.self in
     let j : ℕ = c.args.j in
-    let r = read_of (goal.at.returns-clause-number c).After-pin in
+    let r = read_of (goal.at.returns-clause-number c).After-hold in
     grind (
       arith,
       c.read.ensures.word,
       ap (λ (x : ℕ × List ℕ). x.0) r.own.is,
-      c.pin.ensures.looks.last,
+      c.hold.ensures.looks.last,
       ap (λ (m : Mine). number m.0.plan m.0.seen j) c.read.ensures.same.2,
       number_is w.plan w.seen j,
     )
