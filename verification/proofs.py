@@ -95,9 +95,12 @@ def prove(copy, anew=()):
 
 
 def by_seconds(tasks, seconds):
-    """The kit's tasks with what each proof took last in place of its lines, by which the longest chain is found."""
+    """The kit's tasks with what each proof took last in place of its lines, by which the longest chain is found. Tests
+    pass first of all, so that no proof leaves a processor to them."""
     took = {key: seconds.get(key[0]) or EACH_LINE * lines for key, (_, lines, *_) in tasks.items() if key[1] == "proof"}
-    return {key: (waits, took.get(key, 0), *rest) for key, (waits, _, *rest) in tasks.items()}
+    passed = (), sum(took.values()), 0, lambda given, jobs: True
+    timed = {key: (waits, took.get(key, 0), *rest) for key, (waits, _, *rest) in tasks.items()}
+    return {key: passed if key[1] == "tests" else it for key, it in timed.items()}
 
 
 def main():
