@@ -19,8 +19,7 @@ abbrev pub ends_in_port : List ℕ → Bool
 ends_in_port [] = false
 ends_in_port (b ∷ bytes) = (nat_eq b 58 && is_port bytes) || ends_in_port bytes
 
--- The argument is an address: it begins with `unix:`, or it has no slash and ends in a colon and a
--- port.
+-- The argument is an address: it begins with `unix:`, or it has no slash and ends in a colon and a port.
 abbrev pub IsAddressWord : Text → Type 0
 IsAddressWord word = ((path : Text) × (word ≡ codes "unix:" ++ path))
     ⊎ ((list_any (λ b. nat_eq b 47) word ≡ false) × (ends_in_port word ≡ true))

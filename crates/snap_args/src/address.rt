@@ -1,5 +1,4 @@
-//! Checks the text of an address before anything is opened: what it lacks, and whether it lets
-//! everybody in.
+//! Checks the text of an address before anything is opened: what it lacks, and whether it lets everybody in.
 
 use snap_order::socket_path;
 use std::net::{IpAddr, Ipv6Addr, SocketAddr};

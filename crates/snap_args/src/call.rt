@@ -42,8 +42,7 @@ pub(crate) fn calling<'a>(
 
 /// The output format of the reply.
 fn layout_of(matches: &ArgMatches<'_>) -> Result<OutputFormat, WordFault>
-    ensures { Reads result
-        (IsLayoutOf (word_of matches.now (codes "text")) (word_of matches.now (codes "json"))) }
+    ensures { Reads result (IsLayoutOf (word_of matches.now (codes "text")) (word_of matches.now (codes "json"))) }
 {
     match (is_given(matches, "text"), is_given(matches, "json")) {
         (false, false) => Ok(OutputFormat::Lines),

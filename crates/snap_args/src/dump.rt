@@ -40,9 +40,8 @@ fn holder_of<'a>(word: &'a str) -> DumpSource<'a>
     }
 }
 
-/// Whether the argument is a server's address rather than a folder's path: it begins with `unix:`,
-/// or it has no slash and ends in a colon and a port. So a folder whose name looks like an address
-/// has to be given as `./NAME`.
+/// Whether the argument is a server's address rather than a folder's path: it begins with `unix:`, or it has no slash
+/// and ends in a colon and a port. So a folder whose name looks like an address has to be given as `./NAME`.
 fn is_address_word(word: &str) -> bool
     ensures { IsTrue result ↔ IsAddressWord word.now }
 {

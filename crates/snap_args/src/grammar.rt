@@ -1,5 +1,4 @@
-//! The commands and their arguments as the parser takes them, with a table of arguments for each
-//! command.
+//! The commands and their arguments as the parser takes them, with a table of arguments for each command.
 ghost use Rattle.std.specs.Prelude.{◌≡◌, IfOk, codes, false};
 ghost use Rattle.clap.specs.Words.{App, app_of, new_app, rule_of, with_subcommand};
 ghost use Rattle.snap_args.specs.Grammar.{called, checked, dumped, examined, filed, founded, grammar_of, loaded};

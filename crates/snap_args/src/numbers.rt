@@ -26,8 +26,7 @@ pub(crate) fn place(matches: &ArgMatches<'_>) -> Result<(u8, u8), WordFault>
 
 /// The number of segments, 1 to 16.
 pub(crate) fn count_of(matches: &ArgMatches<'_>) -> Result<u8, WordFault>
-    ensures { Reads result (λ n.
-        IsOneTo MAX_COUNT n × IsNumberOf (word_of matches.now (codes "count")) n) }
+    ensures { Reads result (λ n. IsOneTo MAX_COUNT n × IsNumberOf (word_of matches.now (codes "count")) n) }
 {
     number_to(matches, "count", "count", usize::from(MAX_COUNT))
 }
@@ -104,8 +103,7 @@ pub(crate) fn limit_of(
 
 /// The most connections for a request, 1 to 10.
 pub(crate) fn tries_of(matches: &ArgMatches<'_>) -> Result<u8, WordFault>
-    ensures { Reads result (λ n.
-        IsOneTo MAX_TRIES n × IsNumberOf (word_of matches.now (codes "tries")) n) }
+    ensures { Reads result (λ n. IsOneTo MAX_TRIES n × IsNumberOf (word_of matches.now (codes "tries")) n) }
 {
     number_to(matches, "tries", "number of tries", usize::from(MAX_TRIES))
 }
@@ -144,8 +142,7 @@ pub(crate) fn after_of(matches: &ArgMatches<'_>) -> Result<Option<u64>, WordFaul
 
 /// The mode of the file of a socket.
 pub(crate) fn mode_of(matches: &ArgMatches<'_>) -> Result<u16, WordFault>
-    ensures { Reads result (λ mode. (mode ≤ MODE_BITS)
-        × IsModeOf (word_of matches.now (codes "socket-mode")) mode) }
+    ensures { Reads result (λ mode. (mode ≤ MODE_BITS) × IsModeOf (word_of matches.now (codes "socket-mode")) mode) }
 {
     let Some(word) = matches.get_str("socket-mode") else {
         return Err(WordFault::Missing {
@@ -158,8 +155,7 @@ pub(crate) fn mode_of(matches: &ArgMatches<'_>) -> Result<u16, WordFault>
     }
 }
 
-/// The mode that the text is, in octal. `None` if it isn't octal, or has other bits than
-/// [`MODE_BITS`].
+/// The mode that the text is, in octal. `None` if it isn't octal, or has other bits than [`MODE_BITS`].
 fn mode_in(word: &str) -> Option<u16>
     ensures { Finds result (IsMode word.now) }
 {

@@ -54,8 +54,7 @@ fn question(
 /// Parses these arguments as a request other than a put, without its options.
 fn plain_question(alloc: Global, words: &[&str]) -> Result<CallRequest, WordFault>
     requires other { (i : Text) → map (λ w. w.now) words.now ≢ codes "put" ∷ i ∷ [] }
-    ensures { Reads result (λ q. KeepsLimits q
-        × IsQuestionOf (map (λ w. w.now) words.now) None None q) }
+    ensures { Reads result (λ q. KeepsLimits q × IsQuestionOf (map (λ w. w.now) words.now) None None q) }
 {
     if words.len() == 1 && is(words[0], "scan") {
         return Ok(CallRequest::Request(Request::Scan));
@@ -149,8 +148,7 @@ fn part(mask: &str) -> Result<Request, WordFault>
 
 /// Parses an update.
 fn update(alloc: Global, segment: &str, number: &str, value: &str) -> Result<Request, WordFault>
-    ensures { Reads result (λ r. (length (payload r) ≤ max_payload)
-        × IsUpdateOf segment.now number.now value.now r) }
+    ensures { Reads result (λ r. (length (payload r) ≤ max_payload) × IsUpdateOf segment.now number.now value.now r) }
 {
     let Ok(segment) = segment.parse::<u8>() else {
         return Err(WordFault::Rule("the update's segment is not a number from 0 to 255"));

@@ -64,8 +64,7 @@ fn service_of<'a>(
     files: Vec<&'a str>,
 ) -> Result<ServeOptions<'a>, WordFault>
     ensures files { IfOk result (λ s. s.files.items ≡ files.entry.items) }
-    ensures read { Reads result (λ s. KeepsLimits s
-        × IsServiceOf (word_of matches.now) (words_of matches.now) s) }
+    ensures read { Reads result (λ s. KeepsLimits s × IsServiceOf (word_of matches.now) (words_of matches.now) s) }
 {
     let addresses = addresses_of(alloc, matches)?;
     let socket_mode = mode_of(matches)?;

@@ -106,8 +106,7 @@ fn server_order<'a>(alloc: Global, matches: &ArgMatches<'a>) -> Result<Order<'a>
 
 /// Parses the arguments of `format`, `put`, `get` or `check`.
 fn file_order<'a>(command: &str, matches: &ArgMatches<'a>) -> Result<FileOrder<'a>, WordFault>
-    ensures { Reads result (λ order. IsFileWithinLimits order
-        × IsFileAskedBy command.now (word_of matches.now) order) }
+    ensures { Reads result (λ order. IsFileWithinLimits order × IsFileAskedBy command.now (word_of matches.now) order) }
 {
     if is(command, "check") {
         return checking(matches);

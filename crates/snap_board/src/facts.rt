@@ -63,8 +63,7 @@ pub(crate) fn millis_of(time: Duration) -> u64 {
         .saturating_add(u64::from(time.subsec_millis()))
 }
 
-/// The name of a segment: its file's name without the extension. `None` if the path has no file
-/// name.
+/// The name of a segment: its file's name without the extension. `None` if the path has no file name.
 pub(crate) fn name_of(file: &str) -> Option<&str> {
     Path::new(file).file_stem()
 }

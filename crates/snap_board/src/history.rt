@@ -8,8 +8,7 @@ use std::alloc::{AllocError, Global};
 use std::array;
 use std::time::Duration;
 
-/// The number of samples that are kept: one for each second of three minutes, and the one before
-/// them.
+/// The number of samples that are kept: one for each second of three minutes, and the one before them.
 const SAMPLES: u64 = 181;
 
 /// The counts from the server's start up to one moment.
@@ -18,8 +17,7 @@ struct Sample {
     /// The time since the server's start, in milliseconds.
     uptime: Counter,
     scans: Counter,
-    /// The histogram of the stores of all segments, as in a
-    /// [`HistogramSnapshot`](snap_metrics::HistogramSnapshot).
+    /// The histogram of the stores of all segments, as in a [`HistogramSnapshot`](snap_metrics::HistogramSnapshot).
     stores: [Counter; BOUNDS + 1],
 }
 
@@ -84,8 +82,7 @@ impl History {
         }
     }
 
-    /// Takes a sample at `uptime`, the time since the server's start. It replaces the oldest one if
-    /// there are 181.
+    /// Takes a sample at `uptime`, the time since the server's start. It replaces the oldest one if there are 181.
     pub fn take(&self, reading: &MetricsSnapshot, uptime: Duration) {
         let taken = self.taken.get();
         if let Some(sample) = self.samples.get((taken % SAMPLES) as usize) {

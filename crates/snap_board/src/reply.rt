@@ -7,8 +7,7 @@ use http::{HeaderName, HeaderValue, StatusCode, header};
 use http_server::Response;
 use std::alloc::AllocError;
 
-/// The page's content security policy: it may load its own style and script, and connect to its own
-/// server.
+/// The page's content security policy: it may load its own style and script, and connect to its own server.
 const POLICY: &str =
     "default-src 'none'; style-src 'self'; script-src 'self'; connect-src 'self'; img-src data:; base-uri 'none'; \
         form-action 'none'; frame-ancestors 'none'";
@@ -72,8 +71,7 @@ impl Answer {
     }
 }
 
-/// Fills a response with an answer. The headers forbid browsers to cache it or to guess another
-/// kind.
+/// Fills a response with an answer. The headers forbid browsers to cache it or to guess another kind.
 pub(crate) fn fill(response: &mut Response, answer: Answer) -> Result<(), AllocError>
     requires { response.old.body.items ≡ [] }
     ensures { OnOk result (HasContent answer.status answer.content response.new) }

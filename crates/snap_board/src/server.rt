@@ -39,8 +39,7 @@ const MAX_EVENTS: usize = 64;
 /// The most connections that are accepted between two waits.
 const MAX_ACCEPTS: u32 = 16;
 
-/// The seconds between two runs of the [`Beat`], and so the longest wait. Idle connections are
-/// closed as often.
+/// The seconds between two runs of the [`Beat`], and so the longest wait. Idle connections are closed as often.
 const BEAT_REST: u64 = 1;
 
 /// A task that runs about once a second while a server serves, with or without requests.
@@ -118,8 +117,7 @@ impl HttpServer {
     /// Answers requests by this service until it is stopped; then it returns `Ok`, and pending
     /// output is lost. It runs `beat` about once a second.
     ///
-    /// Fails only if the system's wait for events fails, never because of a peer or because memory
-    /// ran out.
+    /// Fails only if the system's wait for events fails, never because of a peer or because memory ran out.
     pub fn serve<X: Wait + Clock, S: Service, B: Beat>(
         &mut self,
         rt: &X,

@@ -10,8 +10,7 @@ use Rattle.snap_client.specs.declared.fault.ClientFault.TheVariants.{ConnectFail
 use Rattle.snap_client.specs.declared.fault.ClientFault.TheVariants.{BadReply, NoMemory}
 use Rattle.snap_frame.specs.declared.reply.Reply.TheVariants as replies
 
--- a connection, the bytes that were read and belong to no reply that was returned, and why the
--- client has failed
+-- a connection, the bytes that were read and belong to no reply that was returned, and why the client has failed
 pub record ClientState (R W : Type 0) : Type 0 where
   pub reader : R
   pub writer : W

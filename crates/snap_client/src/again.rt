@@ -49,8 +49,7 @@ pub fn call_again<R: Read + Drop, W: Write + Drop, F: FnMut() -> Option<(R, W)>>
     requires some { 1 ≤ tries }
     requires few { tries ≤ MAX_TRIES }
     requires callable { F.IsAlwaysCallable connect.old }
-    ensures { TriesUpTo tries F.step R.remaining W.contents request.now
-        connect.old result connect.new }
+    ensures { TriesUpTo tries F.step R.remaining W.contents request.now connect.old result connect.new }
 {
     let mut left = tries;
     while left > 1 {

@@ -18,10 +18,9 @@ use std::marker::Model;
 /// A call writes its request's frame, then reads until a whole reply has arrived, so it blocks as
 /// long as its reader and its writer do. The writer has to pass on what it takes: it isn't flushed.
 ///
-/// After a fault the client has failed: every later call returns the same fault, and neither reads
-/// nor writes. If more bytes arrive than the replies have, the next call fails as
-/// [`ClientFault::BadReply`] before anything is sent; so no reply is ever taken from bytes that
-/// arrived before its request was sent.
+/// After a fault the client has failed: every later call returns the same fault, and neither reads nor writes. If more
+/// bytes arrive than the replies have, the next call fails as [`ClientFault::BadReply`] before anything is sent; so no
+/// reply is ever taken from bytes that arrived before its request was sent.
 #[derive(Drop)]
 pub struct Client<R: Read, W: Write> {
     reader: R,
@@ -81,8 +80,7 @@ impl<R: Read, W: Write> Client<R, W> {
     /// bytes. The caller has to check that the number in the reply is the one that was sent.
     pub fn update(&mut self, segment: u8, number: u64, value: Bytes) -> Result<Reply, ClientFault>
         requires { length value ≤ MAX_UPDATE_VALUE }
-        ensures { Calls R.remaining W.contents (requests.Update segment number value)
-            self.old result self.new }
+        ensures { Calls R.remaining W.contents (requests.Update segment number value) self.old result self.new }
     {
         self.call(&Request::Update {
             segment,

@@ -13,8 +13,7 @@ use std::io::{Read, Write};
 /// The most bytes of one read. The buffer is on the stack, so a short reply takes no heap for it.
 const PIECE_LEN: usize = 16_384;
 
-/// Writes all bytes, in as few calls as the writer takes; `false` at the first call that fails or
-/// takes no byte.
+/// Writes all bytes, in as few calls as the writer takes; `false` at the first call that fails or takes no byte.
 fn send<W: Write>(writer: &mut W, bytes: &[u8]) -> bool
     ensures { Sends (W.contents writer.old) (W.contents writer.new) bytes.now result }
 {
@@ -78,8 +77,7 @@ fn answers(request: &Request, reply: &Reply) -> bool
     }
 }
 
-/// One request and its answer, on a connection without a fault. `frame` is the buffer for the
-/// request's frame.
+/// One request and its answer, on a connection without a fault. `frame` is the buffer for the request's frame.
 pub(crate) fn exchange<R: Read, W: Write>(
     reader: &mut R,
     writer: &mut W,

@@ -57,8 +57,7 @@ abbrev pub IsOnlyValue : ℕ → List NamedValue → List ℕ → Type 0
 IsOnlyValue segment values x = (length values ≡ 1)
     × ((v : NamedValue) × (slice_get values 0 ≡ Some v) × (v.segment ≡ segment) × (v.value ≡ x))
 
--- the value of this segment was printed, byte for byte; a reply without it, or with another one,
--- counts as no answer
+-- the value of this segment was printed, byte for byte; a reply without it, or with another one, counts as no answer
 abbrev pub EndsGot : ℕ → List NamedValue → Exit → (out out' : Option (List ℕ)) → Type 0
 EndsGot segment values ended out out' =
     ((x : List ℕ) × IsOnlyValue segment values x
@@ -96,8 +95,7 @@ EndsAsked layout question (Err NoMemory) ended out out' =
 EndsAsked layout question (Err fault) ended out out' =
     HasFailed ended × Keeps out out'
 
--- The most connections of a request with this wait and these tries. `None` if it waits: then any
--- number.
+-- The most connections of a request with this wait and these tries. `None` if it waits: then any number.
 abbrev pub most_tries : (wait : Option ℕ) → (tries : ℕ) → Option ℕ
 most_tries None tries = Some tries
 most_tries (Some seconds) tries = None

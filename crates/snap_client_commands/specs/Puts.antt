@@ -16,8 +16,7 @@ use Rattle.snap_frame.specs.declared.reply.Reply.TheVariants as reply
 use Rattle.snap_order.specs.declared.order.CallRequest.TheVariants as question
 use Rattle.snap_order.specs.declared.order.Source.TheVariants as source
 
--- the value of a put: all bytes of standard input, if a value may have that many, or those of the
--- argument
+-- the value of a put: all bytes of standard input, if a value may have that many, or those of the argument
 abbrev pub HasValue : Source → (known : Option (List ℕ)) → List ℕ → Type 0
 HasValue source.Input known v = Had known v × (length v ≤ MAX_VALUE_LEN)
 HasValue (source.Words bytes) known v = v ≡ bytes
@@ -27,8 +26,7 @@ abbrev pub IsTooLong : Source → (known : Option (List ℕ)) → Type 0
 IsTooLong source.Input known = IfSome known (λ xs. MAX_VALUE_LEN < length xs)
 IsTooLong (source.Words bytes) known = ⊥
 
--- the possible reasons of no value, if standard input has these bytes: only input that is read can be too
--- long or fail
+-- the possible reasons of no value, if standard input has these bytes: only input that is read can be too long or fail
 abbrev pub MayLack : Source → (known : Option (List ℕ)) → NoValue → Type 0
 MayLack s known TooLong = IsTooLong s known
 MayLack s known (Failed error) = s ≡ source.Input
@@ -44,9 +42,8 @@ abbrev pub TellsNumber : List SegmentStatus → (segment number : ℕ) → Type 
 TellsNumber statuses i k =
     (s : SegmentStatus) × (slice_get statuses i ≡ Some s) × (s.number ≡ k)
 
--- What follows the answer to the request for the numbers: an update with the next number of this
--- segment, or the refusal of a segment that the server doesn't have. Any other answer ends the
--- call.
+-- What follows the answer to the request for the numbers: an update with the next number of this segment, or the
+-- refusal of a segment that the server doesn't have. Any other answer ends the call.
 abbrev pub GoesOn : {F R C : Type 0} → (tries : Option ℕ) → (F → Option (R × C) → F → Type 0)
     → (R → Option (List ℕ)) → (C → Option (List ℕ)) → (segment : ℕ) → (v : List ℕ)
     → Result Reply ClientFault → F → Exit → F → (out out' : Option (List ℕ)) → Type 0
@@ -58,8 +55,7 @@ GoesOn tries connects remaining contents i v (Ok (reply.Status statuses)) mid en
 GoesOn tries connects remaining contents i v told mid ended new out out' =
     (new ≡ mid) × EndsAsked Lines (question.Request Status) told ended out out'
 
--- the value is stored after the number that is given, or after the one that the server returns in
--- this call
+-- the value is stored after the number that is given, or after the one that the server returns in this call
 abbrev pub Stores : {F R C : Type 0} → (tries : Option ℕ) → (F → Option (R × C) → F → Type 0)
     → (R → Option (List ℕ)) → (C → Option (List ℕ)) → (after : Option ℕ) → (segment : ℕ)
     → (v : List ℕ) → F → Exit → F → (out out' : Option (List ℕ)) → Type 0

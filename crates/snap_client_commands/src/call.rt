@@ -22,12 +22,11 @@ use std::alloc::Global;
 use std::fmt::Display;
 use std::io::{Read, Write};
 
-/// Does what the order says: sends its requests to a server, prints the reply on `writer`, and
-/// returns the exit status. The status of a health call with a fenced segment is
-/// [`Status::Refused`]. `connect` returns a reader and a writer, or `None` if no connection can be
-/// made. For each request it is called once, and again if the same request may be answered on
-/// another connection: up to the order's number of tries. If the order waits there is no such
-/// limit: `connect` itself has to pause, and to end the wait by `None`.
+/// Does what the order says: sends its requests to a server, prints the reply on `writer`, and returns the exit status.
+/// The status of a health call with a fenced segment is [`Status::Refused`]. `connect` returns a reader and a writer,
+/// or `None` if no connection can be made. For each request it is called once, and again if the same request may be
+/// answered on another connection: up to the order's number of tries. If the order waits there is no such limit:
+/// `connect` itself has to pause, and to end the wait by `None`.
 ///
 /// A put of standard input first reads `input` to its end, and makes no connection if that fails or
 /// has too many bytes for a value. Then it sends two requests: one for the current number, and an
@@ -118,8 +117,7 @@ pub(crate) fn tries_of(order: &CallOptions<'_>) -> Option<u8>
     }
 }
 
-/// The answer to this request, over at most `tries` connections, or over as many as `connect`
-/// makes.
+/// The answer to this request, over at most `tries` connections, or over as many as `connect` makes.
 pub(crate) fn answer_to<R: Read + Drop, C: Write + Drop, F: FnMut() -> Option<(R, C)>>(
     alloc: Global,
     request: &Request,
@@ -152,8 +150,7 @@ pub(crate) fn answer_from<R: Read + Drop, C: Write + Drop, F: FnMut() -> Option<
     requires some { IfSome tries (λ n. 1 ≤ n) }
     requires few { IfSome tries (λ n. n ≤ MAX_TRIES) }
     requires callable { F.IsAlwaysCallable connect.old }
-    ensures { TriesIn tries F.step R.remaining C.contents (request_of question.now) connect.old
-        result connect.new }
+    ensures { TriesIn tries F.step R.remaining C.contents (request_of question.now) connect.old result connect.new }
 {
     match question {
         CallRequest::Request(request) => answer_to(alloc, request, tries, connect),
@@ -186,8 +183,7 @@ pub(crate) fn end<W: Write, E: Write>(
     writer: &mut W,
     errors: &mut E,
 ) -> Exit
-    ensures { EndsAsked layout question.now answer result (W.contents writer.old)
-        (W.contents writer.new) }
+    ensures { EndsAsked layout question.now answer result (W.contents writer.old) (W.contents writer.new) }
 {
     match answer {
         Ok(Reply::Refused { why, detail }) => refuse(why, detail, errors),
@@ -209,8 +205,7 @@ fn print_read<W: Write, E: Write>(
     errors: &mut E,
 ) -> Exit
     requires { IsRead reply.now }
-    ensures { EndsRead layout question.now reply.now result (W.contents writer.old)
-        (W.contents writer.new) }
+    ensures { EndsRead layout question.now reply.now result (W.contents writer.old) (W.contents writer.new) }
 {
     match (question, reply) {
         (CallRequest::Get { segment }, Reply::Part(values)) => {
@@ -271,8 +266,7 @@ fn say_stored<W: Write, E: Write>(
     writer: &mut W,
     errors: &mut E,
 ) -> Exit
-    ensures { PrintsInPlace status.Done (stored_line number) result
-        (W.contents writer.old) (W.contents writer.new) }
+    ensures { PrintsInPlace status.Done (stored_line number) result (W.contents writer.old) (W.contents writer.new) }
 {
     let line = stored_line(number);
     let Err(error) = write_whole(writer, line.as_str().as_bytes()) else {
@@ -321,8 +315,7 @@ fn print_whole<W: Write, E: Write>(
     writer: &mut W,
     errors: &mut E,
 ) -> Exit
-    ensures { PrintsInPlace status text.now result (W.contents writer.old)
-        (W.contents writer.new) }
+    ensures { PrintsInPlace status text.now result (W.contents writer.old) (W.contents writer.new) }
 {
     let Err(error) = write_whole(writer, text) else {
         return Exit {

@@ -100,8 +100,7 @@ fn put_values(
     layout: OutputFormat,
     values: &[SegmentValue],
 ) -> Result<(), AllocError>
-    ensures { layout ≡ Lines → OnOk result (out.new.items
-        ≡ out.old.items ++ each_from value_line 0 values.now) }
+    ensures { layout ≡ Lines → OnOk result (out.new.items ≡ out.old.items ++ each_from value_line 0 values.now) }
 {
     for (index, value) in values.iter().enumerate() {
         put_value(alloc, out, layout, index, value.number, &value.value)?;
@@ -116,8 +115,7 @@ fn put_part(
     layout: OutputFormat,
     values: &[NamedValue],
 ) -> Result<(), AllocError>
-    ensures { layout ≡ Lines → OnOk result (out.new.items
-        ≡ out.old.items ++ flat_map named_line values.now) }
+    ensures { layout ≡ Lines → OnOk result (out.new.items ≡ out.old.items ++ flat_map named_line values.now) }
 {
     for value in values {
         let index = usize::from(value.segment);
@@ -167,8 +165,7 @@ fn put_value(
     number: u64,
     value: &Bytes,
 ) -> Result<(), AllocError>
-    ensures { layout ≡ Lines → OnOk result (out.new.items
-        ≡ out.old.items ++ value_text index number value.now) }
+    ensures { layout ≡ Lines → OnOk result (out.new.items ≡ out.old.items ++ value_text index number value.now) }
 {
     put_segment(out, index, number)?;
     put_shown(alloc, out, layout, value.as_slice())?;
@@ -182,8 +179,7 @@ pub(crate) fn put_shown(
     layout: OutputFormat,
     value: &[u8],
 ) -> Result<(), AllocError>
-    ensures { layout ≡ Lines → OnOk result (out.new.items
-        ≡ out.old.items ++ (codes " value " ++ hex_text value.now)) }
+    ensures { layout ≡ Lines → OnOk result (out.new.items ≡ out.old.items ++ (codes " value " ++ hex_text value.now)) }
 {
     if let OutputFormat::Text = layout {
         if let Some(text) = quote(alloc, value)? {

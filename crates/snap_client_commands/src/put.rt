@@ -269,8 +269,7 @@ fn update<R: Read + Drop, C: Write + Drop, F: FnMut() -> Option<(R, C)>, W: Writ
     }
 }
 
-/// Complains that there is no answer to a put's update, and advises to put again with `--after`
-/// this number.
+/// Complains that there is no answer to a put's update, and advises to put again with `--after` this number.
 fn give_up_behind<E: Write>(
     alloc: Global,
     address: &str,

@@ -10,11 +10,10 @@ use snap_order::{Exit, Request};
 use std::alloc::Global;
 use std::io::{Read, Write};
 
-/// The number and value of each segment of a server, in order, at one moment: by one scan. An error
-/// says how the program ends: the server refused or gave no answer, and `errors` got the complaint,
-/// as from [`ask`](crate::ask). `connect` returns a reader and a writer, or `None` if no connection
-/// can be made. It is called once at least and `tries` times at most. If `tries` is `None` there is
-/// no such limit, and `connect` ends the wait by `None`.
+/// The number and value of each segment of a server, in order, at one moment: by one scan. An error says how the
+/// program ends: the server refused or gave no answer, and `errors` got the complaint, as from [`ask`](crate::ask).
+/// `connect` returns a reader and a writer, or `None` if no connection can be made. It is called once at least and
+/// `tries` times at most. If `tries` is `None` there is no such limit, and `connect` ends the wait by `None`.
 pub fn fetch<R: Read + Drop, C: Write + Drop, F: FnMut() -> Option<(R, C)>, E: Write>(
     alloc: Global,
     address: &str,

@@ -49,15 +49,13 @@ impl<R: Wait + Copy, M: Memory, D: Disk + Drop, H: Drop> Model for Desk<R, M, D,
 
     ghost view = { λ d. d.scanner };
 
-    ghost invariant = { λ d. IsOf M.table M.plan d.scanner
-        × (length d.outbox.handles ≡ segments d.scanner.plan) };
+    ghost invariant = { λ d. IsOf M.table M.plan d.scanner × (length d.outbox.handles ≡ segments d.scanner.plan) };
 }
 
 /// Replies to an update by its outcome.
 ///
-/// The outcome's writer is idle meanwhile, and returns to its storer afterwards. If the outcome
-/// belongs to another update, it isn't used: the reply then refuses the place of the update, or
-/// comes from one look.
+/// The outcome's writer is idle meanwhile, and returns to its storer afterwards. If the outcome belongs to another
+/// update, it isn't used: the reply then refuses the place of the update, or comes from one look.
 pub fn answer_outcome<R: Wait + Copy, M: Memory, D: Disk + Drop>(
     scanner: &mut Scanner,
     segment: usize,
@@ -98,8 +96,7 @@ fn ask<R: Wait + Copy + Clock, M: Memory, D: Disk + Drop, H: UpdateObserver, J: 
     requires handles { length outbox.old.handles ≡ segments scanner.old.plan }
     requires job { J.job ≡ job_of outbox.old.worker key segment number value.now }
     requires asked { M.asked segment number value.now }
-    ensures answer { IfSome result (λ r.
-        AnswersUpdate scanner.old segment number value.now r scanner.new) }
+    ensures answer { IfSome result (λ r. AnswersUpdate scanner.old segment number value.now r scanner.new) }
     ensures looks { LooksOnce scanner.old scanner.new }
     ensures limits { IfSome result (λ r. IsInLimits r) }
     ensures later { IfNone result (scanner.new ≡ scanner.old) }
@@ -195,8 +192,7 @@ impl<R: Wait + Copy + Clock, M: Memory, D: Disk + Drop, H: UpdateObserver + Drop
         Ok(ReadOnlyService::new(alloc, scanner, standings))
     }
 
-    /// Returns the scanner, unchanged. A store can be closed once all its scanners and writers were
-    /// returned.
+    /// Returns the scanner, unchanged. A store can be closed once all its scanners and writers were returned.
     pub fn into_scanner(self) -> Scanner
         ensures scanner { result ≡ self }
         ensures memory { IsOf M.table M.plan result }
@@ -216,8 +212,7 @@ impl<R: Wait + Copy + Clock, M: Memory, D: Disk + Drop, H: UpdateObserver + Drop
 
     ghost memory = { number_of M.table };
 
-    ghost gives = { λ old request reply new. Answers old request reply new
-        × TakesFewLooks old request new };
+    ghost gives = { λ old request reply new. Answers old request reply new × TakesFewLooks old request new };
 
     ghost hands_over = { Unit {0} };
 

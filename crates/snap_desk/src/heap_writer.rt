@@ -30,13 +30,11 @@ impl<M: Memory, D: Disk + Drop> Model for HeapWriter<M, D> {
 
     ghost view = { λ w. w.writer.value };
 
-    ghost invariant = { λ w. IsOf M.table M.plan w.writer.value.seat
-        × StoresAsked M.asked w.writer.value };
+    ghost invariant = { λ w. IsOf M.table M.plan w.writer.value.seat × StoresAsked M.asked w.writer.value };
 }
 
 impl<M: Memory, D: Disk + Drop> HeapWriter<M, D> {
-    /// Moves `writer`, which belongs to the memory `M`, to the heap. If memory runs out, the writer
-    /// is dropped.
+    /// Moves `writer`, which belongs to the memory `M`, to the heap. If memory runs out, the writer is dropped.
     pub fn new(alloc: Global, writer: Writer<D>) -> Result<HeapWriter<M, D>, AllocError>
         requires memory { IsOf M.table M.plan writer.seat }
         requires asked { StoresAsked M.asked writer }

@@ -94,8 +94,7 @@ impl<M: Memory> Job<M> {
     }
 }
 
-/// A type that names one job, for proofs. It has no values: the proof of a call with `Brand` says
-/// which job it is.
+/// A type that names one job, for proofs. It has no values: the proof of a call with `Brand` says which job it is.
 pub(crate) trait Requested {
     ghost job: { JobState };
 }

@@ -39,8 +39,7 @@ enum SendFault {
     Gone,
 }
 
-/// Proof that the job `J` was sent. Only [`StorerHandle::send`] makes it, from the job that it
-/// sends.
+/// Proof that the job `J` was sent. Only [`StorerHandle::send`] makes it, from the job that it sends.
 #[derive(Drop)]
 pub(crate) struct Sent<J: Requested> {
     of: PhantomData<J>,
@@ -178,8 +177,7 @@ impl<R: Wait + Copy, M: Memory, D: Disk + Drop> Outbox<R, M, D> {
         Ok(statuses)
     }
 
-    /// Returns the published statuses of all segments. They outlive the outbox, and keep no storer
-    /// running.
+    /// Returns the published statuses of all segments. They outlive the outbox, and keep no storer running.
     pub(crate) fn into_standings(self) -> Result<Vec<Arc<AtomicU64, Global>>, AllocError>
         ensures { IfOk result (λ s. length s.items ≡ length self.handles) }
     {

@@ -70,8 +70,7 @@ impl<M: Memory> Queue<M> {
         true
     }
 
-    /// Receives an update without blocking, which then waits to be taken. After an error no update
-    /// has arrived.
+    /// Receives an update without blocking, which then waits to be taken. After an error no update has arrived.
     fn look<R: Wait>(&mut self, rt: &R) -> Result<(), TryRecvError>
         requires { self.old.came ≡ self.old.taken }
         ensures one { OnOk result (IsWaiting self.new) }
@@ -121,8 +120,7 @@ impl<M: Memory> Queue<M> {
         self.sleep(rt)
     }
 
-    /// Waits until there is an update to take; `false` if there is none and all handles are
-    /// dropped.
+    /// Waits until there is an update to take; `false` if there is none and all handles are dropped.
     pub(crate) fn wait<R: Wait>(&mut self, rt: &R, spin: &mut Spin) -> bool
         ensures one { result ≡ true → IsWaiting self.new }
         ensures rest { self.new ≡ record self.old { came = self.new.came } }

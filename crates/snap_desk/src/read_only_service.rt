@@ -39,8 +39,7 @@ impl<M: Memory> Model for ReadOnlyService<M> {
 
     ghost view = { λ l. l.scanner };
 
-    ghost invariant = { λ l. IsOf M.table M.plan l.scanner
-        × (length l.standings.items ≡ segments l.scanner.plan) };
+    ghost invariant = { λ l. IsOf M.table M.plan l.scanner × (length l.standings.items ≡ segments l.scanner.plan) };
 }
 
 impl<M: Memory> ReadOnlyService<M> {
@@ -135,8 +134,7 @@ impl<M: Memory> Service for ReadOnlyService<M> {
 
     type Outcome = ();
 
-    ghost gives = { λ old request reply new. Answers old request reply new
-        × TakesFewLooks old request new };
+    ghost gives = { λ old request reply new. Answers old request reply new × TakesFewLooks old request new };
 
     ghost hands_over = { ⊥ };
 

@@ -95,8 +95,7 @@ impl<R: Wait + Copy, M: Memory, D: Disk + Drop> Storer<R, M, D> {
     /// with the outcome.
     ///
     /// `None` if all handles are dropped and no update is left; if the writer won't be put back; or
-    /// if memory to lend it runs out. Then nothing was done, and an update that has arrived still
-    /// waits.
+    /// if memory to lend it runs out. Then nothing was done, and an update that has arrived still waits.
     pub fn next(&mut self) -> Option<Completion<Outcome<R, M, D>>>
         ensures worker { IfSome result (λ t. t.worker ≡ t.outcome.job.worker) }
         ensures key { IfSome result (λ t. t.key ≡ t.outcome.job.key) }

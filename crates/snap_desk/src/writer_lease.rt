@@ -103,8 +103,7 @@ impl<R: Wait + Copy, M: Memory, D: Disk + Drop> Outcome<R, M, D> {
 
     /// Makes the reply from the writer's result, and returns the writer to its storer.
     ///
-    /// The scanner meets the writer, so that the reply fits what the scanner has seen. No look is
-    /// taken.
+    /// The scanner meets the writer, so that the reply fits what the scanner has seen. No look is taken.
     pub fn tell(mut self, scanner: &mut Scanner) -> Reply
         requires memory { IsOf M.table M.plan scanner.old }
         ensures told { result ≡ reply_of (number_of self.writer) self.told }

@@ -1,5 +1,4 @@
--- The calls on a device whose bytes no code can know, and what it means that each did what the
--- model says.
+-- The calls on a device whose bytes no code can know, and what it means that each did what the model says.
 use Rattle.std.specs.Prelude.{◌≡◌, ◌⊎◌, ℕ, ◌≤◌, ◌<◌, Bool, false, ◌||◌, List, [], ◌∷◌, ◌++◌, length, take, replicate}
 use Rattle.std.proofs.Common.{inl, inr, arith}
 use Rattle.snap_disk.specs.Device.{Device, in_range, part, MayLeave, IsUnchanged, IsTouched, IsSynced, IsUnsynced}

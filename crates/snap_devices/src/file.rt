@@ -24,8 +24,7 @@ const LOCK_RESTS: u32 = 50;
 
 const LOCK_REST_MILLIS: u64 = 20;
 
-/// How a device shares its file with other processes that take a lock too, and whether it may
-/// write it.
+/// How a device shares its file with other processes that take a lock too, and whether it may write it.
 #[derive(Clone, Copy, Debug, PartialEq, Eq)]
 pub enum Lock {
     /// No other process has a lock: for a command that writes the file.
@@ -146,10 +145,9 @@ impl<'p, R: Files<File = fs::File> + Clock, S: Stories> FileOf<'p, R, S> {
         Ok(FileOf::of(rt, path, file, FileId::of(&found), found.len()))
     }
 
-    /// The file at this path, for a new segment, with an exclusive lock: one that isn't there or
-    /// has no byte gets [`FILE_LEN`] zero bytes, and one of that length is taken as it is. Any
-    /// other length is `WrongFile`, and the file is not changed. The other faults are those of
-    /// [`FileOf::open`].
+    /// The file at this path, for a new segment, with an exclusive lock: one that isn't there or has no byte gets
+    /// [`FILE_LEN`] zero bytes, and one of that length is taken as it is. Any other length is `WrongFile`, and the file
+    /// is not changed. The other faults are those of [`FileOf::open`].
     ///
     /// A new file's name lasts: the folder is synced before the file gets its bytes. If that fails, or the process is
     /// stopped before it, the file stays without a byte, and the next `create` syncs the folder again. Of two processes
@@ -189,8 +187,7 @@ impl<'p, R: Files<File = fs::File> + Clock, S: Stories> FileOf<'p, R, S> {
     pub fn telling(mut self, to: &'p OnceLock<CallFault>) -> FileOf<'p, R, S>
         ensures uncalled { IsUncalled self.entry → IsUncalled result }
         ensures path { file_path result ≡ file_path self.entry }
-        ensures size { length (file_device S.story result).bytes
-            ≡ length (file_device S.story self.entry).bytes }
+        ensures size { length (file_device S.story result).bytes ≡ length (file_device S.story self.entry).bytes }
     {
         self.told = Some(to);
         self
@@ -312,14 +309,11 @@ impl<R: Files<File = fs::File> + Clock, S: Stories> Disk for FileOf<'_, R, S> {
 
     ghost clock = { λ f. length f.calls.items };
 
-    ghost might_have_left = { λ f t b.
-        LeftSince f.len (story_of S.story f) f.calls.items t b };
+    ghost might_have_left = { λ f t b. LeftSince f.len (story_of S.story f) f.calls.items t b };
 
-    ghost counts_now = { λ f t b h le now.
-        counts_now f.len (story_of S.story f) f.calls.items t b le now };
+    ghost counts_now = { λ f t b h le now. counts_now f.len (story_of S.story f) f.calls.items t b le now };
 
-    ghost only_now = { λ f b h left.
-        only_now f.len (story_of S.story f) f.calls.items b left };
+    ghost only_now = { λ f b h left. only_now f.len (story_of S.story f) f.calls.items b left };
 
     fn len(&self) -> u64 {
         self.len

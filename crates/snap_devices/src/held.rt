@@ -105,8 +105,7 @@ impl Disk for Held {
 
     ghost counts_now = { λ m t b h le now. inl (le, now) };
 
-    ghost only_now = { λ m b h left.
-        only_left_now (memory_device m.disk) m.disk.past.items b left };
+    ghost only_now = { λ m b h left. only_left_now (memory_device m.disk) m.disk.past.items b left };
 
     fn len(&self) -> u64 {
         self.disk.len()
@@ -127,8 +126,7 @@ impl Disk for Held {
         ensures turns { held_turns self.new ≡ held_turns self.old }
         ensures waits { held_waited self.old ≡ None → (waited : Waited)
             × (held_waited self.new ≡ Some waited) × IsWait (held_turns self.old) waited }
-        ensures waits_once { IsSome (held_waited self.old)
-            → held_waited self.new ≡ held_waited self.old }
+        ensures waits_once { IsSome (held_waited self.old) → held_waited self.new ≡ held_waited self.old }
         ensures fails { IsErr result ↔ IsSome (next_fill (held_disk self.old)) }
         ensures count { CountsFailure result (memory_failures (held_disk self.old))
             (memory_failures (held_disk self.new)) }

@@ -49,8 +49,7 @@ impl MemDisk {
     pub fn zeroed(alloc: Global, len: usize) -> Result<MemDisk, AllocError>
         ensures bytes { IfOk result (λ disk. (memory_device disk).bytes ≡ replicate len 0) }
         ensures settled { IfOk result (λ disk. IsSettled (memory_device disk)) }
-        ensures plan { IfOk result (λ disk. (call : _)
-            → planned_fill (memory_plan disk) call ≡ None) }
+        ensures plan { IfOk result (λ disk. (call : _) → planned_fill (memory_plan disk) call ≡ None) }
         ensures calls { IfOk result (λ disk. memory_calls disk ≡ 0) }
         ensures failures { IfOk result (λ disk. memory_failures disk ≡ 0) }
     {
@@ -138,14 +137,12 @@ impl Disk for MemDisk {
         ensures plan { memory_plan self.new ≡ memory_plan self.old }
         ensures fails { IsErr result ↔ IsSome (next_fill self.old) }
         ensures count { CountsFailure result (memory_failures self.old) (memory_failures self.new) }
-        ensures size { length (memory_device self.new).bytes
-            ≡ length (memory_device self.old).bytes }
+        ensures size { length (memory_device self.new).bytes ≡ length (memory_device self.old).bytes }
         ensures clock { memory_clock self.new ≡ memory_clock self.old + 1 }
         ensures time { Elapses (memory_clock self.old) (memory_clock self.new)
             (memory_left self.old) (memory_left self.new) (memory_device self.new) }
         ensures left { IsUnchanged (memory_device self.old) (memory_device self.new) }
-        ensures given { OnOk result
-            (buf.new ≡ part at (length buf.old) (memory_device self.old).bytes) }
+        ensures given { OnOk result (buf.new ≡ part at (length buf.old) (memory_device self.old).bytes) }
     {
         self.calls = self.calls.saturating_add(1);
         self.past = self.past.and(slice::from_ref(&self.image));
@@ -169,15 +166,12 @@ impl Disk for MemDisk {
             (in_range at (length bytes.now))
             (memory_device self.old).bytes (memory_device self.new).bytes) }
         ensures count { CountsFailure result (memory_failures self.old) (memory_failures self.new) }
-        ensures size { length (memory_device self.new).bytes
-            ≡ length (memory_device self.old).bytes }
+        ensures size { length (memory_device self.new).bytes ≡ length (memory_device self.old).bytes }
         ensures clock { memory_clock self.new ≡ memory_clock self.old + 1 }
         ensures time { Elapses (memory_clock self.old) (memory_clock self.new)
             (memory_left self.old) (memory_left self.new) (memory_device self.new) }
-        ensures left { IsTouched at (length bytes.now)
-            (memory_device self.old) (memory_device self.new) }
-        ensures stands { OnOk result
-            (part at (length bytes.now) (memory_device self.new).bytes ≡ bytes.now) }
+        ensures left { IsTouched at (length bytes.now) (memory_device self.old) (memory_device self.new) }
+        ensures stands { OnOk result (part at (length bytes.now) (memory_device self.new).bytes ≡ bytes.now) }
     {
         self.calls = self.calls.saturating_add(1);
         self.past = self.past.and(slice::from_ref(&self.image));
@@ -204,14 +198,12 @@ impl Disk for MemDisk {
             (memory_device self.old).is_open
             (memory_device self.old).bytes (memory_device self.new).bytes) }
         ensures count { CountsFailure result (memory_failures self.old) (memory_failures self.new) }
-        ensures size { length (memory_device self.new).bytes
-            ≡ length (memory_device self.old).bytes }
+        ensures size { length (memory_device self.new).bytes ≡ length (memory_device self.old).bytes }
         ensures clock { memory_clock self.new ≡ memory_clock self.old + 1 }
         ensures time { Elapses (memory_clock self.old) (memory_clock self.new)
             (memory_left self.old) (memory_left self.new) (memory_device self.new) }
         ensures synced { OnOk result (IsSynced (memory_device self.old) (memory_device self.new)) }
-        ensures unsynced { OnErr result
-            (IsUnsynced (memory_device self.old) (memory_device self.new)) }
+        ensures unsynced { OnErr result (IsUnsynced (memory_device self.old) (memory_device self.new)) }
     {
         self.calls = self.calls.saturating_add(1);
         self.past = self.past.and(slice::from_ref(&self.image));

@@ -71,13 +71,11 @@ impl Disk for Noise {
         requires within { at + length buf.old ≤ length (noise_device self.old).bytes }
         ensures never_fails { result ≡ Ok tt }
         ensures count { CountsFailure result 0 0 }
-        ensures size { length (noise_device self.new).bytes
-            ≡ length (noise_device self.old).bytes }
+        ensures size { length (noise_device self.new).bytes ≡ length (noise_device self.old).bytes }
         ensures clock { noise_clock self.new ≡ noise_clock self.old + 1 }
         ensures drawn { (i : ℕ) → i < length buf.old
             → slice_index buf.new i ≡ noise_byte ((noise_drawn self.old + i) % 2 ^ 64) }
-        ensures next { noise_drawn self.new
-            ≡ (noise_drawn self.old + length buf.old) % 2 ^ 64 }
+        ensures next { noise_drawn self.new ≡ (noise_drawn self.old + length buf.old) % 2 ^ 64 }
     {
         for k in 0..buf.len() {
             buf[k] = draw(self.drawn.wrapping_add(k as u64));

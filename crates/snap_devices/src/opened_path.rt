@@ -14,9 +14,8 @@ use std::path::Path;
 use std::rt::{Clock, Files};
 use std::time::Instant;
 
-/// How long a check of the name is valid while its folder is unchanged, in seconds. If a file system
-/// doesn't report a change of the folder, or another folder was mounted over it, a moved file is found
-/// this much later.
+/// How long a check of the name is valid while its folder is unchanged, in seconds. If a file system doesn't report a
+/// change of the folder, or another folder was mounted over it, a moved file is found this much later.
 const CHECK_COUNTS: u64 = 1;
 
 /// How long a folder has to have had its time before each later change gives it another one, in

@@ -8,7 +8,6 @@ pub record LeavesOnly {D : Type 0} (disk : Disk.Ghosts D) (old new : D) (P : Lis
     : Type 0 where
   pub later : disk.clock old ≤ disk.clock new
   pub each : (b : List ℕ) → disk.might_have_left new (disk.clock old) b → P b
-  -- bytes that a crash since an earlier time t might have left could already be left before, or
-  -- have P
+  -- bytes that a crash since an earlier time t might have left could already be left before, or have P
   pub before : (t : ℕ) (b : List ℕ) → t ≤ disk.clock old → disk.might_have_left new t b
       → disk.might_have_left old t b ⊎ P b

@@ -12,8 +12,7 @@ use Rattle.snap_order.specs.declared.status.Status.TheVariants as status
 
 -- ---- what the file was
 
--- no value can be read from the slot but that of a fresh file: it is closed, or bad, or open with number
--- 0 and no byte
+-- no value can be read from the slot but that of a fresh file: it is closed, or bad, or open with number 0 and no byte
 abbrev pub IsEmptySlot : Slot → Type 0
 IsEmptySlot Closed = Unit {0}
 IsEmptySlot (Open k n) = (k ≡ 0) × (n ≡ 0)

@@ -51,8 +51,7 @@ pub fn act<D: Disk, R: Read, W: Write>(
         result.1 }
 
     // A refusal leaves what was there.
-    ensures keeps { OrderKeeps order.now (result.0 ≡ disk) (LeavesNoMore D.Disk disk result.0)
-        result.1 }
+    ensures keeps { OrderKeeps order.now (result.0 ≡ disk) (LeavesNoMore D.Disk disk result.0) result.1 }
 
     // A device of another length is left untouched.
     ensures wrong_length { length (D.device disk).bytes ≢ FILE_LEN → result.0 ≡ disk }
@@ -93,13 +92,10 @@ pub(crate) fn format_file<D: Disk, W: Write>(
     requires headroom { D.failure_count disk.old < 2 ^ 64 - 1 }
     ensures honest { D.is_honest disk.new → D.is_honest disk.old }
     ensures count { CountsEnd result (D.failure_count disk.old) (D.failure_count disk.new) }
-    ensures ends { EndsMaking (D.is_honest disk.new) index count 0 [] (D.device disk.old)
-        (D.device disk.new) result }
-    ensures keeps { MakingKeeps (disk.new ≡ disk.old)
-        (LeavesNoMore D.Disk disk.old disk.new) result }
+    ensures ends { EndsMaking (D.is_honest disk.new) index count 0 [] (D.device disk.old) (D.device disk.new) result }
+    ensures keeps { MakingKeeps (disk.new ≡ disk.old) (LeavesNoMore D.Disk disk.old disk.new) result }
     ensures wrong_length { length (D.device disk.old).bytes ≢ FILE_LEN → disk.new ≡ disk.old }
-    ensures any_time { AnyCrashLeaves D.Disk disk.old disk.new
-        (IsFresh index count (D.device disk.old)) }
+    ensures any_time { AnyCrashLeaves D.Disk disk.old disk.new (IsFresh index count (D.device disk.old)) }
 {
     // The line is made first, so that the file stays as it is if memory runs out.
     let line = format!(in alloc; "formatted {index} of {count}\n")?;
@@ -127,8 +123,7 @@ fn put<D: Disk, R: Read, W: Write>(
     ensures ends { EndsPut (D.is_honest result.0) index count (R.remaining reader.old)
         (D.device disk) (D.device result.0) (W.contents writer.old) (W.contents writer.new)
         result.1 }
-    ensures keeps { PutKeeps (result.0 ≡ disk)
-        (LeavesNoMore D.Disk disk result.0) result.1 }
+    ensures keeps { PutKeeps (result.0 ≡ disk) (LeavesNoMore D.Disk disk result.0) result.1 }
     ensures wrong_length { length (D.device disk).bytes ≢ FILE_LEN → result.0 ≡ disk }
     ensures any_time { AnyCrashLeaves D.Disk disk result.0
         (PutLeaves index count (R.remaining reader.old) (D.device disk)) }
@@ -160,8 +155,7 @@ fn store<D: Disk, W: Write>(
     requires unfenced { segment.old.begun ≡ None }
     requires fits { IsShort value.now }
     ensures honest { D.is_honest segment.new.device → D.is_honest segment.old.device }
-    ensures count { CountsEnd result (D.failure_count segment.old.device)
-        (D.failure_count segment.new.device) }
+    ensures count { CountsEnd result (D.failure_count segment.old.device) (D.failure_count segment.new.device) }
 
     // The end is true of each file that held what the segment holds.
     ensures ends { (file : Device) → (D.is_honest segment.old.device → IsFileOf segment.old.index

@@ -1,8 +1,7 @@
 //! Dumps: all values of a server or its files at one moment, as a JSON document with a checksum.
 //!
-//! [`document`] writes a dump. [`read`] accepts exactly what `document` writes, to the byte, so it
-//! refuses a document that was cut off or changed in one byte. `specs/Document.antt` has its text.
-//! No file and no server is used here.
+//! [`document`] writes a dump. [`read`] accepts exactly what `document` writes, to the byte, so it refuses a document
+//! that was cut off or changed in one byte. `specs/Document.antt` has its text. No file and no server is used here.
 
 mod fault;
 mod parse;

@@ -1,5 +1,4 @@
-//! Makes the file of one segment of a folder, or leaves it if it is whole: what `init` does with each
-//! of its files.
+//! Makes the file of one segment of a folder, or leaves it if it is whole: what `init` does with each of its files.
 //!
 //! So `init` can be run again, also after a crash. The command `format` takes any file without an open header. `init`
 //! doesn't touch a file that has lost its header and still has a value, since nobody checks each file of a folder
@@ -45,8 +44,7 @@ pub fn found<D: Disk, W: Write>(
     ensures count { CountsEnd result.1 (D.failure_count disk) (D.failure_count result.0) }
 
     // The end says what the file was and is.
-    ensures ends { EndsFounding (D.is_honest result.0) index count (D.device disk)
-        (D.device result.0) result.1 }
+    ensures ends { EndsFounding (D.is_honest result.0) index count (D.device disk) (D.device result.0) result.1 }
 
     // A refusal leaves what was there, unless the device failed; a device of another length is untouched.
     ensures keeps { StoreKeeps (LeavesNoMore D.Disk disk result.0) result.1 }
@@ -73,8 +71,7 @@ fn is_blank<D: Disk>(disk: &mut D) -> Result<bool, Refusal>
     requires { D.failure_count disk.old < 2 ^ 64 - 1 }
     ensures counts { Counts D.Disk result 1 disk.old disk.new }
     ensures says { D.is_honest disk.new → SaysBlank (D.device disk.old).bytes result }
-    ensures unchanged { D.is_honest disk.new
-        → IsUnchanged (D.device disk.old) (D.device disk.new) }
+    ensures unchanged { D.is_honest disk.new → IsUnchanged (D.device disk.old) (D.device disk.new) }
     ensures any_time { LeavesNoMore D.Disk disk.old disk.new }
     ensures wrong_length { length (D.device disk.old).bytes ≢ FILE_LEN
         → (result ≡ Err Refusal.WrongFile) × (disk.new ≡ disk.old) }
@@ -118,8 +115,7 @@ fn keep<D: Disk, W: Write>(
     requires headroom { D.failure_count disk < 2 ^ 64 - 1 }
     ensures honest { D.is_honest result.0 → D.is_honest disk }
     ensures count { CountsEnd result.1 (D.failure_count disk) (D.failure_count result.0) }
-    ensures ends { EndsKeeping (D.is_honest result.0) index count (D.device disk)
-        (D.device result.0) result.1 }
+    ensures ends { EndsKeeping (D.is_honest result.0) index count (D.device disk) (D.device result.0) result.1 }
     ensures any_time { LeavesNoMore D.Disk disk result.0 }
 {
     let segment = match Segment::open(alloc, disk, index, count) {

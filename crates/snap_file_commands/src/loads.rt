@@ -47,16 +47,14 @@ pub fn load<D: Disk, W: Write>(
     ensures count { CountsEnd result (D.failure_count disk.old) (D.failure_count disk.new) }
     ensures ends { EndsMaking (D.is_honest disk.new) of.now.index of.now.count of.now.number
         of.now.value.now (D.device disk.old) (D.device disk.new) result }
-    ensures keeps { MakingKeeps (disk.new ≡ disk.old) (LeavesNoMore D.Disk disk.old disk.new)
-        result }
+    ensures keeps { MakingKeeps (disk.new ≡ disk.old) (LeavesNoMore D.Disk disk.old disk.new) result }
     ensures wrong_length { length (D.device disk.old).bytes ≢ FILE_LEN → disk.new ≡ disk.old }
 
     // A crash at any time leaves what was there, an unformatted file or the whole new one; and of a file
     // that is formatted, only what was there.
     ensures any_time { AnyCrashLeaves D.Disk disk.old disk.new (IsMadeOrLeft of.now.index
         of.now.count of.now.number of.now.value.now (D.device disk.old)) }
-    ensures spared { IsFormatted (D.device disk.old).bytes
-        → LeavesNoMore D.Disk disk.old disk.new }
+    ensures spared { IsFormatted (D.device disk.old).bytes → LeavesNoMore D.Disk disk.old disk.new }
 {
     let (index, count, number) = (of.index, of.count, of.number);
     // The line is made first, so that the file stays as it is if memory runs out.

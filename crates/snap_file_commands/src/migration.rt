@@ -103,16 +103,12 @@ pub fn act_pair<O: Disk, N: Disk, W: Write>(
         (N.is_honest result.1) (O.device old) (N.device new) (N.device result.1) result.2 }
 
     // The old file's bytes are the same, unless its device failed. A refusal leaves what was there.
-    ensures reads { MigrationReads result.2
-        (O.is_honest result.0 → (O.device result.0).bytes ≡ (O.device old).bytes) }
-    ensures keeps { MigrationKeeps result.2 (result.0 ≡ old) (result.1 ≡ new)
-        (LeavesNoMore N.Disk new result.1) }
+    ensures reads { MigrationReads result.2 (O.is_honest result.0 → (O.device result.0).bytes ≡ (O.device old).bytes) }
+    ensures keeps { MigrationKeeps result.2 (result.0 ≡ old) (result.1 ≡ new) (LeavesNoMore N.Disk new result.1) }
 
     // If a length is wrong, both devices are left untouched.
-    ensures wrong_old_length { length (O.device old).bytes ≢ OLD_FILE_LEN
-        → (result.0 ≡ old) × (result.1 ≡ new) }
-    ensures wrong_new_length { length (N.device new).bytes ≢ FILE_LEN
-        → (result.0 ≡ old) × (result.1 ≡ new) }
+    ensures wrong_old_length { length (O.device old).bytes ≢ OLD_FILE_LEN → (result.0 ≡ old) × (result.1 ≡ new) }
+    ensures wrong_new_length { length (N.device new).bytes ≢ FILE_LEN → (result.0 ≡ old) × (result.1 ≡ new) }
 
     // A crash at any time leaves of the old file what one before could leave, and of the new one
     // what a migration may leave.

@@ -15,8 +15,7 @@ pub struct SegmentPlace {
     pub count: u8,
 }
 
-/// Why the files of a folder are not the segments of one server. A file is named by its index in the list
-/// of files.
+/// Why the files of a folder are not the segments of one server. A file is named by its index in the list of files.
 #[derive(Clone, Copy, Debug, PartialEq, Eq)]
 pub enum FolderFault {
     /// There is no file.
@@ -90,8 +89,7 @@ fn seat_files(
     count: u8,
 ) -> Result<Vec<Option<usize>>, FolderFault>
     requires { All (IsOneOf count) places.now }
-    ensures seats { IfOk result (λ seats. IsSeating places.now count (length places.now)
-        seats.items) }
+    ensures seats { IfOk result (λ seats. IsSeating places.now count (length places.now) seats.items) }
     ensures fault { IfErr result (IsFaultOf places.now) }
 {
     let mut seats = vec![in alloc; None; usize::from(count)]?;

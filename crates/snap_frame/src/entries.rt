@@ -26,8 +26,7 @@ const STATUS_LEN: usize = 9;
 /// Reads the number and the length at the start of a value's entry.
 fn value_head(bytes: &[u8]) -> (u64, u32)
     requires { 12 ≤ length bytes.now }
-    ensures { bytes.now ≡ to_be_bytes w64 result.0
-        ++ (to_be_bytes w32 result.1 ++ drop 12 bytes.now) }
+    ensures { bytes.now ≡ to_be_bytes w64 result.0 ++ (to_be_bytes w32 result.1 ++ drop 12 bytes.now) }
 {
     (first_u64(bytes), first_u32(&bytes[8..]))
 }

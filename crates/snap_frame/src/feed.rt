@@ -62,16 +62,13 @@ impl Feed {
     /// - `NoMemory` if memory runs out: the feed has failed.
     pub fn next(&mut self) -> Result<Option<Request>, Refusal>
         // A feed that has failed says so again.
-        ensures failed { IfSome self.old.failure (λ f. (result ≡ Err (refusal_of f))
-            × (self.new ≡ self.old)) }
+        ensures failed { IfSome self.old.failure (λ f. (result ≡ Err (refusal_of f)) × (self.new ≡ self.old)) }
         // The result, and what is left.
         ensures next { self.old.failure ≡ None → IsNextRequest self.old.bytes result self.new }
         // None exactly if the bytes begin with neither a whole frame nor a length above the limit.
-        ensures none { self.old.failure ≡ None
-            → (result ≡ Ok None ↔ IsPartial self.old.bytes) }
+        ensures none { self.old.failure ≡ None → (result ≡ Ok None ↔ IsPartial self.old.bytes) }
         // `TooLarge` exactly if they begin with such a length.
-        ensures too_large { self.old.failure ≡ None
-            → (result ≡ Err Refusal.TooLarge ↔ HasLongLength self.old.bytes) }
+        ensures too_large { self.old.failure ≡ None → (result ≡ Err Refusal.TooLarge ↔ HasLongLength self.old.bytes) }
         // A malformed frame is refused as one, unless memory runs out.
         ensures malformed { (x rest : List ℕ) → self.old.failure ≡ None
             → HasFrame self.old.bytes x rest → Malformed x

@@ -12,9 +12,8 @@ pub const MAX_PAYLOAD: usize = 66_000;
 /// The bytes of a payload's length before it.
 const HEAD_LEN: usize = 4;
 
-/// Appends the length of a payload to the buffer, and reserves room for the payload, so that no
-/// later step can fail. If memory runs out the buffer's bytes are unchanged. No memory is asked for
-/// if there is room for all of it.
+/// Appends the length of a payload to the buffer, and reserves room for the payload, so that no later step can fail. If
+/// memory runs out the buffer's bytes are unchanged. No memory is asked for if there is room for all of it.
 pub(crate) fn start_frame(payload_len: usize, out: &mut BytesMut) -> Result<(), AllocError>
     requires { payload_len ≤ max_payload }
     ensures head { OnOk result (out.new.items ≡ out.old.items ++ to_be_bytes w32 payload_len) }

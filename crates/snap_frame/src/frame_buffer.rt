@@ -117,8 +117,7 @@ fn next_payload(
     bytes: &mut BytesMut,
 ) -> Result<Option<BytesMut>, Failure>
     requires { Ready codec.old }
-    ensures found { Found (pending codec.old bytes.old.items) result
-        (pending codec.new bytes.new.items) }
+    ensures found { Found (pending codec.old bytes.old.items) result (pending codec.new bytes.new.items) }
     ensures ready { OnOk result (Ready codec.new) }
 {
     let _ = all_bytes(bytes);

@@ -22,8 +22,7 @@ pub(crate) trait Entry {
 
     /// Takes the first entry off, or returns `None` if the bytes don't begin with one.
     fn take_first(rest: &mut Bytes) -> Result<Option<Self>, AllocError>
-        ensures some { IfOk result (λ o. IfSome o (λ e. Self.may_stand e
-            × (rest.old ≡ Self.bytes e ++ rest.new))) }
+        ensures some { IfOk result (λ o. IfSome o (λ e. Self.may_stand e × (rest.old ≡ Self.bytes e ++ rest.new))) }
         ensures none { IfOk result (λ o. IfNone o ((e : Self) → (tail : List ℕ)
             → Self.may_stand e → rest.old ≡ Self.bytes e ++ tail → ⊥)) };
 

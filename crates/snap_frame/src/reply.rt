@@ -28,8 +28,7 @@ pub enum Reply {
     /// The segments that were asked for, at one moment, in ascending order, 1 to
     /// [`MAX_COUNT`](snap_history::MAX_COUNT) of them.
     Part(Vec<NamedValue>),
-    /// Refused for this reason. `detail` is a number that depends on the reason, such as the
-    /// segment's number.
+    /// Refused for this reason. `detail` is a number that depends on the reason, such as the segment's number.
     Refused { why: Refusal, detail: u64 },
 }
 

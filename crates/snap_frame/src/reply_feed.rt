@@ -20,8 +20,7 @@ pub enum ReplyFault {
 
 /// Takes the pieces of a stream as they arrive, and returns the replies of its frames.
 ///
-/// It holds the bytes that arrived and weren't taken off. Once it has failed every call returns the
-/// same fault.
+/// It holds the bytes that arrived and weren't taken off. Once it has failed every call returns the same fault.
 #[derive(Drop)]
 pub struct ReplyFeed {
     frames: FrameBuffer,
@@ -65,13 +64,11 @@ impl ReplyFeed {
     /// The other faults are those of [`Feed::next`](crate::Feed::next).
     pub fn next(&mut self) -> Result<Option<Reply>, ReplyFault>
         // A feed that has failed says so again.
-        ensures failed { IfSome self.old.failure (λ f. (result ≡ Err (ReplyFault.Failed f))
-            × (self.new ≡ self.old)) }
+        ensures failed { IfSome self.old.failure (λ f. (result ≡ Err (ReplyFault.Failed f)) × (self.new ≡ self.old)) }
         // The result, and what is left.
         ensures next { self.old.failure ≡ None → IsNextReply self.old.bytes result self.new }
         // None exactly if the bytes begin with neither a whole frame nor a length above the limit.
-        ensures none { self.old.failure ≡ None
-            → (result ≡ Ok None ↔ IsPartial self.old.bytes) }
+        ensures none { self.old.failure ≡ None → (result ≡ Ok None ↔ IsPartial self.old.bytes) }
         // A failure as `TooLarge` exactly if they begin with such a length.
         ensures too_large { self.old.failure ≡ None
             → (result ≡ Err (ReplyFault.Failed Failure.TooLarge) ↔ HasLongLength self.old.bytes) }

@@ -101,10 +101,9 @@ pub(crate) fn read_request(mut payload: BytesMut) -> Result<Option<Request>, All
 
 /// Appends the frame of a request to the buffer.
 ///
-/// The payload has at most [`MAX_PAYLOAD`] bytes, so an update's value at most
-/// [`MAX_UPDATE_VALUE`], and a scan of some segments names at least one. The only error is
-/// [`Refusal::NoMemory`], and then the buffer's bytes are unchanged. There is none if the buffer
-/// has room for the frame.
+/// The payload has at most [`MAX_PAYLOAD`] bytes, so an update's value at most [`MAX_UPDATE_VALUE`], and a scan of some
+/// segments names at least one. The only error is [`Refusal::NoMemory`], and then the buffer's bytes are unchanged.
+/// There is none if the buffer has room for the frame.
 pub fn write_request(request: &Request, out: &mut BytesMut) -> Result<(), Refusal>
     requires fits { length (payload request.now) ≤ max_payload }
     requires askable { IsAskable request.now }

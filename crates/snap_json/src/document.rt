@@ -13,8 +13,7 @@ use std::alloc::{AllocError, Global};
 
 /// The document of a scan: the number and value of each segment, in order.
 pub fn scan_document(alloc: Global, values: &[SegmentValue]) -> Result<Vec<u8>, AllocError>
-    ensures { IfOk result (λ text. text.items
-        ≡ list_text (each_from value_tokens 0 values.now)) }
+    ensures { IfOk result (λ text. text.items ≡ list_text (each_from value_tokens 0 values.now)) }
 {
     let mut writer = begin_list(alloc)?;
     put_values(alloc, &mut writer, values)?;
@@ -32,8 +31,7 @@ pub fn part_document(alloc: Global, values: &[NamedValue]) -> Result<Vec<u8>, Al
 
 /// The document of a status: the number of each segment, in order, and whether it is fenced.
 pub fn status_document(alloc: Global, statuses: &[SegmentStatus]) -> Result<Vec<u8>, AllocError>
-    ensures { IfOk result (λ text. text.items
-        ≡ list_text (each_from status_tokens 0 statuses.now)) }
+    ensures { IfOk result (λ text. text.items ≡ list_text (each_from status_tokens 0 statuses.now)) }
 {
     let mut writer = begin_list(alloc)?;
     put_statuses(&mut writer, statuses)?;
@@ -102,8 +100,7 @@ fn begin_health(alloc: Global, is_healthy: bool) -> Result<Writer, AllocError>
 
 /// Appends an object for each segment's value.
 fn put_values(alloc: Global, writer: &mut Writer, values: &[SegmentValue]) -> Result<(), AllocError>
-    ensures tokens { OnOk result (writer.new.tokens
-        ≡ writer.old.tokens ++ each_from value_tokens 0 values.now) }
+    ensures tokens { OnOk result (writer.new.tokens ≡ writer.old.tokens ++ each_from value_tokens 0 values.now) }
     ensures before { OnOk result (writer.new.before ≡ writer.old.before) }
 {
     for (index, value) in values.iter().enumerate() {
@@ -114,8 +111,7 @@ fn put_values(alloc: Global, writer: &mut Writer, values: &[SegmentValue]) -> Re
 
 /// Appends an object for each value, with the index of the segment that it names.
 fn put_part(alloc: Global, writer: &mut Writer, values: &[NamedValue]) -> Result<(), AllocError>
-    ensures tokens { OnOk result (writer.new.tokens
-        ≡ writer.old.tokens ++ flat_map named_tokens values.now) }
+    ensures tokens { OnOk result (writer.new.tokens ≡ writer.old.tokens ++ flat_map named_tokens values.now) }
     ensures before { OnOk result (writer.new.before ≡ writer.old.before) }
 {
     for value in values {
@@ -127,8 +123,7 @@ fn put_part(alloc: Global, writer: &mut Writer, values: &[NamedValue]) -> Result
 
 /// Appends an object for each segment's status.
 fn put_statuses(writer: &mut Writer, statuses: &[SegmentStatus]) -> Result<(), AllocError>
-    ensures tokens { OnOk result (writer.new.tokens
-        ≡ writer.old.tokens ++ each_from status_tokens 0 statuses.now) }
+    ensures tokens { OnOk result (writer.new.tokens ≡ writer.old.tokens ++ each_from status_tokens 0 statuses.now) }
     ensures before { OnOk result (writer.new.before ≡ writer.old.before) }
 {
     for (index, status) in statuses.iter().enumerate() {
@@ -139,8 +134,7 @@ fn put_statuses(writer: &mut Writer, statuses: &[SegmentStatus]) -> Result<(), A
 
 /// Appends the index of each segment that is fenced.
 fn put_fences(writer: &mut Writer, statuses: &[SegmentStatus]) -> Result<(), AllocError>
-    ensures tokens { OnOk result (writer.new.tokens
-        ≡ writer.old.tokens ++ each_from fence_tokens 0 statuses.now) }
+    ensures tokens { OnOk result (writer.new.tokens ≡ writer.old.tokens ++ each_from fence_tokens 0 statuses.now) }
     ensures before { OnOk result (writer.new.before ≡ writer.old.before) }
 {
     for (index, status) in statuses.iter().enumerate() {
@@ -151,8 +145,7 @@ fn put_fences(writer: &mut Writer, statuses: &[SegmentStatus]) -> Result<(), All
 
 /// Begins a document with a list of segments.
 fn begin_list(alloc: Global) -> Result<Writer, AllocError>
-    ensures tokens { IfOk result (λ writer. writer.tokens
-        ≡ begin_object ∷ key (codes "segments") ∷ begin_array ∷ []) }
+    ensures tokens { IfOk result (λ writer. writer.tokens ≡ begin_object ∷ key (codes "segments") ∷ begin_array ∷ []) }
     ensures before { IfOk result (λ writer. writer.before ≡ []) }
 {
     let mut writer = Writer::new(Vec::new(alloc));

@@ -7,8 +7,7 @@ use json::Writer;
 use snap_slot::{Findings, Flaw, Header, Slot};
 use std::alloc::{AllocError, Global};
 
-/// The document of a file: its header, and if that is open its slots and the number that a restart
-/// would recover.
+/// The document of a file: its header, and if that is open its slots and the number that a restart would recover.
 pub fn findings_document(alloc: Global, findings: &Findings) -> Result<Vec<u8>, AllocError> {
     let mut writer = Writer::new(Vec::new(alloc));
     writer.begin_object()?;

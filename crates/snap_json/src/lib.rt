@@ -1,9 +1,7 @@
-//! JSON documents of values, statuses, health and files (docs/FORMATS.md, "JSON"), and values as
-//! quoted text.
+//! JSON documents of values, statuses, health and files (docs/FORMATS.md, "JSON"), and values as quoted text.
 //!
-//! Each document is one object on one line. A value is written as text if its bytes are UTF-8, and
-//! else in base64; the name of its member says which. `specs/Documents.antt` has the tokens
-//! of each document but a file's.
+//! Each document is one object on one line. A value is written as text if its bytes are UTF-8, and else in base64; the
+//! name of its member says which. `specs/Documents.antt` has the tokens of each document but a file's.
 #![tactic(auto)]
 
 mod document;

@@ -8,8 +8,7 @@ use json::Writer;
 use snap_frame::SegmentStatus;
 use std::alloc::{AllocError, Global};
 
-/// Appends the object of one segment, as in [`scan_document`](crate::scan_document), without a line
-/// feed.
+/// Appends the object of one segment, as in [`scan_document`](crate::scan_document), without a line feed.
 pub fn append_value(
     alloc: Global,
     text: Vec<u8>,
@@ -17,8 +16,7 @@ pub fn append_value(
     number: u64,
     value: &[u8],
 ) -> Result<Vec<u8>, AllocError>
-    ensures { IfOk result (λ whole. whole.items
-        ≡ text.items ++ print (entry_tokens index number value.now)) }
+    ensures { IfOk result (λ whole. whole.items ≡ text.items ++ print (entry_tokens index number value.now)) }
 {
     let mut writer = Writer::new(text);
     put_value(alloc, &mut writer, index, number, value)?;
@@ -33,8 +31,7 @@ pub(crate) fn put_value(
     number: u64,
     value: &[u8],
 ) -> Result<(), AllocError>
-    ensures tokens { OnOk result (writer.new.tokens
-        ≡ writer.old.tokens ++ entry_tokens index number value.now) }
+    ensures tokens { OnOk result (writer.new.tokens ≡ writer.old.tokens ++ entry_tokens index number value.now) }
     ensures before { writer.new.before ≡ writer.old.before }
 {
     put_head(writer, index, number)?;
@@ -48,8 +45,7 @@ pub(crate) fn put_status(
     index: usize,
     status: &SegmentStatus,
 ) -> Result<(), AllocError>
-    ensures tokens { OnOk result (writer.new.tokens
-        ≡ writer.old.tokens ++ status_tokens index status.now) }
+    ensures tokens { OnOk result (writer.new.tokens ≡ writer.old.tokens ++ status_tokens index status.now) }
     ensures before { writer.new.before ≡ writer.old.before }
 {
     put_head(writer, index, status.number)?;
@@ -64,8 +60,7 @@ pub(crate) fn put_fence(
     index: usize,
     status: &SegmentStatus,
 ) -> Result<(), AllocError>
-    ensures tokens { OnOk result (writer.new.tokens
-        ≡ writer.old.tokens ++ fence_tokens index status.now) }
+    ensures tokens { OnOk result (writer.new.tokens ≡ writer.old.tokens ++ fence_tokens index status.now) }
     ensures before { writer.new.before ≡ writer.old.before }
 {
     if status.is_fenced {
@@ -77,8 +72,7 @@ pub(crate) fn put_fence(
 
 /// Begins the object of one segment.
 fn put_head(writer: &mut Writer, index: usize, number: u64) -> Result<(), AllocError>
-    ensures tokens { OnOk result (writer.new.tokens
-        ≡ writer.old.tokens ++ head_tokens index number) }
+    ensures tokens { OnOk result (writer.new.tokens ≡ writer.old.tokens ++ head_tokens index number) }
     ensures before { writer.new.before ≡ writer.old.before }
 {
     writer.begin_object()?;

@@ -8,9 +8,8 @@ use std::alloc::{AllocError, Global};
 /// The first byte of the control characters that have two bytes, and of others.
 const LEAD: u8 = 194;
 
-/// The value between quotes, as in JSON, if it is printable: UTF-8 without control characters but
-/// tabs and line ends. The result is one line, and has no effect on a terminal. `None` if the value
-/// isn't printable.
+/// The value between quotes, as in JSON, if it is printable: UTF-8 without control characters but tabs and line ends.
+/// The result is one line, and has no effect on a terminal. `None` if the value isn't printable.
 pub fn quote(alloc: Global, value: &[u8]) -> Result<Option<Vec<u8>>, AllocError>
     ensures { IfOk result (λ text. option_map (λ t. t.items) text ≡ quote_of value.now) }
 {

@@ -33,8 +33,7 @@ pub record WasHeard {R W : Type 0} (remaining : R → Option (List ℕ))
   pub asked_is : slice_get asked place ≡ Some q
   pub answer_is : slice_get answers place ≡ Some r
 
--- by this moment of an opening's registers a session had given this reply to its peer, or a client
--- to its caller
+-- by this moment of an opening's registers a session had given this reply to its peer, or a client to its caller
 abbrev pub WasTold : {R W : Type 0} → (R → Option (List ℕ)) → (W → Option (List ℕ)) → Plan
     → List SeatView → Request → Reply → Type 0
 WasTold remaining contents plan views q r = (b : Known) × (b.plan ≡ plan)

@@ -25,10 +25,9 @@ abbrev pub HeardLaw : {R W : Type 0} → (R → Option (List ℕ)) → (W → Op
 HeardLaw remaining contents = (a b : Known) (q : Request) (r : Reply) → IsSendable q → IsInLimits r
     → calls.Answers q r → Answers a q r b → WasAnswered remaining contents b (q ∷ []) (r ∷ [])
 
--- The client's reader gave it these bytes. So for any service: if a session of it took in exactly what
--- the client writes for this request, and these bytes are a beginning of what the session gave out,
--- then the client got this reply over an honest connection. It is so if the reader, where its bytes
--- are known, has what the session gave out.
+-- The client's reader gave it these bytes. So for any service: if a session of it took in exactly what the client
+-- writes for this request, and these bytes are a beginning of what the session gave out, then the client got this reply
+-- over an honest connection. It is so if the reader, where its bytes are known, has what the session gave out.
 pub record HearsFrom {R W : Type 0} (remaining : R → Option (List ℕ)) (contents : W → Option (List ℕ))
     (reader : R) (q : Request) (r : Reply) : Type 0 where
   pub read : List ℕ

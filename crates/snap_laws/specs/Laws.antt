@@ -79,9 +79,8 @@ SessionLaw = (b : Known) (s : SessionUpTo b) (h : List Update) → IsBeginning b
 abbrev pub Begins : List ℕ → List ℕ → Type 0
 Begins early late = (rest : List ℕ) × (late ≡ early ++ rest)
 
--- A connection that neither changes nor loses bytes: the session took in a beginning of what the
--- client handed to its writer, and the client's reader gave it a beginning of what the session gave
--- out.
+-- A connection that neither changes nor loses bytes: the session took in a beginning of what the client handed to its
+-- writer, and the client's reader gave it a beginning of what the session gave out.
 pub record IsHonestConnection (wrote read taken given : List ℕ) : Type 0 where
   pub taken_is : Begins taken wrote
   pub given_is : Begins read given
@@ -93,8 +92,7 @@ abbrev pub Returned : {R W : Type 0} → (R → Option (List ℕ)) → (W → Op
 Returned remaining contents q r read old new = (old.fault ≡ None) × (new.fault ≡ None)
     × (reached : Reaches remaining contents q old (Ok r) new) × (read ≡ reached.0)
 
--- one client made these requests one after another, and got these replies; for each its reader gave
--- it these bytes
+-- one client made these requests one after another, and got these replies; for each its reader gave it these bytes
 abbrev pub Converses : {R W : Type 0} → (R → Option (List ℕ)) → (W → Option (List ℕ))
     → List Request → List Reply → List (List ℕ) → ClientState R W → ClientState R W → Type 0
 Converses remaining contents [] [] [] old new = new ≡ old
@@ -136,11 +134,10 @@ WasSeenIn views seen = (later : List Update) × IsSeenIn views later × IsBeginn
 
 module _ {D R W : Type 0} (disk : Disk.Ghosts D) (remaining : R → Option (List ℕ))
     (contents : W → Option (List ℕ)) where
-  -- Pull the plug: files were opened where an earlier history continues, and a crash of all devices
-  -- comes at a moment of their registers. It is recovered as the memory after the whole history
-  -- since the first start. That history has all that was replied: what any session of this opening
-  -- had replied by then, what any client of such a session had returned to its caller, and all
-  -- earlier replies.
+  -- Pull the plug: files were opened where an earlier history continues, and a crash of all devices comes at a moment
+  -- of their registers. It is recovered as the memory after the whole history since the first start. That history has
+  -- all that was replied: what any session of this opening had replied by then, what any client of such a session had
+  -- returned to its caller, and all earlier replies.
   abbrev pub PlugLaw : Type 0
   PlugLaw = (devices : List D) (writers : List (WriterState D)) (start : Start)
       (before : List Update) (earlier : List (Place D))

@@ -11,8 +11,7 @@ module _ {D : Type 0} (disk : Disk.Ghosts D) where
   abbrev pub IsLeft : ℕ → D → List ℕ → Type 0
   IsLeft i d b = disk.is_honest d × MayLeave (disk.device d) b
 
-  -- there are writers and scanners that had these devices, and what a crash leaves of all devices
-  -- is recovered
+  -- there are writers and scanners that had these devices, and what a crash leaves of all devices is recovered
   pub record IsRecoveredNow (devices : List D) : Type 0 where
     pub plan : Plan
     pub history : List Update

@@ -24,9 +24,8 @@ use snap_writer::{Judgement, Writer};
 use std::alloc::Global;
 use std::io::{Read, Write};
 
-/// Opens all files and closes them. A crash of all devices afterwards is recovered by the law of a
-/// cut. Honest devices then keep the memory of a start, so any number of crashes and starts may
-/// follow.
+/// Opens all files and closes them. A crash of all devices afterwards is recovered by the law of a cut. Honest devices
+/// then keep the memory of a start, so any number of crashes and starts may follow.
 pub fn worked<D: Disk + Drop>(alloc: Global, devices: Vec<D>) -> Result<Vec<D>, Stopped<D>>
     requires count { (0 < length devices.items) × (length devices.items ≤ MAX_COUNT) }
     requires headroom { All (λ d. D.failure_count d < 2 ^ 64 - 1) devices.items }
@@ -44,8 +43,7 @@ pub fn worked<D: Disk + Drop>(alloc: Global, devices: Vec<D>) -> Result<Vec<D>, 
 pub fn open_and_give_back<D: Disk + Drop>(alloc: Global, devices: Vec<D>) -> Vec<D>
     requires count { (0 < length devices.items) × (length devices.items ≤ MAX_COUNT) }
     requires headroom { All (λ d. D.failure_count d < 2 ^ 64 - 1) devices.items }
-    ensures { ComeThrough D.Disk devices.items
-        result.items }
+    ensures { ComeThrough D.Disk devices.items result.items }
 {
     match open_all(alloc, devices, 1) {
         Ok((store, _)) => store.close(),
@@ -58,10 +56,8 @@ pub fn open_and_give_back<D: Disk + Drop>(alloc: Global, devices: Vec<D>) -> Vec
 pub fn reopen<D: Disk + Drop>(alloc: Global, store: Store<D>) -> Result<Store<D>, Stopped<D>>
     requires back { AreBack store.writers.items store.scanners.items }
     requires writers { (plan : Plan) × AreOfOne D.Disk plan store.writers.items }
-    requires headroom { All (λ d. D.failure_count d < 2 ^ 64 - 1)
-        (map (λ w. w.segment.device) store.writers.items) }
-    ensures { IfOk result (λ r. GoOnBehind D.Disk
-        store.writers.items store.scanners.items r.writers.items) }
+    requires headroom { All (λ d. D.failure_count d < 2 ^ 64 - 1) (map (λ w. w.segment.device) store.writers.items) }
+    ensures { IfOk result (λ r. GoOnBehind D.Disk store.writers.items store.scanners.items r.writers.items) }
 {
     match open_all(alloc, store.close(), 1) {
         Ok((store, _)) => Ok(store),
@@ -186,9 +182,8 @@ pub fn put_between<D: Disk, R: Read, W: Write>(
     act(alloc, order, disk, reader, writer)
 }
 
-/// The store of a `put` between two openings, of a file that was opened for it: a crash or a fault at
-/// any time since it began leaves a device with which its being cut off may be appended to whatever
-/// happened to all files before.
+/// The store of a `put` between two openings, of a file that was opened for it: a crash or a fault at any time since it
+/// began leaves a device with which its being cut off may be appended to whatever happened to all files before.
 pub fn store_between<D: Disk>(segment: &mut Segment<D>, value: &[u8]) -> Result<u64, Refusal>
     requires unfenced { segment.old.begun ≡ None }
     requires rests { D.is_honest segment.old.device → IsAtRest segment.old.index
@@ -267,10 +262,9 @@ pub fn migrate_between<O: Disk, N: Disk, W: Write>(
     act_pair(alloc, order, old, new, writer)
 }
 
-/// Registers keep their rule as an opening made them, so a crash may come before anything is shown,
-/// wherever the writers are by then: before their first stores, inside them, or after them. The
-/// files may then be opened again. The plan of the registers has to be ready, as it is wherever
-/// registers are made.
+/// Registers keep their rule as an opening made them, so a crash may come before anything is shown, wherever the
+/// writers are by then: before their first stores, inside them, or after them. The files may then be opened again. The
+/// plan of the registers has to be ready, as it is wherever registers are made.
 pub fn moment_laws<D: Disk>()
     ensures at_once { AtOnceLaw D.Disk }
     ensures over { OverLaw D.Disk }

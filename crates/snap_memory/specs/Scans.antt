@@ -20,9 +20,8 @@ pub record BeginsFresh (before after : Known) (part : List Update) : Type 0 wher
 abbrev pub all_of : Known → ℕ
 all_of seat = 2 ^ segments seat.plan - 1
 
--- the named segments' last looks found the numbers after `part`, a list that begins with what the
--- seat had seen before and at the scan's first look, and that is a beginning of what it has seen
--- afterwards
+-- the named segments' last looks found the numbers after `part`, a list that begins with what the seat had seen before
+-- and at the scan's first look, and that is a beginning of what it has seen afterwards
 pub record IsCleanScan (set : ℕ) (before after : Known) : Type 0 where
   pub part : List Update
   pub begins : IsBeginning before.seen part
@@ -31,9 +30,8 @@ pub record IsCleanScan (set : ℕ) (before after : Known) : Type 0 where
   pub each : (i : ℕ) → i < segments after.plan → Names set i
       → looked after i ≡ Some (number_in after part i)
 
--- the last look at j found an update. Each beginning of what the seat has seen afterwards that
--- lacks only that update of j begins with what the seat had seen before and at the scan's first
--- look
+-- the last look at j found an update. Each beginning of what the seat has seen afterwards that lacks only that update
+-- of j begins with what the seat had seen before and at the scan's first look
 pub record IsBorrowedScan (before after : Known) (j : ℕ) : Type 0 where
   pub inside : j < segments after.plan
   pub found : HasFoundUpdate after j

@@ -99,8 +99,7 @@ impl<'a> Found<'a> {
         requires segment { i < segments (L.known seat.old).plan }
         requires place { HasPlace self i }
         requires found { IsFoundAt (L.known seat.old) self i }
-        ensures value { IfOk result (λ v.
-            IsAnswerable (L.known seat.old) i (number_of self.entry i, v)) }
+        ensures value { IfOk result (λ v. IsAnswerable (L.known seat.old) i (number_of self.entry i, v)) }
         ensures same { L.known seat.new ≡ L.known seat.old }
     {
         match self {
@@ -121,8 +120,7 @@ fn kept_value(kept: &Option<SegmentValue>, number: u64) -> Result<Option<Bytes>,
     }
 }
 
-/// The entry found for segment `i`: from the cache if that has the number, else read and then
-/// cached.
+/// The entry found for segment `i`: from the cache if that has the number, else read and then cached.
 fn take_entry<L: Looker>(
     alloc: Global,
     seat: &mut L,
@@ -149,8 +147,7 @@ fn take_entry<L: Looker>(
     Ok(SegmentValue { number, value })
 }
 
-/// The entries found for the segments in `set`: from the cache if it has the number, else read and
-/// then cached.
+/// The entries found for the segments in `set`: from the cache if it has the number, else read and then cached.
 fn list<L: Looker>(
     alloc: Global,
     seat: &mut L,

@@ -73,13 +73,11 @@ impl Scanner {
         self.seat.looks_left() < most_looks(count) as u64
     }
 
-    /// Fills `out` with the number and the value of each segment, all of one moment. This is the
-    /// memory after a list of updates that begins with all that the scanner had seen before this
-    /// call and with all that was in the history at the first look of this call, and that is a
-    /// beginning of all that the scanner has seen afterwards. Uses up looks.
+    /// Fills `out` with the number and the value of each segment, all of one moment. This is the memory after a list of
+    /// updates that begins with all that the scanner had seen before this call and with all that was in the history at
+    /// the first look of this call, and that is a beginning of all that the scanner has seen afterwards. Uses up looks.
     ///
-    /// Returns `Worn`, and changes nothing, if fewer looks are left than a scan might take
-    /// ([`most_looks`]).
+    /// Returns `Worn`, and changes nothing, if fewer looks are left than a scan might take ([`most_looks`]).
     pub fn scan_into(&mut self, out: &mut Snapshot) -> Result<(), Refusal>
         requires room { length out.old ≡ segments self.old.plan }
         ensures enough { OnOk result (CanScan self.old) }
@@ -104,8 +102,7 @@ impl Scanner {
         requires set { IsSetOf self.old set.bits }
         requires room { length out.old ≡ segments self.old.plan }
         ensures enough { OnOk result (HasLooks (size set.bits) self.old) }
-        ensures worn { IfErr result (λ why. (why ≡ Refusal.Worn)
-            × (self.old.left < most_looks (size set.bits))) }
+        ensures worn { IfErr result (λ why. (why ≡ Refusal.Worn) × (self.old.left < most_looks (size set.bits))) }
         ensures part { OnOk result (HasPart set.bits self.old self.new out.new) }
         ensures others { KeepsOthers set.bits out.old out.new }
         ensures seen { OnOk result (Grows self.old self.new) }
@@ -122,10 +119,9 @@ impl Scanner {
     }
 
     /// The number and the value of each segment in `set`, in ascending order, all of one moment, as
-    /// [`Scanner::scan_some`] gives them, in memory of their own. Values are cached and shared with
-    /// the answer, so a segment whose number hasn't changed isn't read again: a number has one
-    /// value. The looks are always new, so the answer has all that was in the history at the first
-    /// look of this call.
+    /// [`Scanner::scan_some`] gives them, in memory of their own. Values are cached and shared with the answer, so a
+    /// segment whose number hasn't changed isn't read again: a number has one value. The looks are always new, so the
+    /// answer has all that was in the history at the first look of this call.
     ///
     /// `set` names at least one segment, and only existing ones. Errors: `Worn`, with nothing
     /// changed, if fewer looks are left than such a scan might take; `NoMemory` if memory runs out,
@@ -134,8 +130,7 @@ impl Scanner {
         requires set { IsSetOf self.old set.bits }
         ensures enough { OnOk result (HasLooks (size set.bits) self.old) }
         ensures refused { IfErr result (λ why. MayRefuse (size set.bits) self.old why self.new) }
-        ensures part { IfOk result (λ values.
-            IsPart set.bits self.old self.new (map pair_of values.items)) }
+        ensures part { IfOk result (λ values. IsPart set.bits self.old self.new (map pair_of values.items)) }
         ensures short { IfOk result (λ values. All (λ v. IsShort v.value) values.items) }
         ensures seen { OnOk result (Grows self.old self.new) }
         ensures below { OnOk result (IsBelow self.new) }
@@ -159,8 +154,7 @@ impl Scanner {
         }
     }
 
-    /// One look: returns the number of segment `j` and the length of its value, which is at the
-    /// front of `value`.
+    /// One look: returns the number of segment `j` and the length of its value, which is at the front of `value`.
     pub fn read_one(&mut self, j: usize, value: &mut [u8; MAX_VALUE_LEN]) -> (u64, usize)
         requires segment { j < segments self.old.plan }
         requires left { 0 < self.old.left }

@@ -31,8 +31,7 @@ IsFileWithinLimits (Slot file slot) = slot < SLOT_COUNT
 abbrev pub IsOneTo : ℕ → ℕ → Type 0
 IsOneTo most n = (1 ≤ n) × (n ≤ most)
 
--- its addresses and scanners are at least one and within their limits, and so is each limit that is
--- given
+-- its addresses and scanners are at least one and within their limits, and so is each limit that is given
 pub record KeepsLimits (s : ServeOptions) : Type 0 where
   pub addresses : IsOneTo MAX_ADDRESSES (length s.addresses.items)
   pub mode : s.socket_mode ≤ MODE_BITS

@@ -45,8 +45,7 @@ pub enum Order<'a> {
     Script,
 }
 
-/// A command on one file. `index` and `count` are the place of the file's segment among those of
-/// its server.
+/// A command on one file. `index` and `count` are the place of the file's segment among those of its server.
 #[derive(Clone, Copy)]
 pub enum FileOrder<'a> {
     /// Make and format the file.
@@ -57,8 +56,7 @@ pub enum FileOrder<'a> {
     Get { file: &'a str, index: u8, count: u8 },
     /// Show what the file holds, slot by slot: in lines, or as one JSON document.
     Check { file: &'a str, is_json: bool },
-    /// Print the value of one slot, whatever the others hold. `slot` is less than
-    /// [`snap_slot::SLOT_COUNT`].
+    /// Print the value of one slot, whatever the others hold. `slot` is less than [`snap_slot::SLOT_COUNT`].
     Slot { file: &'a str, slot: u8 },
 }
 
@@ -95,11 +93,9 @@ pub struct DoctorOptions<'a> {
 /// Serves the segments of some files to clients that connect.
 #[derive(Drop)]
 pub struct ServeOptions<'a> {
-    /// The addresses that it listens at, in order: 1 to [`MAX_ADDRESSES`] texts, which the system
-    /// may refuse.
+    /// The addresses that it listens at, in order: 1 to [`MAX_ADDRESSES`] texts, which the system may refuse.
     pub addresses: Vec<&'a str>,
-    /// The mode of each Unix socket's file, which says which users may connect. Only [`MODE_BITS`]
-    /// are set.
+    /// The mode of each Unix socket's file, which says which users may connect. Only [`MODE_BITS`] are set.
     pub socket_mode: u16,
     /// The path of each segment's file, in order of segment: 1 to 16.
     pub files: Vec<&'a str>,
@@ -107,21 +103,18 @@ pub struct ServeOptions<'a> {
     pub scanners: u8,
     /// The number of connections after which it stops; `None` if it serves without end.
     pub connections: Option<u64>,
-    /// The most connections that are open at once: 1 to [`MAX_CLIENTS`]. `None` for as many as the
-    /// process may open.
+    /// The most connections that are open at once: 1 to [`MAX_CLIENTS`]. `None` for as many as the process may open.
     pub clients: Option<u32>,
     /// The idle timeout in seconds, 1 to [`MAX_IDLE`]: it closes a connection that has been silent
     /// for that long, unless a request of it is still being answered. `None` if it closes none.
     pub idle: Option<u32>,
     /// The level of its log, on standard error.
     pub log: Level,
-    /// The address for HTTP, for browsers and monitors, as text that the system may refuse. `None`
-    /// without HTTP.
+    /// The address for HTTP, for browsers and monitors, as text that the system may refuse. `None` without HTTP.
     pub http: Option<&'a str>,
 }
 
-/// The level of a log's line. A log of one level also has the lines of the levels above it in this
-/// list.
+/// The level of a log's line. A log of one level also has the lines of the levels above it in this list.
 #[derive(Clone, Copy)]
 pub enum Level {
     /// An operator has to act.
@@ -160,8 +153,7 @@ pub struct CallOptions<'a> {
     /// For how many seconds it connects again while it has no reply: 1 to [`MAX_TIMEOUT`]. `None`
     /// if only `tries` limits it.
     pub wait: Option<u32>,
-    /// The timeout in seconds of all tries together: 1 to [`MAX_TIMEOUT`]. `None` without a
-    /// timeout.
+    /// The timeout in seconds of all tries together: 1 to [`MAX_TIMEOUT`]. `None` without a timeout.
     pub timeout: Option<u32>,
     /// The format of the reply to a read.
     pub layout: OutputFormat,
@@ -227,8 +219,7 @@ pub enum CallRequest {
     Request(Request),
     /// Ask for the status, to find out whether a segment is fenced. The exit status says so too.
     Health,
-    /// Scan this segment alone, and print its value, byte for byte. It is less than
-    /// [`snap_history::MAX_COUNT`].
+    /// Scan this segment alone, and print its value, byte for byte. It is less than [`snap_history::MAX_COUNT`].
     Get { segment: u8 },
     /// Store a value as a segment's next number.
     Put(PutOptions),

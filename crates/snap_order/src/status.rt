@@ -35,7 +35,6 @@ impl Status {
 pub struct Exit {
     /// The exit status of the program.
     pub status: Status,
-    /// Whether standard error took the whole line that says why the command failed; true if it has
-    /// no such line.
+    /// Whether standard error took the whole line that says why the command failed; true if it has no such line.
     pub is_told: bool,
 }

@@ -21,9 +21,8 @@ ClosingSharesTheSync = (i n k : ℕ) (u : List ℕ) (d : Device) → IsAtRest i 
     (opened (gate_at (next_slot (slot_of (k + 1)))) 1 d)) b
     → IsFileOf i n k u b
 
--- The first sync has made both durable. Now only the new gate may hold any byte, and it decides: if
--- it is open the file holds number k + 1, with number k in the spare slot and the next slot closed;
--- else the file holds number k.
+-- The first sync has made both durable. Now only the new gate may hold any byte, and it decides: if it is open the file
+-- holds number k + 1, with number k in the spare slot and the next slot closed; else the file holds number k.
 abbrev pub OneGateDecides : Type 0
 OneGateDecides = (i n k : ℕ) (u v : List ℕ) → IsNumber (k + 1) → IsShort v → (d : Device)
     → IsBodyStored i n k u v d

@@ -1,5 +1,4 @@
--- All writers and scanners of one opening, what they have seen, and what their devices hold after
--- they are closed.
+-- All writers and scanners of one opening, what they have seen, and what their devices hold after they are closed.
 use Rattle.std.specs.Prelude.{◌≡◌, ℕ, ◌+◌, ◌<◌, ◌≤◌, List, length, slice_get, Some}
 use Rattle.snap_register.specs.Seat.{Known, Grows, number_in, value_in}
 use Rattle.snap_register.specs.{Registers.RegistersId, declared.plan.Plan.Plan, Rule.segments}
@@ -38,9 +37,8 @@ pub record IsHistory {D : Type 0} (h : List Update) (writers : List (WriterState
       → IsBeginning w.seat.seen h × (updates_of i h ≡ updates_of i w.seat.seen)
   pub scanners_saw : (k : ℕ) (b : Known) → slice_get scanners k ≡ Some b → IsBeginning b.seen h
 
--- the writer of segment i ended with the number and value that the history has, and its device
--- holds them: no place is open, or after a failed store a crash leaves these or the next number
--- with the value that was begun
+-- the writer of segment i ended with the number and value that the history has, and its device holds them: no place is
+-- open, or after a failed store a crash leaves these or the next number with the value that was begun
 pub record HoldsAfter {D : Type 0} (disk : Disk.Ghosts D) (h : List Update)
     (i : ℕ) (w : WriterState D) : Type 0 where
   pub number_is : w.segment.number ≡ number_in w.seat h i

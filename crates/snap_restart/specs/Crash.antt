@@ -33,8 +33,7 @@ module _ {D : Type 0} (disk : Disk.Ghosts D) where
       → IsBeginning (updates v.seen) (updates kept.history))
       × IsRecovered (length writers) (starts plan) (updates kept.history) (Begun places) files
 
-  -- AnyMoment, from an earlier start, after which these writers began with the memory after the
-  -- base
+  -- AnyMoment, from an earlier start, after which these writers began with the memory after the base
   abbrev pub AnyMomentAfter : Plan → Start → List Update → List (WriterState D) → Type 0
   AnyMomentAfter plan start base writers = (s : Moment) (kept : Kept plan s)
       (places : List (Place D)) (files : List (List ℕ)) → length places ≡ length writers
@@ -43,9 +42,8 @@ module _ {D : Type 0} (disk : Disk.Ghosts D) where
       → Pairs (λ _. CrashLeaves disk) places files
       → IsRecovered (length writers) start (base ++ updates kept.history) (Begun places) files
 
-  -- The history continues across a crash: the writers begin with the memory after it and then some
-  -- of the updates begun at the crash, at most one of each segment; what they show comes after
-  -- these.
+  -- The history continues across a crash: the writers begin with the memory after it and then some of the updates begun
+  -- at the crash, at most one of each segment; what they show comes after these.
   pub record GoesOn (plan : Plan) (start : Start) (h : List Update) (crashed : List (Place D))
       (writers : List (WriterState D)) : Type 0 where
     pub more : List Update

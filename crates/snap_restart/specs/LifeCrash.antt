@@ -40,8 +40,7 @@ pub record IsRecovered (n : ℕ) (start : Start) (h : List Update) (begun : ℕ 
       → IsFileOf i n (number_after start (h ++ begun_too) i)
       (value_after start (h ++ begun_too) i) b
 
--- whatever a crash leaves of these devices is the memory after the history and then some begun
--- updates
+-- whatever a crash leaves of these devices is the memory after the history and then some begun updates
 abbrev pub KeepMemory : {D : Type 0} → Disk.Ghosts D → ℕ → Start → List Update
     → (ℕ → List ℕ → Type 0) → List D → Type 0
 KeepMemory disk n start h begun devices = (files : List (List ℕ))

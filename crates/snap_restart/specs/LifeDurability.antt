@@ -15,9 +15,8 @@ Gave k v w = ((k ≡ w.segment.number) × (v ≡ w.segment.value))
 abbrev pub Once : {D : Type 0} → List (WriterState D) → (WriterState D → Type 0) → Type 0
 Once {D} life P = (j : ℕ) × (w : WriterState D) × (slice_get life j ≡ Some w) × P w
 
--- The bytes are the file of segment i of n, and nothing is lost that the writer had stored when it
--- was at a: they hold the number and value stored then, or a later number with the value that the
--- writer gave it in its life since.
+-- The bytes are the file of segment i of n, and nothing is lost that the writer had stored when it was at a: they hold
+-- the number and value stored then, or a later number with the value that the writer gave it in its life since.
 pub record Keeps {D : Type 0} (n i : ℕ) (a : WriterState D) (life : List (WriterState D))
     (b : List ℕ) : Type 0 where
   pub number : ℕ
@@ -28,8 +27,7 @@ pub record Keeps {D : Type 0} (n i : ℕ) (a : WriterState D) (life : List (Writ
   pub given : Once (a ∷ life) (Gave number value)
 
 module _ {D : Type 0} (disk : Disk.Ghosts D) where
-  -- a crash at any time since the writer was at a leaves such a file, and so does a crash now, with
-  -- the writer at z
+  -- a crash at any time since the writer was at a leaves such a file, and so does a crash now, with the writer at z
   pub record Stays (n i : ℕ) (a : WriterState D) (life : List (WriterState D))
       (z : WriterState D) : Type 0 where
     pub any_time : LeavesOnly disk a.segment.device z.segment.device

@@ -23,8 +23,7 @@ module _ {D : Type 0} (disk : Disk.Ghosts D) where
       → IsPlaceOf disk plan n i p
       × IsBeginning a.seat.seen (seen_at p) × IsBeginning (seen_at p) z.seat.seen
 
-  -- the place is in a life of the writer of segment i of n, which has seen no more than the history
-  -- h
+  -- the place is in a life of the writer of segment i of n, which has seen no more than the history h
   abbrev pub IsLivedIn : Plan → ℕ → List Update → ℕ → Place D → Type 0
   IsLivedIn plan n h i p = (a z : WriterState D) × (life : List (WriterState D))
       × IsWriterOf disk plan n i a
@@ -53,8 +52,7 @@ abbrev pub IsSeenIn : List SeatView → List Update → Type 0
 IsSeenIn views seen = (j : ℕ) × (v : SeatView) × (get_elem? views j ≡ some v)
     × (seen ≡ updates v.seen)
 
--- a moment of the registers is a consistent cut: nobody has seen an update that its writer hasn't
--- shown
+-- a moment of the registers is a consistent cut: nobody has seen an update that its writer hasn't shown
 abbrev pub ConsistentLaw : Type 0 → Type 0
 ConsistentLaw D = (plan : Plan) (s : Moment) → Kept plan s
     → (writers : List (Place D)) (scanners : List (List Update))
@@ -62,8 +60,7 @@ ConsistentLaw D = (plan : Plan) (s : Moment) → Kept plan s
     → ((k : ℕ) (seen : List Update) → slice_get scanners k ≡ Some seen → IsSeenIn s.views seen)
     → IsConsistent (starts plan) writers scanners
 
--- the result of a scan is the memory after a beginning of each history that begins with what its
--- seat has seen
+-- the result of a scan is the memory after a beginning of each history that begins with what its seat has seen
 abbrev pub ScanLaw : Type 0
 ScanLaw = (before after : Known) (memory : List (ℕ × List ℕ)) (visible : List Update)
     → IsSnapshot before after memory → IsBeginning after.seen visible

@@ -15,8 +15,7 @@ use Rattle.snap_disk.specs.declared.disk.Disk as Disk
 abbrev pub IsOpenable : (i n : ℕ) → List ℕ → Type 0
 IsOpenable i n b = Head b i n × ((k : ℕ) × (v : List ℕ) × Holds b k v)
 
--- whatever a crash since d was there, or a crash now, leaves of the device, a crash of d could
--- leave
+-- whatever a crash since d was there, or a crash now, leaves of the device, a crash of d could leave
 pub record IsBack {D : Type 0} (disk : Disk.Ghosts D) (d e : D) : Type 0 where
   pub honest_then : disk.is_honest e → disk.is_honest d
   pub any_time : disk.is_honest e → LeavesOnly disk d e (MayLeave (disk.device d))
@@ -38,8 +37,7 @@ pub record IsOpened {D : Type 0} (disk : Disk.Ghosts D) (n i : ℕ) (d : D)
       → IsAtRest i n s.number s.value s.spare_open (disk.device s.device)
   pub back : IsBack disk d s.device
 
--- device e was returned for device d, of segment i, by an opening of n segments that was refused at
--- segment k
+-- device e was returned for device d, of segment i, by an opening of n segments that was refused at segment k
 pub record IsReturned {D : Type 0} (disk : Disk.Ghosts D) (n k : ℕ) (why : Refusal)
     (i : ℕ) (d e : D) : Type 0 where
   pub back : IsBack disk d e

@@ -18,8 +18,7 @@ pub struct Stopped<D> {
     /// All devices, in the order of their segments.
     pub devices: Vec<D>,
     pub refusal: Refusal,
-    /// How many segments were opened before. For any refusal but `NoMemory` this is the index of
-    /// the refused segment.
+    /// How many segments were opened before. For any refusal but `NoMemory` this is the index of the refused segment.
     pub segment: usize,
 }
 
@@ -31,11 +30,9 @@ pub(crate) fn open_segments<D: Disk + Drop>(
 ) -> Result<(Vec<Segment<D>>, Vec<D>), Stopped<D>>
     requires count { length devices.items ≤ MAX_COUNT }
     requires headroom { All (λ d. D.failure_count d < 2 ^ 64 - 1) devices.items }
-    ensures opened { IfOk result (λ r.
-        Pairs (IsOpened D.Disk (length devices.items)) devices.items r.0.items) }
+    ensures opened { IfOk result (λ r. Pairs (IsOpened D.Disk (length devices.items)) devices.items r.0.items) }
     ensures emptied { IfOk result (λ r. (r.1.items ≡ []) × (MAX_COUNT ≤ vec_capacity r.1)) }
-    ensures stopped { IfErr result (λ e.
-        IsStopped D.Disk devices.items e.devices.items e.refusal e.segment) }
+    ensures stopped { IfErr result (λ e. IsStopped D.Disk devices.items e.devices.items e.refusal e.segment) }
 {
     let count = devices.len();
     let Ok(emptied) = Vec::with_capacity(alloc, MAX_COUNT as usize) else {
@@ -81,8 +78,7 @@ fn returned<D: Disk + Drop>(
 ) -> Vec<D>
     requires empty { devices.items ≡ [] }
     requires room { length segments.items + 1 + into_iter_len rest ≤ vec_capacity devices }
-    ensures { result.items
-        ≡ map (λ s. s.device) segments.items ++ refused ∷ into_iter_items rest }
+    ensures { result.items ≡ map (λ s. s.device) segments.items ++ refused ∷ into_iter_items rest }
 {
     release(segments, &mut devices);
     keep(&mut devices, refused);
@@ -95,8 +91,7 @@ fn returned<D: Disk + Drop>(
 /// Appends the devices of open segments to `devices`, in order.
 pub(crate) fn release<D: Disk + Drop>(segments: Vec<Segment<D>>, devices: &mut Vec<D>)
     requires room { length devices.old.items + length segments.items ≤ vec_capacity devices.old }
-    ensures items { devices.new.items
-        ≡ devices.old.items ++ map (λ s. s.device) segments.items }
+    ensures items { devices.new.items ≡ devices.old.items ++ map (λ s. s.device) segments.items }
     ensures room { vec_capacity devices.old ≤ vec_capacity devices.new }
 {
     'segments: for segment in segments {

@@ -27,8 +27,7 @@ pub(crate) fn hear_everybody<D: Disk>(writers: &mut Vec<Writer<D>>, scanners: &m
 
 // The writer meets all scanners.
 fn hear_all<D: Disk>(writer: &mut Writer<D>, scanners: &mut Vec<Scanner>)
-    requires together { (k : ℕ) (b : _) → slice_get scanners.old.items k ≡ Some b
-        → AreTogether b writer.old.seat }
+    requires together { (k : ℕ) (b : _) → slice_get scanners.old.items k ≡ Some b → AreTogether b writer.old.seat }
     ensures writer { HasMet writer.old writer.new }
     ensures scanners { Pairs (λ _. Grows) scanners.old.items scanners.new.items }
     ensures heard { (k : ℕ) (b : _) → slice_get scanners.old.items k ≡ Some b
@@ -41,12 +40,10 @@ fn hear_all<D: Disk>(writer: &mut Writer<D>, scanners: &mut Vec<Scanner>)
 
 // The scanner meets all writers, in order.
 fn meet_all<D: Disk>(writers: &mut Vec<Writer<D>>, scanner: &mut Scanner)
-    requires together { (i : ℕ) (w : _) → slice_get writers.old.items i ≡ Some w
-        → AreTogether scanner.old w.seat }
+    requires together { (i : ℕ) (w : _) → slice_get writers.old.items i ≡ Some w → AreTogether scanner.old w.seat }
     ensures writers { Pairs (λ _. HasMet) writers.old.items writers.new.items }
     ensures scanner { Grows scanner.old scanner.new }
-    ensures told { (i : ℕ) (w : _) → slice_get writers.old.items i ≡ Some w
-        → IsTold w.seat scanner.old scanner.new }
+    ensures told { (i : ℕ) (w : _) → slice_get writers.old.items i ≡ Some w → IsTold w.seat scanner.old scanner.new }
 {
     for i in 0..writers.len() {
         writers[i].meet(scanner);
@@ -58,8 +55,7 @@ pub(crate) fn release_all<D: Disk + Drop>(writers: Vec<Writer<D>>, mut devices: 
     requires empty { devices.items ≡ [] }
     requires room { length writers.items ≤ vec_capacity devices }
     ensures devices { result.items ≡ map (λ w. w.segment.device) writers.items }
-    ensures rests { (i : ℕ) (w : _) → slice_get writers.items i ≡ Some w
-        → Rests D.Disk w }
+    ensures rests { (i : ℕ) (w : _) → slice_get writers.items i ≡ Some w → Rests D.Disk w }
 {
     'writers: for writer in writers {
         keep(&mut devices, writer.into_segment().into_device());

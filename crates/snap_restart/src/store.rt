@@ -27,8 +27,7 @@ pub const LOOKS: u64 = 1 << 50;
 
 /// The writers and the scanners of one opening.
 ///
-/// Both may be taken out. Once all are put back, the writers in the order of their segments, the
-/// store can be closed.
+/// Both may be taken out. Once all are put back, the writers in the order of their segments, the store can be closed.
 #[derive(Drop)]
 pub struct Store<D: Disk> {
     pub writers: Vec<Writer<D>>,
@@ -40,8 +39,7 @@ pub struct Store<D: Disk> {
 }
 
 impl<D: Disk + Drop> Store<D> {
-    /// Returns the devices, in the order of their segments. It allocates nothing and makes no
-    /// device call.
+    /// Returns the devices, in the order of their segments. It allocates nothing and makes no device call.
     ///
     /// All that writers and scanners have seen are beginnings of one history, and each device holds
     /// the number and the value of its segment after it. Of a fenced segment a crash may leave the
@@ -70,8 +68,7 @@ impl<D: Disk + Drop> Store<D> {
         release_all(writers, devices)
     }
 
-    /// Returns the writers, in the order of their segments, and the scanners, for callers that
-    /// never close it.
+    /// Returns the writers, in the order of their segments, and the scanners, for callers that never close it.
     pub fn into_parts(self) -> (Vec<Writer<D>>, Vec<Scanner>)
         ensures writers { result.0.items ≡ self.writers.items }
         ensures scanners { result.1.items ≡ self.scanners.items }
@@ -85,13 +82,11 @@ impl<D: Disk + Drop> Store<D> {
     }
 }
 
-/// Opens all files, in the order of their segments, then makes the registers, so that each writer
-/// starts with the number and the value of its file. Each file is synced before it is read, so what
-/// is served survives any later crash.
+/// Opens all files, in the order of their segments, then makes the registers, so that each writer starts with the
+/// number and the value of its file. Each file is synced before it is read, so what is served survives any later crash.
 ///
-/// Stops at the first file that is refused. `NoMemory` may also come before the first file or after
-/// the last. After an error all devices are returned, in order, and a crash leaves of each only
-/// what it could have left before.
+/// Stops at the first file that is refused. `NoMemory` may also come before the first file or after the last. After an
+/// error all devices are returned, in order, and a crash leaves of each only what it could have left before.
 pub fn open_all<D: Disk + Drop>(
     alloc: Global,
     devices: Vec<D>,
@@ -105,15 +100,13 @@ pub fn open_all<D: Disk + Drop>(
     ensures opened { IfOk result (λ r.
         Pairs (IsOpened D.Disk
         (length devices.items)) devices.items (map (λ w. w.segment) r.0.writers.items)) }
-    ensures starts { IfOk result (λ r. (i : ℕ) (w : _)
-        → slice_get r.0.writers.items i ≡ Some w → IsPaired w) }
+    ensures starts { IfOk result (λ r. (i : ℕ) (w : _) → slice_get r.0.writers.items i ≡ Some w → IsPaired w) }
 
     // No update was seen and no look was made, and the `Store` can be closed as it is.
     ensures fresh { IfOk result (λ r. AreFresh r.0.writers.items r.0.scanners.items) }
     ensures scanners { IfOk result (λ r. length r.0.scanners.items ≡ scanners) }
     ensures back { IfOk result (λ r. AreBack r.0.writers.items r.0.scanners.items) }
-    ensures report { IfOk result (λ r.
-        r.1.segments.items ≡ map (λ w. recovered w.segment) r.0.writers.items) }
+    ensures report { IfOk result (λ r. r.1.segments.items ≡ map (λ w. recovered w.segment) r.0.writers.items) }
 
     // A crash of all devices at any moment from now on is recovered as the memory after the history
     // of that moment, followed by at most one begun update of each writer. If the files hold what
@@ -125,13 +118,11 @@ pub fn open_all<D: Disk + Drop>(
     ensures stays { IfOk result (λ r. AllStays D.Disk r.0.writers.items) }
 
     // A crash during the opening, however it ends, leaves the memory from before.
-    ensures kept_ok { IfOk result (λ r. StayKept D.Disk
-        devices.items (map (λ w. w.segment.device) r.0.writers.items)) }
+    ensures kept_ok { IfOk result (λ r. StayKept D.Disk devices.items (map (λ w. w.segment.device) r.0.writers.items)) }
     ensures kept_err { IfErr result (λ e. StayKept D.Disk devices.items e.devices.items) }
 
     // After a refusal there is no writer, and all devices are returned.
-    ensures stopped { IfErr result (λ e.
-        IsStopped D.Disk devices.items e.devices.items e.refusal e.segment) }
+    ensures stopped { IfErr result (λ e. IsStopped D.Disk devices.items e.devices.items e.refusal e.segment) }
 {
     let (segments, mut emptied) = match open_segments(alloc, devices) {
         Ok(opened) => opened,
@@ -187,8 +178,7 @@ fn take_memory<D: Disk + Drop>(
     segments: &Vec<Segment<D>>,
     scanners: usize,
 ) -> Result<Ready<D>, AllocError>
-    requires count { (0 < length segments.now.items)
-        × (length segments.now.items ≤ MAX_COUNT) }
+    requires count { (0 < length segments.now.items) × (length segments.now.items ≤ MAX_COUNT) }
     requires scanners { scanners ≤ MAX_SCANNERS }
     ensures counts { IfOk result (λ r.
         (length r.parts.writers.items ≡ length segments.now.items)
@@ -196,12 +186,9 @@ fn take_memory<D: Disk + Drop>(
     ensures seats { IfOk result (λ r. (z : RegistersId) × (p : Plan)
         × IsOpening p LOOKS (map contents segments.now.items)
         × AreWriters z p r.parts.writers.items × AreReaders z p r.parts.scanners.items) }
-    ensures writers { IfOk result (λ r. (r.writers.items ≡ [])
-        × (length segments.now.items ≤ vec_capacity r.writers)) }
-    ensures scanners { IfOk result (λ r. (r.scanners.items ≡ [])
-        × (scanners ≤ vec_capacity r.scanners)) }
-    ensures report { IfOk result (λ r.
-        r.report.segments.items ≡ map recovered segments.now.items) }
+    ensures writers { IfOk result (λ r. (r.writers.items ≡ []) × (length segments.now.items ≤ vec_capacity r.writers)) }
+    ensures scanners { IfOk result (λ r. (r.scanners.items ≡ []) × (scanners ≤ vec_capacity r.scanners)) }
+    ensures report { IfOk result (λ r. r.report.segments.items ≡ map recovered segments.now.items) }
 {
     let values = values_of(alloc, segments)?;
     let parts = Registers::open(alloc, &values, scanners, LOOKS)?;
@@ -219,12 +206,9 @@ fn values_of<D: Disk>(
     alloc: Global,
     segments: &Vec<Segment<D>>,
 ) -> Result<Vec<(u64, Vec<u8>)>, AllocError>
-    ensures contents { IfOk result (λ v.
-        map (λ x. (x.0, x.1.items)) v.items ≡ map contents segments.now.items) }
-    ensures numbers { IfOk result (λ v. (i : ℕ) (x : _) → slice_get v.items i ≡ Some x
-        → IsNumber x.0) }
-    ensures sizes { IfOk result (λ v. (i : ℕ) (x : _) → slice_get v.items i ≡ Some x
-        → IsShort x.1.items) }
+    ensures contents { IfOk result (λ v. map (λ x. (x.0, x.1.items)) v.items ≡ map contents segments.now.items) }
+    ensures numbers { IfOk result (λ v. (i : ℕ) (x : _) → slice_get v.items i ≡ Some x → IsNumber x.0) }
+    ensures sizes { IfOk result (λ v. (i : ℕ) (x : _) → slice_get v.items i ≡ Some x → IsShort x.1.items) }
 {
     let mut values = Vec::new(alloc);
     for segment in segments {

@@ -1,5 +1,4 @@
--- The looks of one scan and a history that only grows. A moment is a number: how many updates there
--- were by then.
+-- The looks of one scan and a history that only grows. A moment is a number: how many updates there were by then.
 use Rattle.std.specs.Prelude.{◌≡◌, ℕ, ◌+◌, ◌-◌, ◌*◌, ◌<◌, ◌≤◌, List, length, slice_index, slice_get, Some}
 use Rattle.snap_scan.specs.Looks.{IsClean, IsBorrow}
 

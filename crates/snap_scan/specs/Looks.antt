@@ -2,8 +2,7 @@
 -- in collect m the look at segment i is look m * n + i.
 use Rattle.std.specs.Prelude.{◌≡◌, ℕ, ◌+◌, ◌-◌, ◌*◌, ◌<◌, ◌≤◌, ◌⊎◌, List, length, slice_index}
 
--- the most looks of a scan: one collect, n more whose comparison fails, and one whose comparison
--- succeeds
+-- the most looks of a scan: one collect, n more whose comparison fails, and one whose comparison succeeds
 abbrev pub most_looks : ℕ → ℕ
 most_looks n = n * (n + 2)
 

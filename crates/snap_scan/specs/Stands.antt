@@ -1,5 +1,4 @@
--- The lists of numbers that a scan's machine represents. It keeps only the first and the latest
--- numbers.
+-- The lists of numbers that a scan's machine represents. It keeps only the first and the latest numbers.
 use Rattle.std.specs.Prelude.{◌≡◌, ℕ, ◌+◌, ◌*◌, ◌<◌, ◌≤◌, List, length, slice_index, take, Bool, true, false}
 use Rattle.snap_scan.specs.Looks.{IsClean, IsBorrow, IsNoFall}
 use Rattle.snap_scan.specs.Sets.{named, size}
@@ -25,8 +24,7 @@ pub record IsUndecided (n : ℕ) (L : List ℕ) (k : ℕ) : Type 0 where
   pub low : AllLow n L k
   pub no_clean : (c : ℕ) → (c + 2) * n ≤ k → Same n L c n → ⊥
 
--- whether collect m differs from the one before at its first j segments; the first collect counts
--- as different
+-- whether collect m differs from the one before at its first j segments; the first collect counts as different
 abbrev pub IsChanged : Bool → ℕ → List ℕ → ℕ → ℕ → Type 0
 IsChanged false n L m j = (p : ℕ) × (m ≡ p + 1) × Same n L p j
 IsChanged true n L m j = (p : ℕ) → m ≡ p + 1 → Same n L p j → ⊥

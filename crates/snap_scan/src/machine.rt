@@ -70,8 +70,7 @@ impl Machine {
         requires turn { self.old.next ≡ Next.Look segment }
         requires stands { MayTell self.old segment number }
         ensures size { self.new.segments ≡ self.old.segments }
-        ensures told { (told : List ℕ) → StandsFor self.old told
-            → StandsFor self.new (told ++ number ∷ []) }
+        ensures told { (told : List ℕ) → StandsFor self.old told → StandsFor self.new (told ++ number ∷ []) }
     {
         if self.has_moved_twice(segment, number) {
             self.looks += 1;

@@ -5,8 +5,7 @@
 pub enum Next {
     /// Look at this segment, and call [`Scan::told`](crate::Scan::told) with its number.
     Look(usize),
-    /// The answer is the values of the last collect, which found the same numbers as the one
-    /// before.
+    /// The answer is the values of the last collect, which found the same numbers as the one before.
     Clean,
     /// The answer is the view in this segment's register, whose number has risen by two.
     Borrow(usize),

@@ -42,8 +42,7 @@ impl Model for Scan {
 }
 
 impl Scan {
-    /// A scan of the segments in `set`, at least one, before any look. Its first look is at the
-    /// lowest.
+    /// A scan of the segments in `set`, at least one, before any look. Its first look is at the lowest.
     pub fn of(set: SegmentSet) -> Scan
         requires some { 0 < set.bits }
         ensures set { result.set ≡ set.bits }
@@ -59,8 +58,7 @@ impl Scan {
         }
     }
 
-    /// A scan of segments 0 to `segments` - 1, before any look. `segments` is 1 to
-    /// [`MAX_SEGMENTS`].
+    /// A scan of segments 0 to `segments` - 1, before any look. `segments` is 1 to [`MAX_SEGMENTS`].
     pub fn new(segments: usize) -> Scan
         requires least { 0 < segments }
         requires most { segments ≤ MAX_SEGMENTS }
@@ -95,8 +93,7 @@ impl Scan {
     /// number may not have fallen.
     pub fn told(&mut self, segment: usize, number: u64)
         requires turn { self.old.next ≡ Next.Look segment }
-        requires rising { (p : ℕ) → IsAt self.old.set p segment
-            → IsNoFall (size self.old.set) self.old.told p number }
+        requires rising { (p : ℕ) → IsAt self.old.set p segment → IsNoFall (size self.old.set) self.old.told p number }
         ensures set { self.new.set ≡ self.old.set }
         ensures told { self.new.told ≡ self.old.told ++ number ∷ [] }
         ensures next { IsNext self.new.set self.new.told self.new.next }

@@ -37,8 +37,7 @@ impl SegmentSet {
         self.bits == 0
     }
 
-    /// Whether all named segments are below `segments`, which is at most
-    /// [`MAX_SEGMENTS`](crate::MAX_SEGMENTS).
+    /// Whether all named segments are below `segments`, which is at most [`MAX_SEGMENTS`](crate::MAX_SEGMENTS).
     pub fn is_among(self, segments: usize) -> bool
         requires most { segments ≤ MAX_COUNT }
         ensures below { IsTrue result ↔ (self.bits < 2 ^ segments) }

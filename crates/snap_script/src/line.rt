@@ -115,8 +115,7 @@ fn fail(alloc: Global, operands: &[u8]) -> Result<Option<Event>, AllocError>
 
 /// `refail FILL`
 fn restart_fail(alloc: Global, operands: &[u8]) -> Result<Option<Event>, AllocError>
-    ensures { IfOk result
-        (λ found. Finds found (HasForm Verb.RestartFail (words_of operands.now))) }
+    ensures { IfOk result (λ found. Finds found (HasForm Verb.RestartFail (words_of operands.now))) }
 {
     let Some(word) = one_part(operands, b' ') else {
         return Ok(None);

@@ -118,8 +118,7 @@ impl LineBuffer {
 
 /// Writes these bytes, by one call if the writer takes them whole, and flushes the writer.
 fn write_flushed<W: Write>(writer: &mut W, bytes: &[u8]) -> io::Result<()>
-    ensures whole { OnOk result
-        (Appends (W.contents writer.old) (W.contents writer.new) bytes.now) }
+    ensures whole { OnOk result (Appends (W.contents writer.old) (W.contents writer.new) bytes.now) }
     ensures beginning { AppendsBeginning (W.contents writer.old) (W.contents writer.new) bytes.now }
 {
     write_whole(writer, bytes)?;

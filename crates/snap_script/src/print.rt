@@ -34,8 +34,7 @@ pub(crate) fn print_world(
     segments: usize,
     scanners: usize,
 ) -> Result<(), AllocError>
-    ensures { OnOk result (out.new.items
-        ≡ out.old.items ++ line_text (world_text segments scanners)) }
+    ensures { OnOk result (out.new.items ≡ out.old.items ++ line_text (world_text segments scanners)) }
 {
     let mut digits = Buffer::new();
     put(out, b"world ")?;
@@ -54,8 +53,7 @@ fn put(out: &mut Vec<u8>, text: &[u8]) -> Result<(), AllocError>
 
 /// Appends a line of `text` and a number.
 fn put_number(out: &mut Vec<u8>, text: &[u8], number: u64) -> Result<(), AllocError>
-    ensures { OnOk result (out.new.items
-        ≡ out.old.items ++ line_text (text.now ++ decimal number)) }
+    ensures { OnOk result (out.new.items ≡ out.old.items ++ line_text (text.now ++ decimal number)) }
 {
     let mut digits = Buffer::new();
     put(out, text)?;
@@ -65,8 +63,7 @@ fn put_number(out: &mut Vec<u8>, text: &[u8], number: u64) -> Result<(), AllocEr
 
 /// Appends the line of a device call.
 fn put_kind(out: &mut Vec<u8>, kind: Kind) -> Result<(), AllocError>
-    ensures { OnOk result (out.new.items
-        ≡ out.old.items ++ line_text (codes "called " ++ kind_text kind)) }
+    ensures { OnOk result (out.new.items ≡ out.old.items ++ line_text (codes "called " ++ kind_text kind)) }
 {
     match kind {
         Kind::Write(Write::Close) => put(out, b"called close\n"),

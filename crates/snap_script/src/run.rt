@@ -15,8 +15,7 @@ pub const MAX_LINE: usize = 1_048_576;
 /// The most bytes of one read.
 const PIECE: usize = 65_536;
 
-/// How a script ended. Its text follows `snapd: ` on standard error, except for
-/// [`ScriptEnd::Done`].
+/// How a script ended. Its text follows `snapd: ` on standard error, except for [`ScriptEnd::Done`].
 ///
 /// A line's number counts all lines of the input from 1, empty ones too, and stops at `u64::MAX`.
 #[derive(Debug, Drop, Error)]
@@ -41,17 +40,15 @@ pub enum ScriptEnd {
     WriteFailed(io::Error),
 }
 
-/// Runs a script on a new world while it is read, and writes a line for each of its lines: what
-/// each event answered.
+/// Runs a script on a new world while it is read, and writes a line for each of its lines: what each event answered.
 ///
 /// Each line ends with LF, which the last one may lack, and has words separated by single spaces.
 /// Empty lines are skipped. The first other line is `world N S`, and every later one is an event;
 /// docs/FORMATS.md has their forms, and those of what is written. What is written are replies that a
 /// new world may give to all these events, in the order of the lines.
 ///
-/// Each line is done, and its text is written and flushed, before the next one. So a client that
-/// writes the script can wait for the reply to a line. An error of the reader or of the writer ends
-/// the script with no retry.
+/// Each line is done, and its text is written and flushed, before the next one. So a client that writes the script can
+/// wait for the reply to a line. An error of the reader or of the writer ends the script with no retry.
 ///
 /// It takes memory for one read, for the longest line, and for the values of one event and one reply.
 /// It returns only once the reader has no more bytes or something fails.

@@ -41,8 +41,7 @@ impl Verb {
 
     /// The verb of this word.
     pub(crate) fn named(word: &[u8]) -> Option<Verb>
-        ensures { MatchOption result ((v : Verb) → name_of v ≢ word.now)
-            (λ v. name_of v ≡ word.now) }
+        ensures { MatchOption result ((v : Verb) → name_of v ≢ word.now) (λ v. name_of v ≡ word.now) }
     {
         let verb = if is(word, "begin") {
             Verb::Begin

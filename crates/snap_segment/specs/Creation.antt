@@ -11,8 +11,7 @@ use Rattle.snap_disk.specs.declared.disk.Disk as Disk
 abbrev pub new_file : (i n k : ℕ) (v : List ℕ) → List ℕ
 new_file i n k v = header_front i n ++ (OPEN_GATE ∷ slots_of k v)
 
--- bytes that a crash could have left before, or an unformatted file, or the whole new file with
--- number k and value v
+-- bytes that a crash could have left before, or an unformatted file, or the whole new file with number k and value v
 abbrev pub IsMadeOrLeft : (i n k : ℕ) (v : List ℕ) (old : Device) → List ℕ → Type 0
 IsMadeOrLeft i n k v old b = MayLeave old b ⊎ (IsUnformatted b ⊎ IsFileOf i n k v b)
 
@@ -20,8 +19,7 @@ IsMadeOrLeft i n k v old b = MayLeave old b ⊎ (IsUnformatted b ⊎ IsFileOf i 
 abbrev pub IsFresh : (i n : ℕ) (old : Device) → List ℕ → Type 0
 IsFresh i n old b = IsMadeOrLeft i n 0 [] old b
 
--- the result says how the header's gate was found: `AlreadyFormatted` open, by a sync and a read;
--- Ok closed
+-- the result says how the header's gate was found: `AlreadyFormatted` open, by a sync and a read; Ok closed
 pub record TellsGate {D T : Type 0} (disk : Disk.Ghosts D) (result : Result T Refusal) (old new : D)
     : Type 0 where
   pub taken_calls : IsErrOf result AlreadyFormatted → disk.clock new ≡ disk.clock old + 2

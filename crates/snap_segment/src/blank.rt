@@ -26,8 +26,7 @@ pub fn format<D: Disk>(device: &mut D, index: u8, count: u8) -> Result<(), Refus
     requires headroom { D.failure_count device.old < 2 ^ 64 - 1 }
     ensures counts { Counts D.Disk result 7 device.old device.new }
     ensures refusals { IfErr result IsFormatRefusal }
-    ensures wrong_file { IsErrOf result Refusal.WrongFile
-        ↔ (length (D.device device.old).bytes ≢ FILE_LEN) }
+    ensures wrong_file { IsErrOf result Refusal.WrongFile ↔ (length (D.device device.old).bytes ≢ FILE_LEN) }
     ensures wrong_file_same { IsErrOf result Refusal.WrongFile → device.new ≡ device.old }
     ensures gate { TellsGate D.Disk result device.old device.new }
 
@@ -40,12 +39,10 @@ pub fn format<D: Disk>(device: &mut D, index: u8, count: u8) -> Result<(), Refus
         (IsFresh index count (D.device device.old)) }
 
     // After Ok a crash leaves the new file.
-    ensures last { D.is_honest device.new
-        → OnOk result (IsAtRest index count 0 [] false (D.device device.new)) }
+    ensures last { D.is_honest device.new → OnOk result (IsAtRest index count 0 [] false (D.device device.new)) }
 
     // After Ok these are all bytes of the device. The closed slots hold zeros.
-    ensures bytes { D.is_honest device.new
-        → OnOk result ((D.device device.new).bytes ≡ fresh_file index count) }
+    ensures bytes { D.is_honest device.new → OnOk result ((D.device device.new).bytes ≡ fresh_file index count) }
 {
     create(device, index, count, 0, &[])
 }

@@ -38,8 +38,7 @@ pub fn create<D: Disk>(
     requires headroom { D.failure_count device.old < 2 ^ 64 - 1 }
     ensures counts { Counts D.Disk result 7 device.old device.new }
     ensures refusals { IfErr result IsFormatRefusal }
-    ensures wrong_file { IsErrOf result Refusal.WrongFile
-        ↔ (length (D.device device.old).bytes ≢ FILE_LEN) }
+    ensures wrong_file { IsErrOf result Refusal.WrongFile ↔ (length (D.device device.old).bytes ≢ FILE_LEN) }
     ensures wrong_file_same { IsErrOf result Refusal.WrongFile → device.new ≡ device.old }
     ensures gate { TellsGate D.Disk result device.old device.new }
 
@@ -83,8 +82,7 @@ fn is_unformatted<D: Disk>(device: &mut D) -> Result<bool, DeviceFault>
     ensures calls { CountsCalls result 2 (D.clock device.old) (D.clock device.new) }
     ensures honest { D.is_honest device.new → D.is_honest device.old }
     ensures kept { D.is_honest device.new → LeavesAsBefore D.Disk device.old device.new }
-    ensures settled { D.is_honest device.new
-        → OnOk result (IsSynced (D.device device.old) (D.device device.new)) }
+    ensures settled { D.is_honest device.new → OnOk result (IsSynced (D.device device.old) (D.device device.new)) }
     ensures unformatted { D.is_honest device.new
         → IfOk result (λ unformatted. IsTrue unformatted
         ↔ IsUnformatted (D.device device.old).bytes) }

@@ -58,8 +58,7 @@ pub fn migrate<O: Disk, N: Disk>(
     ensures size_new { length (N.device new.new).bytes ≡ length (N.device new.old).bytes }
     ensures calls_old { CountsCalls result 2 (O.clock old.old) (O.clock old.new) }
     ensures calls_new { CountsCalls result 7 (N.clock new.old) (N.clock new.new) }
-    ensures taken_calls { IsErrOf result (Which.New, Refusal.AlreadyFormatted)
-        → N.clock new.new ≡ N.clock new.old + 2 }
+    ensures taken_calls { IsErrOf result (Which.New, Refusal.AlreadyFormatted) → N.clock new.new ≡ N.clock new.old + 2 }
     ensures honest_old { O.is_honest old.new → O.is_honest old.old }
     ensures honest_new { N.is_honest new.new → N.is_honest new.old }
 
@@ -71,8 +70,7 @@ pub fn migrate<O: Disk, N: Disk>(
     ensures wrong_new_length { IsErrOf result (Which.New, Refusal.WrongFile)
         ↔ ((length (O.device old.old).bytes ≡ OLD_FILE_LEN)
         × (length (N.device new.old).bytes ≢ FILE_LEN)) }
-    ensures wrong_new_same { IsErrOf result (Which.New, Refusal.WrongFile)
-        → (old.new ≡ old.old) × (new.new ≡ new.old) }
+    ensures wrong_new_same { IsErrOf result (Which.New, Refusal.WrongFile) → (old.new ≡ old.old) × (new.new ≡ new.old) }
     ensures new_untouched { IfErr result (λ e. e.0 ≡ Which.Old → new.new ≡ new.old) }
     ensures old_refused { IfErr result (λ e. O.is_honest old.new → e.0 ≡ Which.Old
         → IsNoOldOpening index count (O.device old.old).bytes e.1) }
@@ -82,13 +80,11 @@ pub fn migrate<O: Disk, N: Disk>(
     ensures taken { N.is_honest new.new
         → IsErrOf result (Which.New, Refusal.AlreadyFormatted)
         → IsFormatted (N.device new.old).bytes × IsSynced (N.device new.old) (N.device new.new) }
-    ensures unformatted { N.is_honest new.new
-        → OnOk result (IsUnformatted (N.device new.old).bytes) }
+    ensures unformatted { N.is_honest new.new → OnOk result (IsUnformatted (N.device new.old).bytes) }
 
     // The old file is never written: a crash during the call or after it leaves what it could have
     // left before. Unless a call on it failed its bytes are the same.
-    ensures old_kept { O.is_honest old.new
-        → LeavesOnly O.Disk old.old old.new (MayLeave (O.device old.old)) }
+    ensures old_kept { O.is_honest old.new → LeavesOnly O.Disk old.old old.new (MayLeave (O.device old.old)) }
     ensures old_kept_now { O.is_honest old.new → (b : List ℕ)
         → MayLeave (O.device old.new) b → MayLeave (O.device old.old) b }
     ensures old_same { O.is_honest old.new
@@ -154,8 +150,7 @@ fn read_old<D: Disk>(
     ensures given { D.is_honest device.new → OnOk result (file.new ≡ (D.device device.old).bytes) }
     ensures found { IfOk result (IsOldFound index count file.new) }
     ensures refusals { IfErr result (IsMigrationRefusal Which.Old) }
-    ensures refused { D.is_honest device.new
-        → IfErr result (IsNoOldOpening index count (D.device device.old).bytes) }
+    ensures refused { D.is_honest device.new → IfErr result (IsNoOldOpening index count (D.device device.old).bytes) }
 {
     match read_all(device, file) {
         Ok(()) => recover_old(file, index, count),

@@ -10,8 +10,7 @@ use snap_server::{Announce, Endpoint};
 use std::alloc::{AllocError, Global};
 use std::io::{self, Write};
 
-/// An announcement that prints lines and then notifies `watch`. The lines were made before, so it
-/// allocates nothing.
+/// An announcement that prints lines and then notifies `watch`. The lines were made before, so it allocates nothing.
 #[derive(Drop)]
 pub(crate) struct Announcement<H: Drop> {
     pub(crate) lines: String,

@@ -32,10 +32,8 @@ pub trait Bind {
 
     /// Binds these addresses, as texts for the system: all, or none.
     fn bind(&self, alloc: Global, addresses: &Vec<&str>) -> Result<Self::Listener, ListenFault>
-        ensures bound { IfOk result (λ listener.
-            binds self.now (map (λ a. a.now) addresses.now.items) listener) }
-        ensures refused { IfErr result (λ unbound.
-            refuses self.now (map (λ a. a.now) addresses.now.items) unbound) };
+        ensures bound { IfOk result (λ listener. binds self.now (map (λ a. a.now) addresses.now.items) listener) }
+        ensures refused { IfErr result (λ unbound. refuses self.now (map (λ a. a.now) addresses.now.items) unbound) };
 }
 
 /// Binds TCP addresses, and paths of Unix sockets.
@@ -68,8 +66,7 @@ impl<'a, X: Net + Files<File = File> + Clock> Network<'a, X> {
         Ok(())
     }
 
-    /// Resolves a host name, and tries its addresses in order. The error is that of the last
-    /// address.
+    /// Resolves a host name, and tries its addresses in order. The error is that of the last address.
     fn bind_tcp(&self, address: &str) -> io::Result<Tcp> {
         let mut why = io::Error::from(ErrorKind::InvalidInput);
         for candidate in address.to_socket_addrs(self.net)? {

@@ -4,8 +4,7 @@ use snap_metrics::Metrics;
 use snap_server::{AcceptFault, Accepted, Listen};
 use std::marker::Model;
 
-/// A listener that counts the connections that it accepts, and otherwise behaves as the inner
-/// listener.
+/// A listener that counts the connections that it accepts, and otherwise behaves as the inner listener.
 #[derive(Drop)]
 pub(crate) struct CountedListener<'a, L: Drop> {
     listener: L,

@@ -17,8 +17,7 @@ use std::io::{self, Write};
 /// Why a server ended early.
 #[derive(Drop)]
 pub enum HostFault {
-    /// The file of this segment, with `len` bytes, was refused, or memory ran out when it was
-    /// opened.
+    /// The file of this segment, with `len` bytes, was refused, or memory ran out when it was opened.
     Refused {
         segment: usize,
         why: Refusal,
@@ -35,9 +34,8 @@ pub enum HostFault {
 }
 
 impl HostFault {
-    /// Prints on standard error why the server ended, as one line that begins with `snapd: `. After
-    /// a refused file, a second line names the file and says what to do. `causes` has the system's
-    /// message for each segment's device.
+    /// Prints on standard error why the server ended, as one line that begins with `snapd: `. After a refused file, a
+    /// second line names the file and says what to do. `causes` has the system's message for each segment's device.
     pub fn report<C: SystemReason, E: Write>(
         &self,
         alloc: Global,
@@ -127,8 +125,7 @@ fn remedy_line<C: SystemReason>(
     why: Refusal,
     len: u64,
 ) -> Option<String>
-    ensures { IfSome result (λ more.
-        IsRemedy (λ file. file.now) files.now.items segment why (string_bytes more)) }
+    ensures { IfSome result (λ more. IsRemedy (λ file. file.now) files.now.items segment why (string_bytes more)) }
 {
     let Some(file) = files.get(segment) else {
         return Some(String::new(alloc));
@@ -144,8 +141,7 @@ fn remedy_line<C: SystemReason>(
 
 /// Makes a line that begins with the name of a file.
 fn line_of(alloc: Global, file: &str, text: &String) -> Option<String>
-    ensures { IfSome result (λ line.
-        string_bytes line ≡ file_line file.now (string_bytes text.now)) }
+    ensures { IfSome result (λ line. string_bytes line ≡ file_line file.now (string_bytes text.now)) }
 {
     match format!(in alloc; "snapd: {file}: {text}\n") {
         Ok(line) => Some(line),

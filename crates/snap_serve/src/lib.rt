@@ -1,10 +1,8 @@
-//! Runs a server: opens its files, prints what was found, listens, and serves. Begin with [`host`]
-//! (server.rt).
+//! Runs a server: opens its files, prints what was found, listens, and serves. Begin with [`host`] (server.rt).
 //!
-//! Each worker is a desk with a scanner of its own, and each segment has a storer thread. An
-//! observer, such as the HTTP server, has a scanner and a thread too. The caller supplies an
-//! [`Environment`]: the binding of addresses, the callbacks for requests, events and updates, the
-//! metrics, the observer, and the limits.
+//! Each worker is a desk with a scanner of its own, and each segment has a storer thread. An observer, such as the HTTP
+//! server, has a scanner and a thread too. The caller supplies an [`Environment`]: the binding of addresses, the
+//! callbacks for requests, events and updates, the metrics, the observer, and the limits.
 #![tactic(auto)]
 
 mod announcement;

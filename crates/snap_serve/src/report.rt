@@ -17,8 +17,7 @@ pub(crate) fn print_report<W: Write>(
     report: &Report,
     writer: &mut W,
 ) -> Result<(), HostFault>
-    ensures whole { OnOk result
-        (Appends (W.contents writer.old) (W.contents writer.new) (report_text report.now)) }
+    ensures whole { OnOk result (Appends (W.contents writer.old) (W.contents writer.new) (report_text report.now)) }
     ensures failed { IfErr result
         (PrintFails (W.contents writer.old) (W.contents writer.new) (report_text report.now)) }
 {
@@ -37,10 +36,8 @@ pub(crate) fn print_served<W: Write>(
     served: u64,
     writer: &mut W,
 ) -> Result<(), HostFault>
-    ensures whole { OnOk result
-        (Appends (W.contents writer.old) (W.contents writer.new) (served_line served)) }
-    ensures failed { IfErr result
-        (PrintFails (W.contents writer.old) (W.contents writer.new) (served_line served)) }
+    ensures whole { OnOk result (Appends (W.contents writer.old) (W.contents writer.new) (served_line served)) }
+    ensures failed { IfErr result (PrintFails (W.contents writer.old) (W.contents writer.new) (served_line served)) }
 {
     let Ok(line) = format!(in alloc; "served {served}\n") else {
         return Err(HostFault::NoMemory);
@@ -54,10 +51,8 @@ pub(crate) fn print_served<W: Write>(
 /// Prints a whole text and flushes it. No clause says that it is flushed, since a flush doesn't
 /// change what the writer holds.
 pub(crate) fn print_line<W: Write>(text: &String, writer: &mut W) -> io::Result<()>
-    ensures whole { OnOk result
-        (Appends (W.contents writer.old) (W.contents writer.new) (string_bytes text.now)) }
-    ensures beginning { AppendsBeginning (W.contents writer.old) (W.contents writer.new)
-        (string_bytes text.now) }
+    ensures whole { OnOk result (Appends (W.contents writer.old) (W.contents writer.new) (string_bytes text.now)) }
+    ensures beginning { AppendsBeginning (W.contents writer.old) (W.contents writer.new) (string_bytes text.now) }
 {
     match write_whole(writer, text.as_bytes()) {
         Ok(()) => writer.flush(),

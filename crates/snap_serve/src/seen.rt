@@ -48,8 +48,7 @@ pub(crate) fn take_observer<
     }
 }
 
-/// Serves as [`run`] does, while the observer runs in a thread of its own, which ends once the
-/// server has ended.
+/// Serves as [`run`] does, while the observer runs in a thread of its own, which ends once the server has ended.
 pub(crate) fn run_observed<X, L, S, B, M, O, G, N, T, A>(
     rt: &X,
     alloc: Global,
@@ -78,12 +77,9 @@ where
     requires requests { AllAsked S.asked }
     requires memory { L.may_serve S.memory }
     ensures asked { IfOk result (λ k. limits.connections ≡ Some k) }
-    ensures accepted { IfOk result (λ k.
-        (left : L) × GivesSoMany L.accepts k listener left) }
-    ensures deaf { IfErr result (λ why.
-        why ≡ RunFault.Server ServerFault.AcceptFailed → L.refuses listener) }
-    ensures announced { Announced (A.announces announce.now) (A.fails announce.now)
-        to.old result to.new }
+    ensures accepted { IfOk result (λ k. (left : L) × GivesSoMany L.accepts k listener left) }
+    ensures deaf { IfErr result (λ why. why ≡ RunFault.Server ServerFault.AcceptFailed → L.refuses listener) }
+    ensures announced { Announced (A.announces announce.now) (A.fails announce.now) to.old result to.new }
 {
     let ObserverTask { service, observer } = task;
     let (ended, _to) = thread::scope(
@@ -94,10 +90,8 @@ where
                 × IsSend S.Outcome.row × IsSend B.row × IsSend M.row
                 × N.IsAlwaysCallable note.now × AllAsked S.asked × L.may_serve S.memory }
             ensures asked { IfOk result.0 (λ k. limits.connections ≡ Some k) }
-            ensures accepted { IfOk result.0 (λ k.
-                (left : L) × GivesSoMany L.accepts k listener left) }
-            ensures deaf { IfErr result.0 (λ why.
-                why ≡ RunFault.Server ServerFault.AcceptFailed → L.refuses listener) }
+            ensures accepted { IfOk result.0 (λ k. (left : L) × GivesSoMany L.accepts k listener left) }
+            ensures deaf { IfErr result.0 (λ why. why ≡ RunFault.Server ServerFault.AcceptFailed → L.refuses listener) }
             ensures announced { Announced (A.announces announce.entry.now)
                 (A.fails announce.entry.now) to.entry.now result.0 result.1.now }
             ensures same { result.1.ghost_name ≡ to.entry.ghost_name }

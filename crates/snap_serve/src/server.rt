@@ -43,8 +43,7 @@ pub struct Environment<'a, B, G, N, H: Drop, C, O> {
     pub bind: &'a B,
     /// Called before and after each request.
     pub gate: &'a G,
-    /// Called for each event: a connection was closed, or accepting is limited, possible again, or
-    /// over.
+    /// Called for each event: a connection was closed, or accepting is limited, possible again, or over.
     pub note: &'a N,
     /// Called at the start, at the end, and for each update.
     pub watch: H,
@@ -60,14 +59,12 @@ pub struct Environment<'a, B, G, N, H: Drop, C, O> {
     pub idle: Option<Duration>,
 }
 
-/// Serves the segments of `order`, with one device for each of its files, in order, and returns the
-/// program's exit.
+/// Serves the segments of `order`, with one device for each of its files, in order, and returns the program's exit.
 ///
-/// All files are opened first. Then the report of the opening is printed, and the addresses are
-/// bound. Once all threads are running, `listening ADDRESS` is printed for each address of the
-/// listener. Then as many connections are served as `order` says, or without end; after them the
-/// line `served K` is printed. Each of the three texts is flushed. Nothing is served before the
-/// report and `listening` are printed.
+/// All files are opened first. Then the report of the opening is printed, and the addresses are bound. Once all threads
+/// are running, `listening ADDRESS` is printed for each address of the listener. Then as many connections are served as
+/// `order` says, or without end; after them the line `served K` is printed. Each of the three texts is flushed. Nothing
+/// is served before the report and `listening` are printed.
 ///
 /// If the server ends early, `errors` gets the reason as one line that begins with `snapd: `; after
 /// a refused file, a second line names the file and says what to do.
@@ -99,8 +96,7 @@ where
     requires metrics { order.now.scanners ≤ environment.metrics.now.workers }
     requires note { N.IsAlwaysCallable environment.note.now }
 
-    // The status, `errors` and the writer agree on one result, which is possible with these devices
-    // and this site.
+    // The status, `errors` and the writer agree on one result, which is possible with these devices and this site.
     ensures ends { TellsItsEnd D.Disk devices.items
         (site_at B.Bind B.Listener.LocalAddress B.Listener.Listen environment.entry.bind.now
         (addresses_of order.now)) order.now result (E.contents errors.old) (E.contents errors.new)
@@ -116,8 +112,7 @@ where
     }
 }
 
-/// Opens the files, prints the report, listens and serves. Returns the number of connections
-/// served.
+/// Opens the files, prints the report, listens and serves. Returns the number of connections served.
 fn open_and_serve<X, D, B, G, N, H, C, O, W>(
     rt: &X,
     alloc: Global,
@@ -168,8 +163,7 @@ fn seats_of(order: &ServeOptions<'_>, is_seen: bool) -> usize
     requires { IsServable order.now }
     ensures some { 0 < result }
     ensures most { result ≤ MAX_SCANNERS }
-    ensures workers { result ≡ (if is_seen then min (order.now.scanners + 1) MAX_SCANNERS
-        else order.now.scanners) }
+    ensures workers { result ≡ (if is_seen then min (order.now.scanners + 1) MAX_SCANNERS else order.now.scanners) }
 {
     let workers = usize::from(order.scanners);
     if is_seen {

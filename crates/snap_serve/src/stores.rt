@@ -81,8 +81,7 @@ fn add_store<R: Wait + Copy, M: Memory, D: Disk + Drop, H: UpdateObserver + Copy
     requires memory { IsOf M.table M.plan writer.seat }
     requires opened { IsAsOpened writer }
     ensures stores { OnOk result (length stores.new.items ≡ length stores.old.items + 1) }
-    ensures handles { OnOk result
-        (handles.new.items ≡ handles.old.items ++ own_of writer.seat ∷ []) }
+    ensures handles { OnOk result (handles.new.items ≡ handles.old.items ++ own_of writer.seat ∷ []) }
 {
     let segment = writer.segment();
     let (store, handle) = Storer::new(rt, alloc, writer)?;
@@ -173,8 +172,7 @@ fn count_all<'f, S: Drop>(
     Ok(services)
 }
 
-/// Serves the memory of these writers and scanners, as [`run`] does. If there is an observer, it
-/// gets the last scanner.
+/// Serves the memory of these writers and scanners, as [`run`] does. If there is an observer, it gets the last scanner.
 fn serve_memory<M, X, D, L, G, N, H, O, A, T>(
     rt: &X,
     alloc: Global,
@@ -209,10 +207,8 @@ where
     requires note { N.IsAlwaysCallable note.now }
     ensures asked { IfOk result (λ k. limits.connections ≡ Some k) }
     ensures accepted { IfOk result (λ k. (left : L) × GivesSoMany L.accepts k listener left) }
-    ensures deaf { IfErr result (λ why.
-        why ≡ RunFault.Server ServerFault.AcceptFailed → L.refuses listener) }
-    ensures announced { Announced (A.announces announce.now) (A.fails announce.now)
-        to.old result to.new }
+    ensures deaf { IfErr result (λ why. why ≡ RunFault.Server ServerFault.AcceptFailed → L.refuses listener) }
+    ensures announced { Announced (A.announces announce.now) (A.fails announce.now) to.old result to.new }
 {
     let (mut desks, stores) = match open_parts::<M, X, D, H>(*rt, alloc, writers, scanners, watch) {
         Ok(parts) => parts,
@@ -270,10 +266,8 @@ where
     requires note { N.IsAlwaysCallable note.now }
     ensures asked { IfOk result (λ k. limits.connections ≡ Some k) }
     ensures accepted { IfOk result (λ k. (left : L) × GivesSoMany L.accepts k listener left) }
-    ensures deaf { IfErr result (λ why.
-        why ≡ RunFault.Server ServerFault.AcceptFailed → L.refuses listener) }
-    ensures announced { Announced (A.announces announce.now) (A.fails announce.now)
-        to.old result to.new }
+    ensures deaf { IfErr result (λ why. why ≡ RunFault.Server ServerFault.AcceptFailed → L.refuses listener) }
+    ensures announced { Announced (A.announces announce.now) (A.fails announce.now) to.old result to.new }
 {
     let (writers, scanners) = store.into_parts();
     let listener = CountedListener::new(listener, metrics);

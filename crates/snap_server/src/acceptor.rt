@@ -37,8 +37,7 @@ pub struct Acceptor<'a> {
 }
 
 impl<'a> Acceptor<'a> {
-    /// An acceptor that counts connections in `limit`, and pauses for `fault_rest` after the first
-    /// fault of a listener.
+    /// An acceptor that counts connections in `limit`, and pauses for `fault_rest` after the first fault of a listener.
     pub fn new(limit: &'a ConnectionLimit, fault_rest: Duration) -> Acceptor<'a> {
         Acceptor {
             limit,

@@ -83,8 +83,7 @@ impl Connection {
         }
     }
 
-    /// Registers the socket, so that the system reports under `token` when it is readable or
-    /// writable.
+    /// Registers the socket, so that the system reports under `token` when it is readable or writable.
     pub fn register(&mut self, registry: &Registry, token: Token) -> io::Result<()>
         ensures session { self.new.session ≡ self.old.session }
         ensures peer { self.new.peer ≡ self.old.peer }
@@ -94,8 +93,7 @@ impl Connection {
         self.socket.register(registry, token, interest)
     }
 
-    /// Marks it as listed, unless it is listed or closed. If `true`, the caller has to append it to
-    /// the list.
+    /// Marks it as listed, unless it is listed or closed. If `true`, the caller has to append it to the list.
     pub fn enlist(&mut self) -> bool
         ensures idle { result ≡ true ↔ self.old.stage ≡ ConnectionState.Idle }
         ensures listed { self.new ≡ record self.old { stage = enlisted self.old.stage } }
@@ -127,8 +125,7 @@ impl Connection {
         ensures goes { IsTurn S.gives service.old service.new self.old.session self.new.session }
         ensures stands { StandsAt result self.new.session None }
         ensures bounded { length self.old.session.owed ≤ most_owed → length self.new.session.owed ≤ most_owed }
-        ensures under { self.old.session.asked ≡ None
-            → OnSome self.new.session.asked (S.hands_over_under key) }
+        ensures under { self.old.session.asked ≡ None → OnSome self.new.session.asked (S.hands_over_under key) }
         ensures rounds { TakesRounds S.gives PIECE result
             (scene service.old self.old.session) (scene service.new self.new.session) }
         ensures peer { self.new.peer ≡ self.old.peer }
@@ -168,8 +165,7 @@ impl Connection {
 
     /// Checks the connection between two polls, and returns the reason if it has to be closed.
     ///
-    /// It isn't closed while it is listed, nor while it waits for an outcome, unless its peer is
-    /// lost.
+    /// It isn't closed while it is listed, nor while it waits for an outcome, unless its peer is lost.
     pub fn look(&mut self, why: &IdleCheck) -> Option<CloseReason>
         ensures may { IfSome result (λ how. MayEnd how self.new.session) }
         ensures idle { IsSome result → self.new.stage ≡ ConnectionState.Idle }

@@ -24,8 +24,7 @@ pub struct Dispatcher<'a, H: Deliver> {
 }
 
 impl<'a, H: Deliver> Dispatcher<'a, H> {
-    /// A dispatcher that takes connections from `acceptor`, and delivers the first to the first
-    /// sender.
+    /// A dispatcher that takes connections from `acceptor`, and delivers the first to the first sender.
     pub fn new(acceptor: Acceptor<'a>, senders: &'a [H]) -> Dispatcher<'a, H>
         ensures senders { result.senders ≡ senders.entry }
         ensures first { result.next ≡ 0 }
@@ -41,11 +40,9 @@ impl<'a, H: Deliver> Dispatcher<'a, H> {
 
     /// Delivers a connection to the next worker, or to the last if that one is busy; `false` if the worker has ended.
     fn deal<X: Wait + Clock>(&mut self, rt: &X, arrival: Accepted) -> bool
-        ensures counted { result ≡ true
-            → self.new.dealt ≡ min (self.old.dealt + 1) 18446744073709551615 }
+        ensures counted { result ≡ true → self.new.dealt ≡ min (self.old.dealt + 1) 18446744073709551615 }
         ensures refused { result ≡ false → self.new.dealt ≡ self.old.dealt }
-        ensures in_turn { result ≡ true
-            → self.new.next ≡ turn_of self.old.next (length self.old.senders.now) + 1 }
+        ensures in_turn { result ≡ true → self.new.next ≡ turn_of self.old.next (length self.old.senders.now) + 1 }
         ensures handed { result ≡ true → (sender : H) × (slice_get self.old.senders.now
             (turn_of self.old.next (length self.old.senders.now)) ≡ Some sender)
             × IsDelivered H.takes H.is_busy self.old.senders.now sender arrival }
@@ -67,8 +64,7 @@ impl<'a, H: Deliver> Dispatcher<'a, H> {
 
     /// Delivers a connection to this worker, or to the last if this one is busy; `false` if the worker has ended.
     fn deliver<X: Wait + Clock>(&self, rt: &X, sender: &H, arrival: Accepted) -> bool
-        ensures { result ≡ true
-            → IsDelivered H.takes H.is_busy self.now.senders.now sender.now arrival }
+        ensures { result ≡ true → IsDelivered H.takes H.is_busy self.now.senders.now sender.now arrival }
     {
         match sender.deliver(rt, arrival) {
             Ok(is_taken) => is_taken,
@@ -95,21 +91,17 @@ impl<'a, H: Deliver> Dispatcher<'a, H> {
         note: &N,
     ) -> Result<(), ServerFault>
         requires { N.IsAlwaysCallable note.now }
-        ensures counted { OnOk result
-            (self.new.dealt ≡ min (self.old.dealt + 1) 18446744073709551615) }
+        ensures counted { OnOk result (self.new.dealt ≡ min (self.old.dealt + 1) 18446744073709551615) }
         ensures refused { OnErr result (self.new.dealt ≡ self.old.dealt) }
-        ensures in_turn { OnOk result
-            (self.new.next ≡ turn_of self.old.next (length self.old.senders.now) + 1) }
+        ensures in_turn { OnOk result (self.new.next ≡ turn_of self.old.next (length self.old.senders.now) + 1) }
         ensures handed { OnOk result ((arrival : Accepted) × (sender : H)
             × Gives L.accepts listener.old arrival listener.new
             × (slice_get self.old.senders.now (turn_of self.old.next (length self.old.senders.now))
             ≡ Some sender) × IsDelivered H.takes H.is_busy self.old.senders.now sender arrival) }
         ensures senders { self.new.senders.now ≡ self.old.senders.now }
         ensures same { L.refuses listener.new → L.refuses listener.old }
-        ensures faults { IfErr result (λ fault.
-            (fault ≡ ServerFault.AcceptFailed) ⊎ (fault ≡ ServerFault.PollFailed)) }
-        ensures deaf { IfErr result (λ fault.
-            fault ≡ ServerFault.AcceptFailed → L.refuses listener.old) }
+        ensures faults { IfErr result (λ fault. (fault ≡ ServerFault.AcceptFailed) ⊎ (fault ≡ ServerFault.PollFailed)) }
+        ensures deaf { IfErr result (λ fault. fault ≡ ServerFault.AcceptFailed → L.refuses listener.old) }
     {
         let Some(arrival) = self.acceptor.next(rt, listener, note) else {
             return Err(ServerFault::AcceptFailed);
@@ -136,10 +128,8 @@ impl<'a, H: Deliver> Dispatcher<'a, H> {
         ensures deals { OnOk result
             (Deals L.accepts H.takes H.is_busy self.old.senders.now most listener.old listener.new) }
         ensures none { most ≡ 0 → IsOk result }
-        ensures faults { IfErr result (λ fault.
-            (fault ≡ ServerFault.AcceptFailed) ⊎ (fault ≡ ServerFault.PollFailed)) }
-        ensures deaf { IfErr result (λ fault.
-            fault ≡ ServerFault.AcceptFailed → L.refuses listener.old) }
+        ensures faults { IfErr result (λ fault. (fault ≡ ServerFault.AcceptFailed) ⊎ (fault ≡ ServerFault.PollFailed)) }
+        ensures deaf { IfErr result (λ fault. fault ≡ ServerFault.AcceptFailed → L.refuses listener.old) }
     {
         for _ in 0..most {
             self.accept_one(rt, listener, note)?;
@@ -166,10 +156,8 @@ impl<'a, H: Deliver> Dispatcher<'a, H> {
         ensures deals { IfOk result (λ k.
             Deals L.accepts H.takes H.is_busy self.old.senders.now k listener.old listener.new) }
         ensures none { connections ≡ Some 0 → IsOk result }
-        ensures faults { IfErr result (λ fault.
-            (fault ≡ ServerFault.AcceptFailed) ⊎ (fault ≡ ServerFault.PollFailed)) }
-        ensures deaf { IfErr result (λ fault.
-            fault ≡ ServerFault.AcceptFailed → L.refuses listener.old) }
+        ensures faults { IfErr result (λ fault. (fault ≡ ServerFault.AcceptFailed) ⊎ (fault ≡ ServerFault.PollFailed)) }
+        ensures deaf { IfErr result (λ fault. fault ≡ ServerFault.AcceptFailed → L.refuses listener.old) }
     {
         if let Some(most) = connections {
             self.accept_so_many(rt, listener, most, note)?;

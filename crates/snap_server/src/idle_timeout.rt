@@ -8,8 +8,7 @@ const LOOKS: u32 = 4;
 
 /// The time between two idle checks while the server stops, in milliseconds.
 ///
-/// A connection is closed when [`LAST_LOOKS`] of them in a row find it silent within a request:
-/// after five seconds.
+/// A connection is closed when [`LAST_LOOKS`] of them in a row find it silent within a request: after five seconds.
 const LAST_REST: u64 = 100;
 
 const LAST_LOOKS: u32 = 50;
@@ -21,8 +20,7 @@ pub struct IdleTimeout {
     pub rest: Duration,
     /// The number of consecutive checks that may find a connection silent.
     pub looks: u32,
-    /// Whether the server is stopping: then a connection is closed at the next check, unless it has
-    /// begun a request.
+    /// Whether the server is stopping: then a connection is closed at the next check, unless it has begun a request.
     pub stops: bool,
 }
 

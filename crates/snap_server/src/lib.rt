@@ -1,11 +1,10 @@
 //! The server's connections: accepts them, and serves any number of them on a few threads. Begin
 //! with [`run`] (server.rt).
 //!
-//! [`run`] accepts connections on the calling thread and delivers them in turn to its *workers*,
-//! one thread for each service. A worker (worker.rt) owns its service, its connections and one read
-//! buffer. It sleeps until the system reports some of its connections, and polls the session of
-//! each of these (a *turn*); an idle connection costs no thread and no buffer. Requests that a
-//! service hands over, such as updates that wait for a disk, are done by a
+//! [`run`] accepts connections on the calling thread and delivers them in turn to its *workers*, one thread for each
+//! service. A worker (worker.rt) owns its service, its connections and one read buffer. It sleeps until the system
+//! reports some of its connections, and polls the session of each of these (a *turn*); an idle connection costs no
+//! thread and no buffer. Requests that a service hands over, such as updates that wait for a disk, are done by a
 //! [`Background`](snap_session::Background) in a thread of its own.
 #![tactic(auto)]
 

@@ -62,8 +62,7 @@ pub trait LocalAddress {
         ensures told { is_at self.now result.now };
 }
 
-/// The system's errors if it has no descriptor or no memory for a socket: Linux's ENFILE, EMFILE,
-/// ENOMEM and ENOBUFS.
+/// The system's errors if it has no descriptor or no memory for a socket: Linux's ENFILE, EMFILE, ENOMEM and ENOBUFS.
 const NO_ROOM: [i32; 4] = [23, 24, 12, 105];
 
 /// The system's errors that concern one client alone: a filter that refuses it, a signal, and

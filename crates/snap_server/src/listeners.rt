@@ -70,8 +70,7 @@ pub struct Listeners<'a, R: Files<File = File> + Clock> {
 }
 
 impl<'a, R: Files<File = File> + Clock> Listeners<'a, R> {
-    /// An empty set of listeners. Fails if the system refuses its event queue, or if memory runs
-    /// out.
+    /// An empty set of listeners. Fails if the system refuses its event queue, or if memory runs out.
     pub fn new(net: &impl Net, alloc: Global) -> Result<Listeners<'a, R>, BindFault> {
         let poll = Poll::new(net)?;
         let Ok(events) = Events::with_capacity(alloc, MAX_EVENTS) else {
@@ -123,8 +122,7 @@ impl<'a, R: Files<File = File> + Clock> Listeners<'a, R> {
             .register(&mut source, token, Interest::READABLE)
     }
 
-    /// Accepts a connection from the first listener in turn at which one waits; `None` if none
-    /// waits.
+    /// Accepts a connection from the first listener in turn at which one waits; `None` if none waits.
     fn take_in_turn(&mut self) -> Result<Option<Accepted>, AcceptFault> {
         for _ in 0..self.opened.len() {
             if self.next >= self.opened.len() {
@@ -146,8 +144,7 @@ impl<R: Files<File = File> + Clock> Listen for Listeners<'_, R> {
     /// The system may fail at any time.
     ghost refuses = { λ _. Unit {0} };
 
-    /// The system reports a waiting connection only once, so all listeners are tried before it
-    /// waits.
+    /// The system reports a waiting connection only once, so all listeners are tried before it waits.
     fn accept(&mut self) -> Result<Accepted, AcceptFault> {
         if let Some(arrival) = self.take_in_turn()? {
             return Ok(arrival);

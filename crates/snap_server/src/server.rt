@@ -81,15 +81,13 @@ fn open_workers<X: Net, S: Service + Drop>(
 ) -> Result<(Vec<Worker<S>>, Vec<MailboxSender<S::Outcome>>), ServerFault>
 where
     S::Outcome: Drop,
-    ensures workers { IfOk result (λ made.
-        map (λ worker. worker.sessions.service) made.0.items ≡ services.items) }
+    ensures workers { IfOk result (λ made. map (λ worker. worker.sessions.service) made.0.items ≡ services.items) }
     ensures senders { IfOk result (λ made. vec_len made.1 ≡ vec_len services) }
     ensures places { IfOk result (λ made. map (λ worker. worker.mailbox.place) made.0.items
         ≡ range_with_len 0 (vec_len services)) }
     ensures theirs { IfOk result (λ made. map (λ sender. sender.place) made.1.items
         ≡ range_with_len 0 (vec_len services)) }
-    ensures faults { IfErr result (λ fault.
-        (fault ≡ ServerFault.NoPoll) ⊎ (fault ≡ ServerFault.NoMemory)) }
+    ensures faults { IfErr result (λ fault. (fault ≡ ServerFault.NoPoll) ⊎ (fault ≡ ServerFault.NoMemory)) }
 {
     let mut workers = Vec::new(alloc);
     let mut senders = Vec::new(alloc);
@@ -111,8 +109,7 @@ where
     Ok((workers, senders))
 }
 
-/// Makes a worker for each service, wrapped with the hook `gate`, and their senders in the same
-/// order.
+/// Makes a worker for each service, wrapped with the hook `gate`, and their senders in the same order.
 fn open_all<'a, X: Net, S: Service + Drop, G: Gate>(
     net: &X,
     alloc: Global,
@@ -126,8 +123,7 @@ where
         ≡ range_with_len 0 (vec_len made.0)) }
     ensures theirs { IfOk result (λ made. map (λ sender. sender.place) made.1.items
         ≡ range_with_len 0 (vec_len made.0)) }
-    ensures faults { IfErr result (λ fault.
-        (fault ≡ ServerFault.NoPoll) ⊎ (fault ≡ ServerFault.NoMemory)) }
+    ensures faults { IfErr result (λ fault. (fault ≡ ServerFault.NoPoll) ⊎ (fault ≡ ServerFault.NoMemory)) }
 {
     let services = gate_all(alloc, services, gate)?;
     open_workers(net, alloc, services, idle)
@@ -159,10 +155,8 @@ where
     ensures deals { IfOk result (λ k. Deals L.accepts H.takes H.is_busy dispatcher.entry.senders.now k
         listener.old listener.new) }
     ensures accepted { IfOk result (λ k. GivesSoMany L.accepts k listener.old listener.new) }
-    ensures deaf { IfErr result (λ why.
-        why ≡ RunFault.Server ServerFault.AcceptFailed → L.refuses listener.old) }
-    ensures announced { Announced (A.announces announce.now) (A.fails announce.now)
-        to.old result to.new }
+    ensures deaf { IfErr result (λ why. why ≡ RunFault.Server ServerFault.AcceptFailed → L.refuses listener.old) }
+    ensures announced { Announced (A.announces announce.now) (A.fails announce.now) to.old result to.new }
 {
     if !is_whole {
         return Err(RunFault::Server(ServerFault::NoThread));
@@ -205,13 +199,10 @@ where
     requires note { N.IsAlwaysCallable note.now }
     requires needs { K.needs }
     ensures asked { IfOk result (λ k. limits.connections ≡ Some k) }
-    ensures deals { IfOk result (λ k.
-        (left : L) × Deals L.accepts H.takes H.is_busy senders.now k listener left) }
+    ensures deals { IfOk result (λ k. (left : L) × Deals L.accepts H.takes H.is_busy senders.now k listener left) }
     ensures served { OnOk result (All K.serves workers.items) }
-    ensures deaf { IfErr result (λ why.
-        why ≡ RunFault.Server ServerFault.AcceptFailed → L.refuses listener) }
-    ensures announced { Announced (A.announces announce.now) (A.fails announce.now)
-        to.old result to.new }
+    ensures deaf { IfErr result (λ why. why ≡ RunFault.Server ServerFault.AcceptFailed → L.refuses listener) }
+    ensures announced { Announced (A.announces announce.now) (A.fails announce.now) to.old result to.new }
 {
     let limit = ConnectionLimit::new(limits.clients);
     let limit = &limit;
@@ -228,8 +219,7 @@ where
             ensures deals { IfOk result.0 (λ k.
                 (left : L) × Deals L.accepts H.takes H.is_busy senders.entry.now k listener left) }
             ensures served { OnOk result.0 (All K.serves workers.items) }
-            ensures deaf { IfErr result.0 (λ why.
-                why ≡ RunFault.Server ServerFault.AcceptFailed → L.refuses listener) }
+            ensures deaf { IfErr result.0 (λ why. why ≡ RunFault.Server ServerFault.AcceptFailed → L.refuses listener) }
             ensures announced { Announced (A.announces announce.entry.now)
                 (A.fails announce.entry.now) to.entry.now result.0 result.1.now }
             ensures same { result.1.ghost_name ≡ to.entry.ghost_name }
@@ -266,12 +256,11 @@ where
 ///
 /// While the limit of open connections is reached, clients wait in the listener's queue.
 ///
-/// The server is announced to `to` once it has its threads, their event queues and their memory,
-/// and before it accepts. If the announcement fails, `run` returns and has accepted no connection.
-/// Each background works in a thread of its own, and has ended once the services are dropped. The
-/// gate's `enter` is called before a request is answered, and its `leave` after. `note` gets each
-/// [`ServerEvent`](crate::ServerEvent): the close of a connection on its worker's thread, and the
-/// others on the calling thread.
+/// The server is announced to `to` once it has its threads, their event queues and their memory, and before it accepts.
+/// If the announcement fails, `run` returns and has accepted no connection. Each background works in a thread of its
+/// own, and has ended once the services are dropped. The gate's `enter` is called before a request is answered, and its
+/// `leave` after. `note` gets each [`ServerEvent`](crate::ServerEvent): the close of a connection on its worker's
+/// thread, and the others on the calling thread.
 ///
 /// The listener is closed once no more connections are accepted. After a fault the open connections
 /// are closed: each between two requests, or after five seconds of silence within one.
@@ -310,12 +299,9 @@ where
     requires requests { AllAsked S.asked }
     requires memory { L.may_serve S.memory }
     ensures asked { IfOk result (λ k. limits.connections ≡ Some k) }
-    ensures accepted { IfOk result (λ k.
-        (left : L) × GivesSoMany L.accepts k listener left) }
-    ensures deaf { IfErr result (λ why.
-        why ≡ RunFault.Server ServerFault.AcceptFailed → L.refuses listener) }
-    ensures announced { Announced (A.announces announce.now) (A.fails announce.now)
-        to.old result to.new }
+    ensures accepted { IfOk result (λ k. (left : L) × GivesSoMany L.accepts k listener left) }
+    ensures deaf { IfErr result (λ why. why ≡ RunFault.Server ServerFault.AcceptFailed → L.refuses listener) }
+    ensures announced { Announced (A.announces announce.now) (A.fails announce.now) to.old result to.new }
 {
     let (workers, senders) = match open_all(rt, alloc, services, gate, limits.idle) {
         Ok(opened) => opened,

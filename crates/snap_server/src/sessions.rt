@@ -84,8 +84,7 @@ impl<S: Service + Drop> Sessions<S> {
         ensures kept { (key : ℕ) → (c : Connection) → get self.old.connections key ≡ Some c
             → get self.new.connections key ≡ Some c }
         ensures refused { result ≡ false → SameValues self.old.connections self.new.connections }
-        ensures taken { result ≡ true
-            → slab_len self.new.connections ≡ slab_len self.old.connections + 1 }
+        ensures taken { result ≡ true → slab_len self.new.connections ≡ slab_len self.old.connections + 1 }
         ensures order { self.new.listed.items ≡ self.old.listed.items }
     {
         let Some(count) = self.connections.len().checked_add(1) else {
@@ -110,10 +109,8 @@ impl<S: Service + Drop> Sessions<S> {
             → get self.new.connections key ≡ Some (record c { stage = enlisted c.stage }) }
         ensures behind { (c : Connection) → get self.old.connections key ≡ Some c
             → self.new.listed.items ≡ listed_behind c.stage key self.old.listed.items }
-        ensures nobody { get self.old.connections key ≡ None
-            → self.new.connections ≡ self.old.connections }
-        ensures unlisted { get self.old.connections key ≡ None
-            → self.new.listed.items ≡ self.old.listed.items }
+        ensures nobody { get self.old.connections key ≡ None → self.new.connections ≡ self.old.connections }
+        ensures unlisted { get self.old.connections key ≡ None → self.new.listed.items ≡ self.old.listed.items }
         ensures others { KeepsOthers key self.old.connections self.new.connections }
         ensures count { slab_len self.new.connections ≡ slab_len self.old.connections }
     {
@@ -134,8 +131,7 @@ impl<S: Service + Drop> Sessions<S> {
         ensures sessions { IfSome result (λ key. (c : Connection)
             → get self.old.connections key ≡ Some c
             → get self.new.connections key ≡ Some (record c { stage = ConnectionState.Idle })) }
-        ensures others { IfSome result (λ key.
-            KeepsOthers key self.old.connections self.new.connections) }
+        ensures others { IfSome result (λ key. KeepsOthers key self.old.connections self.new.connections) }
         ensures nobody { IfNone result (self.old.listed.items ≡ []) }
         ensures none { IfNone result (self.new.connections ≡ self.old.connections) }
     {
@@ -149,8 +145,7 @@ impl<S: Service + Drop> Sessions<S> {
     /// Polls a connection once, and returns its close if it is closed. If it may have more to do at
     /// once, it is appended to the list again.
     pub fn turn(&mut self, key: usize, piece: &mut [u8; PIECE]) -> Option<Closed>
-        requires idle { (c : Connection) → get self.old.connections key ≡ Some c
-            → c.stage ≡ ConnectionState.Idle }
+        requires idle { (c : Connection) → get self.old.connections key ≡ Some c → c.stage ≡ ConnectionState.Idle }
         requires asked { AllAsked S.asked }
         ensures ended { IfSome result (λ ended. (c : Connection)
             × (get self.new.connections key ≡ Some c) × HasEnded c ended) }
@@ -171,10 +166,8 @@ impl<S: Service + Drop> Sessions<S> {
         ensures kept { (c : Connection) → get self.old.connections key ≡ Some c
             → IsSome (get self.new.connections key) }
         ensures moves { Moves S.gives self.old.service self.new.service }
-        ensures nobody { get self.old.connections key ≡ None
-            → self.new.service ≡ self.old.service }
-        ensures unlisted { get self.old.connections key ≡ None
-            → self.new.listed.items ≡ self.old.listed.items }
+        ensures nobody { get self.old.connections key ≡ None → self.new.service ≡ self.old.service }
+        ensures unlisted { get self.old.connections key ≡ None → self.new.listed.items ≡ self.old.listed.items }
         ensures others { KeepsOthers key self.old.connections self.new.connections }
         ensures count { slab_len self.new.connections ≡ slab_len self.old.connections }
     {
@@ -231,8 +224,7 @@ impl<S: Service + Drop> Sessions<S> {
         }
     }
 
-    /// Answers a connection's request by its outcome, and lists the connection. A closed connection
-    /// is removed.
+    /// Answers a connection's request by its outcome, and lists the connection. A closed connection is removed.
     pub fn tell(&mut self, key: usize, outcome: S::Outcome)
     where
         S::Outcome: Drop,
@@ -245,17 +237,14 @@ impl<S: Service + Drop> Sessions<S> {
         ensures last { (c : Connection) → get self.old.connections key ≡ Some c
             → (talk : Talk) × IsTurn S.gives self.old.service self.new.service c.session talk }
         ensures moves { Moves S.gives self.old.service self.new.service }
-        ensures nobody { get self.old.connections key ≡ None
-            → self.new.service ≡ self.old.service }
+        ensures nobody { get self.old.connections key ≡ None → self.new.service ≡ self.old.service }
         ensures held { (c : Connection) → (d : Connection)
             → get self.old.connections key ≡ Some c → get self.new.connections key ≡ Some d
             → d.session.held ≡ c.session.held }
-        ensures listed { (d : Connection) → get self.new.connections key ≡ Some d
-            → d.stage ≡ ConnectionState.Listed }
+        ensures listed { (d : Connection) → get self.new.connections key ≡ Some d → d.stage ≡ ConnectionState.Listed }
         ensures behind { (c : Connection) → get self.old.connections key ≡ Some c
             → self.new.listed.items ≡ listed_behind c.stage key self.old.listed.items }
-        ensures unlisted { get self.old.connections key ≡ None
-            → self.new.listed.items ≡ self.old.listed.items }
+        ensures unlisted { get self.old.connections key ≡ None → self.new.listed.items ≡ self.old.listed.items }
         ensures gone { (c : Connection) → get self.old.connections key ≡ Some c
             → c.stage ≡ ConnectionState.Over → get self.new.connections key ≡ None }
         ensures kept { (c : Connection) → get self.old.connections key ≡ Some c

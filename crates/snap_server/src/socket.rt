@@ -32,8 +32,7 @@ impl Socket {
         }
     }
 
-    /// Shuts the writing side down, so that the peer reads all that was written, and closes the
-    /// descriptor.
+    /// Shuts the writing side down, so that the peer reads all that was written, and closes the descriptor.
     pub fn close(&mut self) {
         if let Some(stream) = self.stream.take() {
             let _ = stream.shutdown(Shutdown::Write);

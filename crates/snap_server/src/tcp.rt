@@ -17,8 +17,7 @@ pub struct Tcp {
 }
 
 impl Tcp {
-    /// Listens at an address, with the longest queue of connections that the system allows. An
-    /// error is the system's.
+    /// Listens at an address, with the longest queue of connections that the system allows. An error is the system's.
     ///
     /// At port 0 the system picks a port, which [`address`](Tcp::address) returns.
     pub fn bind(net: &impl Net, address: SocketAddr) -> io::Result<Tcp> {

@@ -126,8 +126,7 @@ where
     requires none { threads.old.items ≡ [] }
     requires note { N.IsAlwaysCallable note.now }
     requires needs { K.needs }
-    ensures { result ≡ true
-        → map (λ thread. thread.promise.worker.value) threads.new.items ≡ workers.items }
+    ensures { result ≡ true → map (λ thread. thread.promise.worker.value) threads.new.items ≡ workers.items }
 {
     'workers: for worker in workers {
         let worker_then = Snapshot::of(&worker);
@@ -156,8 +155,7 @@ pub fn have_served<X: Threads, K: Work>(
     rt: &X,
     threads: Vec<PromisedHandle<bool, Serving<K>>>,
 ) -> bool
-    ensures { result ≡ true
-        → All K.serves (map (λ thread. thread.promise.worker.value) threads.items) }
+    ensures { result ≡ true → All K.serves (map (λ thread. thread.promise.worker.value) threads.items) }
 {
     let mut all = true;
     'threads: for thread in threads {

@@ -29,8 +29,7 @@ const MAILBOX: Token = Token(usize::MAX);
 /// The most events of one wait.
 const MAX_EVENTS: usize = 256;
 
-/// Polls without sleeping before a worker blocks: about 80 us, twice as long as it takes to wake a
-/// thread.
+/// Polls without sleeping before a worker blocks: about 80 us, twice as long as it takes to wake a thread.
 const SPINS: u32 = 200;
 
 /// A thread that serves many connections, and all that it owns.
@@ -41,8 +40,7 @@ where
 {
     alloc: Global,
     poll: Poll,
-    /// The events of the last wait. Allocated at the start, so that a serving worker allocates no
-    /// memory for itself.
+    /// The events of the last wait. Allocated at the start, so that a serving worker allocates no memory for itself.
     events: Events,
     mailbox: Mailbox<S::Outcome>,
     sessions: Sessions<S>,
@@ -143,8 +141,7 @@ where
         ensures open { IfOk result (λ made. made.0.is_open ≡ true) }
         ensures mailbox { IfOk result (λ made. made.0.mailbox.place ≡ place) }
         ensures sender { IfOk result (λ made. made.1.place ≡ place) }
-        ensures faults { IfErr result (λ fault.
-            (fault ≡ ServerFault.NoPoll) ⊎ (fault ≡ ServerFault.NoMemory)) }
+        ensures faults { IfErr result (λ fault. (fault ≡ ServerFault.NoPoll) ⊎ (fault ≡ ServerFault.NoMemory)) }
     {
         let poll = Poll::new(net).map_err(fault_of)?;
         let waker = Waker::new(poll.registry(), MAILBOX).map_err(fault_of)?;
@@ -221,8 +218,7 @@ where
         }
     }
 
-    /// Polls the first connection of the list. If it has more to do, it is appended to the list
-    /// again.
+    /// Polls the first connection of the list. If it has more to do, it is appended to the list again.
     fn serve_next<N: Fn(&ServerEvent)>(
         &mut self,
         piece: &mut [u8; PIECE],
@@ -281,8 +277,7 @@ where
             .map_err(|_| ServerFault::PollFailed)
     }
 
-    /// Polls without sleeping until something is ready or arrives in the mailbox; `false` if
-    /// nothing does.
+    /// Polls without sleeping until something is ready or arrives in the mailbox; `false` if nothing does.
     fn spin_until_ready(&mut self) -> Result<bool, ServerFault>
         ensures sessions { self.new.sessions ≡ self.old.sessions }
         ensures fault { IfErr result (λ fault. fault ≡ ServerFault.PollFailed) }
@@ -370,8 +365,7 @@ where
         true
     }
 
-    /// Lists the connections that are ready, and takes one message and one connection out of the
-    /// mailbox.
+    /// Lists the connections that are ready, and takes one message and one connection out of the mailbox.
     fn take_events<X: Wait, N: Fn(&ServerEvent)>(
         &mut self,
         rt: &X,

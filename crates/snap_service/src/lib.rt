@@ -5,10 +5,9 @@
 //! reply to an update is its writer's result ([`settle`], settlement.rt); a scan is the memory at
 //! one moment that the scanner sees ([`answer_scan`], scans.rt).
 //!
-//! [`Node`] (node.rt, with shared.rt, lock.rt and locked_writer.rt) is a service whose writers are
-//! under locks, one for each segment: a scan takes no lock, and an update locks its own segment
-//! alone. It is for a server inside another program, as in tests and benchmarks; `snapd` uses the
-//! desks of `snap_desk`.
+//! [`Node`] (node.rt, with shared.rt, lock.rt and locked_writer.rt) is a service whose writers are under locks, one for
+//! each segment: a scan takes no lock, and an update locks its own segment alone. It is for a server inside another
+//! program, as in tests and benchmarks; `snapd` uses the desks of `snap_desk`.
 #![tactic(auto)]
 
 mod lock;

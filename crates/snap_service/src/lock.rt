@@ -51,8 +51,7 @@ impl<M: Memory, D: Disk + Drop> WriterLock<M, D> {
         requires memory { IsOf M.table M.plan token.old.scanner }
         requires segment { segment < segments token.old.scanner.plan }
         requires size { IsShort value.now }
-        ensures answer { AnswersUpdate token.old.scanner segment number value.now result
-            token.new.scanner }
+        ensures answer { AnswersUpdate token.old.scanner segment number value.now result token.new.scanner }
         ensures looks { LooksOnce token.old.scanner token.new.scanner }
         ensures limits { IsInLimits result }
         ensures locks { token.new.locks ≡ next_count token.old.locks }

@@ -65,8 +65,7 @@ impl LockToken {
         self.scanner
     }
 
-    /// Answers a scan, as [`answer_scan`](crate::answer_scan) does. No lock is taken, and no writer
-    /// changes.
+    /// Answers a scan, as [`answer_scan`](crate::answer_scan) does. No lock is taken, and no writer changes.
     pub(crate) fn scan(&mut self, alloc: Global) -> Reply
         ensures answer { AnswersScan self.old.scanner result self.new.scanner }
         ensures limits { IsInLimits result }
@@ -123,13 +122,11 @@ impl<M: Memory, D: Disk> Model for LockedWriter<M, D> {
 
     ghost view = { λ h. h.writer };
 
-    ghost invariant = { λ h. IsOf M.table M.plan h.writer.seat
-        × (own_of h.writer.seat ≡ h.segment) };
+    ghost invariant = { λ h. IsOf M.table M.plan h.writer.seat × (own_of h.writer.seat ≡ h.segment) };
 }
 
 impl<M: Memory, D: Disk> LockedWriter<M, D> {
-    /// Wraps `writer`, which belongs to the memory `M` and writes `segment`, to be put under a
-    /// lock.
+    /// Wraps `writer`, which belongs to the memory `M` and writes `segment`, to be put under a lock.
     pub(crate) fn new(writer: Writer<D>, segment: usize) -> LockedWriter<M, D>
         requires memory { IsOf M.table M.plan writer.seat }
         requires own { own_of writer.seat ≡ segment }
@@ -185,8 +182,7 @@ impl<M: Memory, D: Disk> LockedWriter<M, D> {
         requires memory { IsOf M.table M.plan token.old.scanner }
         requires segment { segment < segments token.old.scanner.plan }
         requires size { IsShort value.now }
-        ensures answer { AnswersUpdate token.old.scanner segment number value.now result
-            token.new.scanner }
+        ensures answer { AnswersUpdate token.old.scanner segment number value.now result token.new.scanner }
         ensures looks { LooksOnce token.old.scanner token.new.scanner }
         ensures limits { IsInLimits result }
         ensures own { own_of self.old.seat ≡ segment

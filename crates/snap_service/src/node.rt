@@ -17,8 +17,7 @@ use std::alloc::{AllocError, Global};
 use std::marker::Model;
 use std::sync::Wait;
 
-/// A [`Service`] with a scanner of its own, over writers that all nodes share. It answers every
-/// request at once.
+/// A [`Service`] with a scanner of its own, over writers that all nodes share. It answers every request at once.
 ///
 /// An update locks its own segment, once, and is done once. A status locks one segment after the
 /// other and changes no writer. A scan takes no lock and changes no writer.
@@ -64,8 +63,7 @@ impl<'a, R: Wait, M: Memory, D: Disk + Drop> Node<'a, R, M, D> {
 
     /// Answers an update. Its segment and its length are checked before any lock is taken.
     fn update(&mut self, segment: usize, number: u64, value: &[u8]) -> Reply
-        ensures answer { AnswersUpdate self.old.scanner segment number value.now result
-            self.new.scanner }
+        ensures answer { AnswersUpdate self.old.scanner segment number value.now result self.new.scanner }
         ensures limits { IsInLimits result }
         ensures counts { CountsUpdate self.old segment value.now self.new }
     {
@@ -146,8 +144,7 @@ impl<'a, R: Wait, M: Memory, D: Disk + Drop> Service for Node<'a, R, M, D> {
 
     type Outcome = ();
 
-    ghost gives = { λ old request reply new. Answers old.scanner request reply new.scanner
-        × Counts old request new };
+    ghost gives = { λ old request reply new. Answers old.scanner request reply new.scanner × Counts old request new };
 
     ghost hands_over = { ⊥ };
 

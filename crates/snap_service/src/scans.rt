@@ -35,9 +35,8 @@ pub fn answer_scan(alloc: Global, scanner: &mut Scanner) -> Reply
 /// Answers a scan of some segments, at least one: the number and the value of each named segment,
 /// in ascending order, as [`answer_scan`] answers all of them.
 ///
-/// Refused as `NoSegment`, with the number of segments, if a named one doesn't exist; then nothing
-/// changes. Otherwise refused as [`answer_scan`] is, by the looks that a scan of the named segments
-/// might take.
+/// Refused as `NoSegment`, with the number of segments, if a named one doesn't exist; then nothing changes. Otherwise
+/// refused as [`answer_scan`] is, by the looks that a scan of the named segments might take.
 pub fn answer_part(alloc: Global, scanner: &mut Scanner, set: SegmentSet) -> Reply
     requires some { 0 < set.bits }
     ensures answer { AnswersPart scanner.old set.bits result scanner.new }
@@ -73,8 +72,7 @@ fn name_values(
 ) -> Result<Vec<NamedValue>, AllocError>
     requires each { length values.now.items ≡ size set.bits }
     ensures segments { IfOk result (λ list. map segment_of list.items ≡ named set.bits) }
-    ensures values { IfOk result (λ list.
-        map named_pair list.items ≡ map pair_of values.now.items) }
+    ensures values { IfOk result (λ list. map named_pair list.items ≡ map pair_of values.now.items) }
 {
     let mut list = Vec::with_capacity(alloc, values.len())?;
     for segment in 0..MAX_COUNT {

@@ -30,8 +30,7 @@ pub fn update<D: Disk>(writer: &mut Writer<D>, number: u64, value: &[u8]) -> Res
 
 /// Makes the reply from the writer's result.
 ///
-/// The scanner meets the writer, so it has seen the update, and the reply fits what it has seen. No
-/// look is taken.
+/// The scanner meets the writer, so it has seen the update, and the reply fits what it has seen. No look is taken.
 pub fn reply_told<D: Disk>(
     told: Result<u64, Refusal>,
     writer: &mut Writer<D>,

@@ -23,8 +23,7 @@ pub struct Shared<M: Memory, D: Disk + Drop> {
 }
 
 impl<M: Memory, D: Disk + Drop> Shared<M, D> {
-    /// Puts the writer of each segment under a lock. If memory runs out, the error returns the
-    /// writers, unchanged.
+    /// Puts the writer of each segment under a lock. If memory runs out, the error returns the writers, unchanged.
     pub fn new(alloc: Global, writers: Vec<Writer<D>>) -> Result<Shared<M, D>, Vec<Writer<D>>>
         requires { AreWriters M.table M.plan writers.items }
         ensures { IfErr result (λ back. back.items ≡ writers.items) }
@@ -54,8 +53,7 @@ impl<M: Memory, D: Disk + Drop> Shared<M, D> {
         requires memory { IsOf M.table M.plan token.old.scanner }
         requires segment { segment < segments M.plan }
         requires size { IsShort value.now }
-        ensures answer { AnswersUpdate token.old.scanner segment number value.now result
-            token.new.scanner }
+        ensures answer { AnswersUpdate token.old.scanner segment number value.now result token.new.scanner }
         ensures limits { IsInLimits result }
         ensures counts { CountsOne token.old token.new }
     {
@@ -81,8 +79,7 @@ impl<M: Memory, D: Disk + Drop> Shared<M, D> {
         Ok(statuses)
     }
 
-    /// Takes the writers of all segments out of their locks, in order, so that a store can be
-    /// closed with them.
+    /// Takes the writers of all segments out of their locks, in order, so that a store can be closed with them.
     ///
     /// `room` is empty and has capacity for all of them, so nothing is allocated. [`Shared::new`]
     /// puts each writer at its segment's place. If one isn't at that place, the error has all

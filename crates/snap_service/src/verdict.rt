@@ -50,8 +50,7 @@ pub fn answer_by_look(scanner: &mut Scanner, segment: usize, number: u64, value:
     ensures worn { scanner.old.left ≡ 0 → result ≡ Reply.Refused Refusal.Worn 0 }
     ensures unchanged { scanner.old.left ≡ 0 → scanner.new ≡ scanner.old }
     ensures one_look { 0 < scanner.old.left → scanner.new.left + 1 ≡ scanner.old.left }
-    ensures looked { 0 < scanner.old.left
-        → IsReplyByLook scanner.new segment number value.now result }
+    ensures looked { 0 < scanner.old.left → IsReplyByLook scanner.new segment number value.now result }
     ensures limits { IsInLimits result }
 {
     if scanner.looks_left() == 0 {
@@ -71,8 +70,7 @@ pub fn answer_by_look(scanner: &mut Scanner, segment: usize, number: u64, value:
 fn reply_found(number: u64, value: &[u8], current: u64, held: &[u8]) -> Reply
     requires { IsNumber current }
     ensures settled { IsSettled current held.now number value.now result }
-    ensures fenced { IsNumber number → number ≡ current + 1
-        → result ≡ Reply.Refused Refusal.Fenced current }
+    ensures fenced { IsNumber number → number ≡ current + 1 → result ≡ Reply.Refused Refusal.Fenced current }
     ensures limits { IsInLimits result }
 {
     if number == current && value == held {

@@ -1,6 +1,5 @@
-//! The server's half of one connection: takes in the bytes that were read, has a service answer the
-//! requests, and keeps the replies as pending output. Begin with [`Session`] (session.rt) and the
-//! trait [`Service`] (service.rt).
+//! The server's half of one connection: takes in the bytes that were read, has a service answer the requests, and keeps
+//! the replies as pending output. Begin with [`Session`] (session.rt) and the trait [`Service`] (service.rt).
 //!
 //! A session is a value over memory; [`proceed`] and [`serve`] (turns.rt) run one over any reader
 //! and writer. One relation, `Goes` of `specs/Talk.antt`, says what a session does: the bytes that

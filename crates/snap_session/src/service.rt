@@ -20,8 +20,7 @@ pub trait Service {
     /// The number of the memory from which it answers.
     ghost memory: { ℕ } = { 0 };
 
-    /// The replies that it may give: in the old state the request may get this reply and leave the
-    /// new state.
+    /// The replies that it may give: in the old state the request may get this reply and leave the new state.
     ghost gives: { Self → Request → Reply → Self → Type 0 };
 
     /// Whether it may hand a request over.
@@ -46,8 +45,7 @@ pub trait Service {
         ensures may { IfNone result Self.hands_over }
         ensures under { IfNone result (Self.hands_over_under key) };
 
-    /// Answers a request that was handed over, by its outcome. A scan of some segments names at
-    /// least one.
+    /// Answers a request that was handed over, by its outcome. A scan of some segments names at least one.
     fn finish(&mut self, request: &Request, outcome: Self::Outcome) -> Reply
         requires askable { IsAskable request.now }
         ensures gives { Self.gives self.old request.now result self.new }

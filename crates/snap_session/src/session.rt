@@ -1,9 +1,8 @@
 //! The session: one connection's conversation as a value, over memory.
 //!
-//! A session holds the bytes that arrived and aren't answered, and the pending output. It does no
-//! input or output itself: its caller gives it the bytes that arrived, has it answer, and removes
-//! the bytes that were written, in pieces of any size and in any order of these calls
-//! (`specs/Talk.antt`).
+//! A session holds the bytes that arrived and aren't answered, and the pending output. It does no input or output
+//! itself: its caller gives it the bytes that arrived, has it answer, and removes the bytes that were written, in
+//! pieces of any size and in any order of these calls (`specs/Talk.antt`).
 ghost use Rattle.std.specs.Prelude.{◌≡◌, ◌≤◌, ◌<◌, ◌+◌, ◌↔◌, IsTrue, [], length, drop, Some, None, IfSome, true, false};
 ghost use Rattle.snap_frame.specs.Stream.{IsPartial};
 ghost use Rattle.snap_frame.specs.Messages.{max_payload, payload, says, IsAskable, IsInLimits};
@@ -134,8 +133,7 @@ impl Session {
         }
     }
 
-    /// Appends the frame of a reply to the pending output; `false` if memory ran out, and then the
-    /// session is over.
+    /// Appends the frame of a reply to the pending output; `false` if memory ran out, and then the session is over.
     fn owe(&mut self, reply: &Reply) -> bool
         requires { IsInLimits reply.now }
         ensures owes { Owes self.old (says reply.now) self.new result }
@@ -253,10 +251,8 @@ impl Session {
         requires going { self.old.over ≡ None }
         requires asked { AreAsked S.asked self.old.held }
         ensures goes { Goes Stays S.gives service.old service.new self.old [] [] self.new }
-        ensures few { GoesBy most_answers Stays S.gives service.old service.new
-            self.old [] [] self.new }
-        ensures wants { WaitsFor
-            (self.old.asked ≡ None → S.hands_over × S.hands_over_under key) result self.new }
+        ensures few { GoesBy most_answers Stays S.gives service.old service.new self.old [] [] self.new }
+        ensures wants { WaitsFor (self.old.asked ≡ None → S.hands_over × S.hands_over_under key) result self.new }
         ensures bounded { length self.old.owed ≤ most_owed → length self.new.owed ≤ most_owed }
         ensures held { self.new.over ≡ None → length self.new.held ≤ length self.old.held }
     {

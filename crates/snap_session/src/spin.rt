@@ -7,8 +7,7 @@ use std::marker::Model;
 /// The number of waits without polling after one that polled in vain.
 pub const WAITS_IN_A_REST: u32 = 15;
 
-/// Decides whether a thread polls before it sleeps, once per wait. Models how many of the next
-/// waits don't poll.
+/// Decides whether a thread polls before it sleeps, once per wait. Models how many of the next waits don't poll.
 #[derive(Drop)]
 pub struct Spin {
     resting: u32,

@@ -96,14 +96,11 @@ pub fn proceed<R: Read, W: Write, S: Service>(
     ensures stands { StandsAt result session.new (R.remaining reader.new) }
     ensures bounded { length session.old.owed ≤ most_owed → length session.new.owed ≤ most_owed }
     ensures free { (S.hands_over → ⊥) → session.old.asked ≡ None → session.new.asked ≡ None }
-    ensures outcome { (S.hands_over → ⊥) → session.old.asked ≡ None
-        → result ≡ Polled.NeedsOutcome → ⊥ }
-    ensures under { session.old.asked ≡ None
-        → OnSome session.new.asked (S.hands_over_under key) }
+    ensures outcome { (S.hands_over → ⊥) → session.old.asked ≡ None → result ≡ Polled.NeedsOutcome → ⊥ }
+    ensures under { session.old.asked ≡ None → OnSome session.new.asked (S.hands_over_under key) }
 
     // A peer's bytes are read no faster than it takes its replies.
-    ensures held { HoldsFrameAnd (length piece.old) session.old
-        → HoldsFrameAnd (length piece.old) session.new }
+    ensures held { HoldsFrameAnd (length piece.old) session.old → HoldsFrameAnd (length piece.old) session.new }
     ensures rounds { TakesRounds S.gives (length piece.old) result
         (record {
           service = service.old;
@@ -149,11 +146,9 @@ pub fn proceed<R: Read, W: Write, S: Service>(
     Polled::Again
 }
 
-/// Answers all that is read, in order, until the input ends or something fails. It reads at most
-/// 4,096 bytes at a time.
+/// Answers all that is read, in order, until the input ends or something fails. It reads at most 4,096 bytes at a time.
 ///
-/// By its end it has written the frames of the replies that the service gave to the requests that
-/// were read:
+/// By its end it has written the frames of the replies that the service gave to the requests that were read:
 ///
 /// - [`End::Closed`], [`End::Truncated`], [`End::ReadFailed`]: all of them;
 /// - [`End::TooLarge`]: all of them, followed by the refusal of that length;

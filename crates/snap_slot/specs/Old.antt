@@ -16,8 +16,7 @@ abbrev pub OldOpen : List ℕ → ℕ → ℕ → List ℕ → Type 0
 OldOpen b s k v = IsOpenSlot OLD_SLOT_COUNT s (part (gate_at s) BLOCK_LEN b)
     (part (body_at s) BLOCK_LEN b) k v
 
--- the file holds number k and value v: one slot has them, the other is closed or has the previous
--- number
+-- the file holds number k and value v: one slot has them, the other is closed or has the previous number
 pub record OldHolds (b : List ℕ) (k : ℕ) (v : List ℕ) : Type 0 where
   pub s : ℕ
   pub is_open : OldOpen b s k v

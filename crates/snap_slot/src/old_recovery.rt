@@ -29,8 +29,7 @@ impl OldFound {
     pub fn value<'a>(&self, file: &'a [u8]) -> &'a [u8]
         requires size { length file.now ≡ OLD_FILE_LEN }
         requires limit { self.now.length ≤ MAX_VALUE_LEN }
-        ensures value { result.now
-            ≡ value_in file.now (old_slot_of self.now.number) self.now.length }
+        ensures value { result.now ≡ value_in file.now (old_slot_of self.now.number) self.now.length }
         ensures length { length result.now ≡ self.now.length }
     {
         let body = block_at(file, body_at(old_slot_of(self.number)));
@@ -47,8 +46,7 @@ impl OldFound {
 pub fn recover_old(file: &[u8], index: u8, count: u8) -> Result<OldFound, Refusal>
     requires { length file.now ≡ OLD_FILE_LEN }
     ensures found { IfOk result (IsOldFound index count file.now) }
-    ensures refused { IfErr result (λ why. IsNoOldOpening index count file.now why
-        × IsOfBytes why) }
+    ensures refused { IfErr result (λ why. IsNoOldOpening index count file.now why × IsOfBytes why) }
 {
     match old_header(file) {
         Header::Closed => Err(Refusal::Unformatted),
@@ -90,8 +88,7 @@ fn old_slot(file: &[u8], index: u8) -> Slot
     read_slot(OLD_SLOT_COUNT, index, gate, body)
 }
 
-/// The newest number of two slots: that of the only open one, or the greater of two numbers that
-/// differ by one.
+/// The newest number of two slots: that of the only open one, or the greater of two numbers that differ by one.
 fn newest_old(first: Slot, second: Slot) -> Option<OldFound>
     ensures { (b : List ℕ) → IsOldSlotOf b 0 first → IsOldSlotOf b 1 second
         → MatchOption result ((k : ℕ) (v : List ℕ) → OldHolds b k v → ⊥) (IsOldHeld b) }

@@ -19,11 +19,9 @@ const IN_PLACE: usize = 4096;
 /// Without memory, a text of more than 4,096 bytes is cut and ends in dots; then it returns
 /// `false`.
 pub fn complain<E: Write, T: Display>(alloc: Global, errors: &mut E, text: &T) -> bool
-    ensures { Complains (T.output text.now) result (E.contents errors.old)
-        (E.contents errors.new) }
+    ensures { Complains (T.output text.now) result (E.contents errors.old) (E.contents errors.new) }
 {
-    // The text is made first: after a `Display` whose text isn't known, the writer's contents
-    // wouldn't be known either.
+    // The text is made first: after a `Display` whose text isn't known, the writer's contents wouldn't be known either.
     match format!(in alloc; "{text}") {
         Ok(text) => write_line(alloc, errors, text.as_str()).is_ok(),
         Err(_) => complain_in_place(errors, text),
@@ -32,8 +30,7 @@ pub fn complain<E: Write, T: Display>(alloc: Global, errors: &mut E, text: &T) -
 
 /// [`complain`] without memory.
 fn complain_in_place<E: Write, T: Display>(errors: &mut E, text: &T) -> bool
-    ensures { Complains (T.output text.now) result (E.contents errors.old)
-        (E.contents errors.new) }
+    ensures { Complains (T.output text.now) result (E.contents errors.old) (E.contents errors.new) }
 {
     let text = InlineText::<IN_PLACE>::of(text);
     let text = text.as_str();
@@ -43,10 +40,8 @@ fn complain_in_place<E: Write, T: Display>(errors: &mut E, text: &T) -> bool
 
 /// Writes the line of a text: in one call, if there is memory and the writer takes it whole.
 fn write_line<E: Write>(alloc: Global, errors: &mut E, text: &str) -> io::Result<()>
-    ensures whole { OnOk result
-        (Appends (E.contents errors.old) (E.contents errors.new) (complaint_line text.now)) }
-    ensures cut { OnErr result
-        (AppendsLess (E.contents errors.old) (E.contents errors.new) (complaint_line text.now)) }
+    ensures whole { OnOk result (Appends (E.contents errors.old) (E.contents errors.new) (complaint_line text.now)) }
+    ensures cut { OnErr result (AppendsLess (E.contents errors.old) (E.contents errors.new) (complaint_line text.now)) }
 {
     match format!(in alloc; "snapd: {text}\n") {
         Ok(line) => write_whole(errors, line.as_bytes()),
@@ -56,10 +51,8 @@ fn write_line<E: Write>(alloc: Global, errors: &mut E, text: &str) -> io::Result
 
 /// [`write_line`] without memory.
 fn write_parts<E: Write>(errors: &mut E, text: &str) -> io::Result<()>
-    ensures whole { OnOk result
-        (Appends (E.contents errors.old) (E.contents errors.new) (complaint_line text.now)) }
-    ensures cut { OnErr result
-        (AppendsLess (E.contents errors.old) (E.contents errors.new) (complaint_line text.now)) }
+    ensures whole { OnOk result (Appends (E.contents errors.old) (E.contents errors.new) (complaint_line text.now)) }
+    ensures cut { OnErr result (AppendsLess (E.contents errors.old) (E.contents errors.new) (complaint_line text.now)) }
 {
     write_whole(errors, b"snapd: ")?;
     write_whole(errors, text.as_bytes())?;
@@ -69,12 +62,9 @@ fn write_parts<E: Write>(errors: &mut E, text: &str) -> io::Result<()>
 /// Writes the line of a refusal on standard error, such as `snapd: refused 10 Damaged`. Returns
 /// whether the whole line was written. It takes no memory.
 pub fn complain_of_refusal<E: Write>(errors: &mut E, why: Refusal) -> bool
-    ensures whole { result ≡ true
-        → Appends (E.contents errors.old) (E.contents errors.new) (refused_line why) }
-    ensures beginning { AppendsBeginning (E.contents errors.old) (E.contents errors.new)
-        (refused_line why) }
-    ensures cut { result ≡ false
-        → AppendsLess (E.contents errors.old) (E.contents errors.new) (refused_line why) }
+    ensures whole { result ≡ true → Appends (E.contents errors.old) (E.contents errors.new) (refused_line why) }
+    ensures beginning { AppendsBeginning (E.contents errors.old) (E.contents errors.new) (refused_line why) }
+    ensures cut { result ≡ false → AppendsLess (E.contents errors.old) (E.contents errors.new) (refused_line why) }
 {
     match write_whole(errors, line_of(why).as_bytes()) {
         Ok(()) => true,

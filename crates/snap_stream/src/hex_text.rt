@@ -28,8 +28,7 @@ pub fn read_hex(alloc: Global, word: &[u8]) -> Result<Option<Vec<u8>>, AllocErro
 /// How many bytes [`put_hex`] converts at a time.
 const PIECE: usize = 64;
 
-/// Appends a value's text, in lower case. If memory runs out, a beginning of it may have been
-/// appended.
+/// Appends a value's text, in lower case. If memory runs out, a beginning of it may have been appended.
 pub fn put_hex(out: &mut Vec<u8>, bytes: &[u8]) -> Result<(), AllocError>
     ensures { OnOk result (out.new.items ≡ out.old.items ++ hex_text bytes.now) }
 {

@@ -15,8 +15,7 @@ pub struct TestStream {
 }
 
 impl TestStream {
-    /// How many bytes the next call moves, of those available. An error if none may be moved any
-    /// more.
+    /// How many bytes the next call moves, of those available. An error if none may be moved any more.
     fn next(&self, there: usize) -> io::Result<usize> {
         let left = self.passes.saturating_sub(self.passed);
         let n = there.min(self.step).min(left);

@@ -8,14 +8,11 @@ use std::io::{self, ErrorKind, Read, Write};
 /// Writes all the bytes, in as few calls as the writer takes. It ends at the first call that fails
 /// or takes no byte; then a beginning of the bytes was written, and not all.
 ///
-/// A call that a signal interrupts counts as failed: these programs set no signal handler, so none
-/// is interrupted.
+/// A call that a signal interrupts counts as failed: these programs set no signal handler, so none is interrupted.
 pub fn write_whole<W: Write>(writer: &mut W, bytes: &[u8]) -> io::Result<()>
-    ensures whole { OnOk result
-        (Appends (W.contents writer.old) (W.contents writer.new) bytes.now) }
+    ensures whole { OnOk result (Appends (W.contents writer.old) (W.contents writer.new) bytes.now) }
     ensures beginning { AppendsBeginning (W.contents writer.old) (W.contents writer.new) bytes.now }
-    ensures cut { OnErr result
-        (AppendsLess (W.contents writer.old) (W.contents writer.new) bytes.now) }
+    ensures cut { OnErr result (AppendsLess (W.contents writer.old) (W.contents writer.new) bytes.now) }
 {
     let mut at = 0;
     while at < bytes.len() {
@@ -33,8 +30,7 @@ pub fn read_up_to<R: Read>(reader: &mut R, buffer: &mut [u8]) -> io::Result<usiz
     ensures fits { IfOk result (λ len. len ≤ length buffer.new) }
     ensures came { IfOk result (λ len.
         Consumes (R.remaining reader.old) (R.remaining reader.new) (take len buffer.new)) }
-    ensures ended { IfOk result
-        (λ len. len < length buffer.new → IsAtEnd (R.remaining reader.new)) }
+    ensures ended { IfOk result (λ len. len < length buffer.new → IsAtEnd (R.remaining reader.new)) }
 {
     let mut len = 0;
     while len < buffer.len() {

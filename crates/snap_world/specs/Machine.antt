@@ -132,8 +132,7 @@ Step n x (Begin w v) Begun_reply y =
     (s : WriterState) × (slice_get x.writers w ≡ Some s) × (s.pending ≡ Free) × (s.fenced ≡ false)
     × (y ≡ with_writer x w
     (record s { pending = Begun v.items; scan = scan_from (length x.history) }))
--- a look reads the number of the segment whose turn it is; the scan that is embedded in an update
--- is of all segments
+-- a look reads the number of the segment whose turn it is; the scan that is embedded in an update is of all segments
 Step n x (Look (Writer w)) (Number k) y =
     (s : WriterState) × (slice_get x.writers w ≡ Some s)
     × (t : ScanState) × IsLook (all_of n) x s.scan k t

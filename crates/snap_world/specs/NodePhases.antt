@@ -1,5 +1,4 @@
--- The phases of a world: of its node, of its writers and scanners, and of the stores on its
--- devices.
+-- The phases of a world: of its node, of its writers and scanners, and of the stores on its devices.
 use Rattle.std.specs.Prelude.{◌≡◌, ◌⊎◌, ℕ, ◌+◌, ◌^◌, ◌<◌, nat_lt, true, if◌then◌else◌, List, [], ◌∷◌, ◌++◌, length}
 use Rattle.std.specs.Prelude.{replicate, Some, slice_get, slice_set}
 use Rattle.snap_scan.specs.{Looks.IsDecided, Sets.size}
@@ -77,8 +76,7 @@ actors_to p actors = record p { actors = actors }
 abbrev pub node_to : WorldPhases → NodePhase → WorldPhases
 node_to p node = record p { node = node }
 
--- after a look of a scan of this set the phases become r if the numbers read decide an answer, and
--- stay otherwise
+-- after a look of a scan of this set the phases become r if the numbers read decide an answer, and stay otherwise
 pub record LooksOn {P : Type 0} (set : ℕ) (told : List ℕ) (p r q : P) : Type 0 where
   pub ends : IsDecided (size set) told → q ≡ r
   pub goes_on : (IsDecided (size set) told → ⊥) → q ≡ p

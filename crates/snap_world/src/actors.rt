@@ -83,8 +83,7 @@ impl Actors {
         ensures segments { self.new.segments ≡ self.old.segments }
         ensures registers { self.new.registers ≡ self.old.registers }
         ensures writers { Pairs (λ i. IsHalted) self.old.writers.items self.new.writers.items }
-        ensures scanners { Pairs (λ i.
-            IsScannerHalted) self.old.scanners.items self.new.scanners.items }
+        ensures scanners { Pairs (λ i. IsScannerHalted) self.old.scanners.items self.new.scanners.items }
     {
         halt_writers(&mut self.writers);
         halt_scanners(&mut self.scanners);

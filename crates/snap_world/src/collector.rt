@@ -12,9 +12,8 @@ use crate::value::Value;
 use snap_scan::{MAX_SEGMENTS, Next, Scan, SegmentSet};
 use std::alloc::{AllocError, Global};
 
-/// A scan with the value of the latest look at each of its segments and, once the scan has its
-/// answer, that answer. The memory has a place for each segment, but only the places of the scan's
-/// set mean anything.
+/// A scan with the value of the latest look at each of its segments and, once the scan has its answer, that answer. The
+/// memory has a place for each segment, but only the places of the scan's set mean anything.
 #[derive(Drop)]
 pub struct Collector {
     pub scan: Scan,
@@ -25,10 +24,9 @@ impl Collector {
     /// Takes one look, at the segment whose turn it is, and returns its number. It copies the value
     /// or, if the scan borrows, the view.
     ///
-    /// A borrow is right because the segment's number rose by two since this scan's first look at
-    /// it: its last update began after the one before was shown, so after this scan began, and the
-    /// view is the memory at a moment since then. No register has a view from before a crash here,
-    /// since both updates were shown during this scan.
+    /// A borrow is right because the segment's number rose by two since this scan's first look at it: its last update
+    /// began after the one before was shown, so after this scan began, and the view is the memory at a moment since
+    /// then. No register has a view from before a crash here, since both updates were shown during this scan.
     pub fn look(&mut self, registers: &Vec<Register>) -> u64
         requires under_way { IsUnderWay self.old }
         requires stands { MayLook registers.now.items self.old }
@@ -86,8 +84,7 @@ pub fn entries_of(
     set: SegmentSet,
 ) -> Result<Vec<PartEntry>, AllocError>
     requires within { (place i : ℕ) → IsAt set.bits place i → i < length values.now.items }
-    ensures { IfOk result (λ part.
-        map pair_of part.items ≡ map (entry_in values.now.items) (named set.bits)) }
+    ensures { IfOk result (λ part. map pair_of part.items ≡ map (entry_in values.now.items) (named set.bits)) }
 {
     let mut part = Vec::new(alloc);
     for segment in 0..MAX_SEGMENTS {

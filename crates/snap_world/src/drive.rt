@@ -63,8 +63,7 @@ impl Drive {
         requires going { calls_left self.old.persist.stage ≢ [] }
         ensures slot { self.new.persist.slot ≡ self.old.persist.slot }
         ensures stage { self.new.persist.stage ≡ after_call self.old.persist.stage }
-        ensures kind { calls_left self.old.persist.stage
-            ≡ store_call result ∷ calls_left self.new.persist.stage }
+        ensures kind { calls_left self.old.persist.stage ≡ store_call result ∷ calls_left self.new.persist.stage }
         ensures made { IsMade self.old.persist.slot (body_block number value.now)
             (store_call result)
             (device_of self.old) (device_of self.new) }
@@ -149,8 +148,7 @@ impl Drive {
 
     /// Reads the file of segment `index` of `count`, and keeps what it found.
     pub fn read(&mut self, index: u8, count: u8)
-        requires { ∥ ((k : ℕ) × (v : List ℕ)
-            × IsFileOf index count k v (device_of self.old).bytes) ∥₁ }
+        requires { ∥ ((k : ℕ) × (v : List ℕ) × IsFileOf index count k v (device_of self.old).bytes) ∥₁ }
         ensures image { self.new.image ≡ self.old.image }
         ensures persist { self.new.persist ≡ self.old.persist }
         ensures found { IsFound index count (device_of self.old).bytes self.new.found }

@@ -47,8 +47,7 @@ impl Node {
         requires least { 0 < segments }
         requires most { segments ≤ MAX_COUNT }
         ensures segments { IfOk result (λ w. w.actors.segments ≡ segments) }
-        ensures phases { IfOk result (λ w.
-            phases_of_node w ≡ start_world_phases segments scanners) }
+        ensures phases { IfOk result (λ w. phases_of_node w ≡ start_world_phases segments scanners) }
         ensures devices { IfOk result (λ w. AreFormatted segments (devices_of_node w)) }
         ensures stands { IfOk result (λ w. NodeStands w (start_state segments scanners)) }
     {

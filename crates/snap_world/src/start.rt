@@ -36,8 +36,7 @@ fn new_collector(alloc: Global, segments: usize) -> Result<Collector, AllocError
 
 /// Makes the register of each segment.
 pub fn new_registers(alloc: Global, segments: usize) -> Result<Vec<Register>, AllocError>
-    ensures { IfOk result (λ v. (length v.items ≡ segments)
-        × Each (IsFreshRegister segments) v.items) }
+    ensures { IfOk result (λ v. (length v.items ≡ segments) × Each (IsFreshRegister segments) v.items) }
 {
     let mut registers = Vec::new(alloc);
     for i in 0..segments {
@@ -55,8 +54,7 @@ pub fn new_registers(alloc: Global, segments: usize) -> Result<Vec<Register>, Al
 pub fn new_writers(alloc: Global, segments: usize) -> Result<Vec<Writer>, AllocError>
     requires least { 0 < segments }
     requires most { segments ≤ MAX_COUNT }
-    ensures { IfOk result (λ v. (length v.items ≡ segments)
-        × Each (IsFreshWriter segments) v.items) }
+    ensures { IfOk result (λ v. (length v.items ≡ segments) × Each (IsFreshWriter segments) v.items) }
 {
     let mut writers = Vec::new(alloc);
     for i in 0..segments {

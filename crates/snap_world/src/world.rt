@@ -21,9 +21,8 @@ pub struct Stopped {
 
 /// Registers, devices, writers and scanners, on which events are done one after the other.
 ///
-/// Its only conditions are those of [`World::new`]: any list of events may be done on any world. It
-/// stores no history; `StandsFor world state` says which states of the abstract machine it
-/// represents, and every world represents some.
+/// Its only conditions are those of [`World::new`]: any list of events may be done on any world. It stores no history;
+/// `StandsFor world state` says which states of the abstract machine it represents, and every world represents some.
 #[derive(Drop)]
 pub struct World {
     alloc: Global,
@@ -76,20 +75,18 @@ impl World {
 
     /// Does the events, one after the other, and returns the reply to each.
     ///
-    /// This is the theorem of the world. From each state of the abstract machine that the world
-    /// represented, the events with their replies are a run of that machine, with the phases and
-    /// the devices that the world had and has, to a state that the world represents now. So over
-    /// any list of events, with device faults and crashes at any step or inside any write, each
-    /// restart serves the memory after all updates visible by then, followed by at most one begun
-    /// update of each writer; each scan answers the memory as it was at one moment between its
-    /// beginning and its last look; and `NotNow` comes exactly if an event may not come.
+    /// This is the theorem of the world. From each state of the abstract machine that the world represented, the events
+    /// with their replies are a run of that machine, with the phases and the devices that the world had and has, to a
+    /// state that the world represents now. So over any list of events, with device faults and crashes at any step or
+    /// inside any write, each restart serves the memory after all updates visible by then, followed by at most one
+    /// begun update of each writer; each scan answers the memory as it was at one moment between its beginning and its
+    /// last look; and `NotNow` comes exactly if an event may not come.
     ///
-    /// At any step means with any bytes: whatever the disk model lets a crash leave of the devices
-    /// that the world has after the events, the event `Crash` with some fills leaves (`any_crash`),
-    /// and whatever it lets a failed write or a failed sync leave, some fill leaves (`any_fault`).
-    /// Inside any write is covered by the moment right after it: whatever a crash inside a write
-    /// may leave of the devices, the event `Crash` with some fills leaves after that write
-    /// (`crash_inside_any_write`).
+    /// At any step means with any bytes: whatever the disk model lets a crash leave of the devices that the world has
+    /// after the events, the event `Crash` with some fills leaves (`any_crash`), and whatever it lets a failed write or
+    /// a failed sync leave, some fill leaves (`any_fault`). Inside any write is covered by the moment right after it:
+    /// whatever a crash inside a write may leave of the devices, the event `Crash` with some fills leaves after that
+    /// write (`crash_inside_any_write`).
     ///
     /// The memory of the list of replies is taken before the first event. If memory runs out, there or at
     /// an `Answer` or a `Serve`, the result is [`Stopped`], and all this holds of the events already done.
@@ -98,11 +95,9 @@ impl World {
         ensures stopped { IfErr result (λ stopped. (stopped.done ≤ length events.now)
             × ((replies : List Reply)
             × IsRun self.old (take stopped.done events.now) replies self.new)) }
-        ensures memory { IfErr result (λ stopped.
-            StopsAt (phases_of self.new) events.now stopped.done) }
+        ensures memory { IfErr result (λ stopped. StopsAt (phases_of self.new) events.now stopped.done) }
 
-        // However it ends, the history was only appended to: an update that was visible once is in
-        // every later history.
+        // However it ends, the history was only appended to: an update that was visible once is in every later history.
         ensures grows { (x : State) → StandsFor self.old x
             → (y : State) × StandsFor self.new y × IsBeginning x.history y.history }
 

@@ -42,8 +42,7 @@ abbrev pub HasBegun : {D : Type 0} → Place D → List ℕ → Type 0
 HasBegun p v = IsStoring p.storing v
     ⊎ ((p.writer.segment.begun ≡ Some v) ⊎ (IsAhead p.writer × (v ≡ p.writer.segment.value)))
 
--- the bytes are the segment's file with its number and value, or with the next number and the value
--- whose store failed
+-- the bytes are the segment's file with its number and value, or with the next number and the value whose store failed
 abbrev pub HoldsOf : {D : Type 0} → SegmentState D → List ℕ → Type 0
 HoldsOf s b = IsFileOf s.index s.count s.number s.value b
     ⊎ ((u : List ℕ) × (s.begun ≡ Some u) × IsFileOf s.index s.count (s.number + 1) u b)
@@ -119,8 +118,7 @@ module _ {D : Type 0} (disk : Disk.Ghosts D) where
   abbrev pub CrashLeaves : Place D → List ℕ → Type 0
   CrashLeaves p b = Leaves p.writer p.storing b
 
-  -- the writer of segment i of n: its device is at rest, and what is stored is what was shown last
-  -- or one update more
+  -- the writer of segment i of n: its device is at rest, and what is stored is what was shown last or one update more
   pub record IsWriterOf (plan : Plan) (n i : ℕ) (w : WriterState D) : Type 0 where
     pub plan_is : w.seat.plan ≡ plan
     pub low_is : w.seat.low ≡ i

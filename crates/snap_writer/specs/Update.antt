@@ -11,8 +11,7 @@ pub record IsSameSeat (a b : Known) : Type 0 where
   pub low : b.low ≡ a.low
   pub high : b.high ≡ a.high
 
--- the last update that the seat has seen is that of its own segment to this value, and the only new
--- one of that segment
+-- the last update that the seat has seen is that of its own segment to this value, and the only new one of that segment
 pub record EndsWith (a b : Known) (value : List ℕ) : Type 0 where
   pub between : List Update
   pub seen : b.seen ≡ (a.seen ++ between) ++ record { segment = own_of a; value = value } ∷ []

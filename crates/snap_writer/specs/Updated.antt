@@ -32,8 +32,7 @@ pub record IsUpdated {D : Type 0} (disk : Disk.Ghosts D) (old new : WriterState 
   -- it is a part of its writer's life; under Go it stores first and shows second
   pub lived : HasLived disk old new
   pub stored_first : IsJudged old k v Go → StoresFirst disk v old new
-  -- a crash at any time during the call leaves the number and value shown last, or those being
-  -- stored
+  -- a crash at any time during the call leaves the number and value shown last, or those being stored
   pub any_time : disk.is_honest new.segment.device → old.segment.begun ≡ None
       → LeavesOnly disk old.segment.device new.segment.device
       (IsEither old.segment.index old.segment.count (number_of old) (value_of old) v)

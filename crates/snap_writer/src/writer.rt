@@ -23,8 +23,7 @@ use std::marker::Model;
 
 /// The only writer of a segment: its file and its seat at the registers.
 ///
-/// The file has the number and value that the writer showed last. It allocates nothing, and waits
-/// for its device alone.
+/// The file has the number and value that the writer showed last. It allocates nothing, and waits for its device alone.
 #[derive(Drop)]
 pub struct Writer<D: Disk> {
     segment: Segment<D>,
@@ -115,8 +114,7 @@ impl<D: Disk> Writer<D> {
     /// again for the number and value shown last; `Conflict` for that number with another value;
     /// `OutOfStep` for any number but the next; `Exhausted` if the last one is [`LAST_NUMBER`];
     /// `Fenced` if the writer is fenced; `Worn` if fewer looks are left than a scan might take
-    /// ([`most_looks`]). None of these calls the device or changes anything. Else the writer scans,
-    /// stores and shows.
+    /// ([`most_looks`]). None of these calls the device or changes anything. Else the writer scans, stores and shows.
     ///
     /// `DeviceFailed` if a device call failed: the number, the value and the results of scans stay,
     /// and the writer is fenced from now on.
@@ -199,8 +197,7 @@ impl<D: Disk> Writer<D> {
         requires left { CanScan self.old.seat }
         ensures count { CountsRefusal result (D.failure_count self.old.segment.device)
             (D.failure_count self.new.segment.device) }
-        ensures honest { D.is_honest self.new.segment.device
-            → D.is_honest self.old.segment.device }
+        ensures honest { D.is_honest self.new.segment.device → D.is_honest self.old.segment.device }
         ensures same_seat { IsSameSeat self.old.seat self.new.seat }
         ensures answer { IsAnswer (number_of self.old + 1) Judgement.Go result }
         ensures advances { OnOk result (Advances self.old self.new value.now) }
@@ -247,12 +244,10 @@ fn answer(rule: Judgement, number: u64) -> Result<u64, Refusal>
     }
 }
 
-/// Shows the update that the segment has stored, with this view, and returns its number. The
-/// segment is one update ahead of what the seat has shown, and no store of it has failed, so its
-/// device holds what is shown.
+/// Shows the update that the segment has stored, with this view, and returns its number. The segment is one update
+/// ahead of what the seat has shown, and no store of it has failed, so its device holds what is shown.
 fn show_stored<D: Disk>(segment: &Segment<D>, seat: &mut WriteSeat, view: View) -> u64
-    requires ahead { segment.now.number
-        ≡ number_in seat.old seat.old.seen (own_of seat.old) + 1 }
+    requires ahead { segment.now.number ≡ number_in seat.old seat.old.seen (own_of seat.old) + 1 }
     requires unfenced { segment.now.begun ≡ None }
     requires view { MayPublish seat.old view }
     ensures shown { Shows seat.old seat.new segment.now.value }

@@ -45,8 +45,7 @@ fn report_files(rt: &HostRuntime, folder: &str, files: &[String]) -> io::Result<
             FileState::InUse => are_free = false,
         }
     }
-    // What is wrong with single files comes first. If all are whole and none is in use, each has
-    // its place.
+    // What is wrong with single files comes first. If all are whole and none is in use, each has its place.
     if !are_whole || places.len() != files.len() {
         return Ok(are_whole);
     }
@@ -95,8 +94,7 @@ fn report_use(rt: &HostRuntime, file: &str) -> io::Result<FileState> {
     tell(rt, file, &why, FileState::InUse)
 }
 
-/// Reports on a segment's file: its place and number, and whether a server started by this user
-/// could use it.
+/// Reports on a segment's file: its place and number, and whether a server started by this user could use it.
 fn report_segment(rt: &HostRuntime, file: &str, found: SegmentContents) -> io::Result<FileState> {
     let SegmentPlace { index, count } = found.place;
     let Some(number) = found.number else {

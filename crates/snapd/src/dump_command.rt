@@ -45,8 +45,7 @@ fn print_dump(rt: &HostRuntime, time: &str, values: &[SegmentValue]) -> Result<(
     }
 }
 
-/// The values of a folder's files. All files stay locked until the last one is read, so the values
-/// are of one moment.
+/// The values of a folder's files. All files stay locked until the last one is read, so the values are of one moment.
 fn folder_values(rt: &HostRuntime, folder: &str) -> Result<Vec<SegmentValue>, Status> {
     let files = segment_files(rt, folder)?;
     match files_in_order(rt, folder, &files) {
@@ -106,8 +105,7 @@ fn read_file<'f>(
     }
 }
 
-/// Prints why the file at this path couldn't be opened. If it is in use, advises to ask the server
-/// for a dump.
+/// Prints why the file at this path couldn't be opened. If it is in use, advises to ask the server for a dump.
 fn fail_at_locked(rt: &HostRuntime, file: &str, fault: &FileFault) -> Status {
     if let FileFault::InUse(_) = fault {
         let line = format_args!("{fault}: where that is a server, ask it: snapd dump ADDR");

@@ -15,8 +15,7 @@ const BEHIND: &str = " - ";
 /// The permission bits of a mode, with set-user-ID, set-group-ID and sticky.
 const MODE: u32 = 0o7777;
 
-/// The type of the file system that has this path, such as `ext4`. `None` if the system doesn't
-/// say.
+/// The type of the file system that has this path, such as `ext4`. `None` if the system doesn't say.
 pub fn file_system_of(rt: &HostRuntime, path: &str) -> Option<String> {
     let device = fs::metadata(rt, path).ok()?.dev();
     let mounts = fs::read_to_string(rt, MOUNTS).ok()?;
@@ -44,8 +43,7 @@ fn kind_in<'m>(mounts: &'m str, device: &str) -> Option<&'m str> {
     found
 }
 
-/// Whether one lock of this file or folder excludes another. Nothing is written, and the lock of
-/// another process stays.
+/// Whether one lock of this file or folder excludes another. Nothing is written, and the lock of another process stays.
 pub fn keeps_locks(rt: &HostRuntime, path: &str) -> io::Result<bool> {
     let first = opened(rt, path)?;
     let second = opened(rt, path)?;
@@ -71,9 +69,8 @@ pub fn is_taken(rt: &HostRuntime, path: &str) -> bool {
     }
 }
 
-/// Opens the file for writing if that is allowed, since some file systems want that for an
-/// exclusive lock. Only files and folders are opened for reading: that would block on a pipe until
-/// a writer came.
+/// Opens the file for writing if that is allowed, since some file systems want that for an exclusive lock. Only files
+/// and folders are opened for reading: that would block on a pipe until a writer came.
 fn opened(rt: &HostRuntime, path: &str) -> io::Result<File> {
     let found = fs::metadata(rt, path)?;
     match File::options().read(true).write(true).open(rt, path) {

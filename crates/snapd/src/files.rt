@@ -14,8 +14,7 @@ use snap_stream::SystemReason;
 use std::alloc::{AllocError, Global};
 use std::sync::OnceLock;
 
-/// The reason why a call on an open file failed first. The file's device sets it; it outlives the
-/// device.
+/// The reason why a call on an open file failed first. The file's device sets it; it outlives the device.
 #[derive(Drop)]
 pub struct FirstFault {
     fault: OnceLock<CallFault>,
@@ -78,9 +77,8 @@ pub fn take_file<'a>(
     }
 }
 
-/// Opens the order's file as a device. `format` makes the file if it doesn't exist. A command that
-/// writes gets an exclusive lock. `file` is the order's path, and `told` gets the reason why a call
-/// on the file fails.
+/// Opens the order's file as a device. `format` makes the file if it doesn't exist. A command that writes gets an
+/// exclusive lock. `file` is the order's path, and `told` gets the reason why a call on the file fails.
 fn open_file<'a>(
     rt: &'a HostRuntime,
     order: &FileOrder<'_>,
@@ -99,8 +97,7 @@ fn open_file<'a>(
     Ok(disk.telling(told.place()))
 }
 
-/// Opens the file at this path as a device, with this lock. `told` gets the reason why a call on it
-/// fails.
+/// Opens the file at this path as a device, with this lock. `told` gets the reason why a call on it fails.
 pub fn open_telling<'a>(
     rt: &'a HostRuntime,
     file: &'a str,

@@ -209,8 +209,7 @@ pub fn contents_of<'f>(
     }
 }
 
-/// Checks the file at this path, if it has a segment file's length. Others may read it at the same
-/// time.
+/// Checks the file at this path, if it has a segment file's length. Others may read it at the same time.
 pub fn findings_of<'f>(
     rt: &HostRuntime,
     folder: &'f str,

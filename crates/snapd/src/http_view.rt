@@ -14,8 +14,7 @@ use std::net::{SocketAddr, ToSocketAddrs};
 use std::rt::Clock;
 use std::sync::{Mutex, Wait};
 
-/// The listener for browsers and monitors, and the HTTP server that answers them once it has a
-/// service.
+/// The listener for browsers and monitors, and the HTTP server that answers them once it has a service.
 #[derive(Drop)]
 pub struct HttpPlace {
     /// The address, with the port that the system gave.
@@ -67,8 +66,7 @@ fn check_address(rt: &HostRuntime, order: &ServeOptions<'_>, address: &str) -> R
     Ok(())
 }
 
-/// Binds this address. A name is looked up, and its addresses are tried in order. The error is that
-/// of the last one.
+/// Binds this address. A name is looked up, and its addresses are tried in order. The error is that of the last one.
 fn open_at(rt: &HostRuntime, address: &str) -> io::Result<HttpPlace> {
     let mut why = io::Error::from(ErrorKind::InvalidInput);
     for candidate in address.to_socket_addrs(rt)? {
@@ -100,8 +98,7 @@ pub struct HttpView<'a, X: Wait + Clock> {
 }
 
 impl<X: Wait + Clock> Observer for HttpView<'_, X> {
-    /// Answers with this service until the server ends, and takes a sample of the metrics about once
-    /// a second.
+    /// Answers with this service until the server ends, and takes a sample of the metrics about once a second.
     fn look<Y: Wait + Clock, S: Service + Drop>(&self, rt: &Y, service: S) {
         let server = self.place.server.lock(rt).take();
         if let Some(server) = server {

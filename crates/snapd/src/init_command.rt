@@ -18,10 +18,9 @@ use std::alloc::{AllocError, Global};
 use std::fmt::{self, Display, Formatter, Write};
 use std::path::Path;
 
-/// Makes the folder, and in it the file of each segment in order. Whole files are left as they are.
-/// It stops at the first file that can be neither made nor left, with its status. It makes none if
-/// a file has the name of a segment `count` or above, has another count or is in use; nor if a file
-/// was lost, except with `--missing-empty`.
+/// Makes the folder, and in it the file of each segment in order. Whole files are left as they are. It stops at the
+/// first file that can be neither made nor left, with its status. It makes none if a file has the name of a segment
+/// `count` or above, has another count or is in use; nor if a file was lost, except with `--missing-empty`.
 pub fn init(rt: &HostRuntime, order: &InitOptions<'_>) -> Result<Status, Status>
     requires { IsOneTo MAX_COUNT order.now.count }
 {
@@ -88,8 +87,7 @@ fn survey_of<'f>(
     })
 }
 
-/// Keeps the file for its segment. If two files are of one segment, the one with the segment's name
-/// counts.
+/// Keeps the file for its segment. If two files are of one segment, the one with the segment's name counts.
 fn keep<'f>(kept: &mut [Option<&'f str>], file: &'f str, found: Looked) {
     if let Some(index) = found.index {
         let at = usize::from(index);

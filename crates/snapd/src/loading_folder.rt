@@ -25,10 +25,9 @@ pub struct LoadingFolder {
 }
 
 impl LoadingFolder {
-    /// Makes the folder beside the wanted one, or takes over that of an interrupted load and
-    /// removes its files. If the wanted folder exists, the new one gets its owner, group and mode;
-    /// if it isn't empty, nothing is changed. If a file isn't one that a load makes, none is
-    /// removed. Prints the reason if it fails.
+    /// Makes the folder beside the wanted one, or takes over that of an interrupted load and removes its files. If the
+    /// wanted folder exists, the new one gets its owner, group and mode; if it isn't empty, nothing is changed. If a
+    /// file isn't one that a load makes, none is removed. Prints the reason if it fails.
     pub fn take(rt: &HostRuntime, wanted: &str) -> Result<LoadingFolder, Status> {
         let folder = bare_path(rt, wanted)?;
         check_free(rt, folder.as_str())?;
@@ -97,17 +96,15 @@ fn prepare(rt: &HostRuntime, wanted: &str, path: &str, lock: &File) -> Result<()
     carry_over(rt, wanted, lock)
 }
 
-/// Gives the new folder the owner, group and mode of the empty one that it replaces, before it has
-/// a file that others could read. Does nothing if that doesn't exist. Prints a message if they
-/// can't be given.
+/// Gives the new folder the owner, group and mode of the empty one that it replaces, before it has a file that others
+/// could read. Does nothing if that doesn't exist. Prints a message if they can't be given.
 fn carry_over(rt: &HostRuntime, wanted: &str, loading: &File) -> Result<(), Status> {
     let found = match fs::metadata(rt, wanted) {
         Ok(found) => found,
         Err(reason) if reason.kind() == ErrorKind::NotFound => return Ok(()),
         Err(reason) => return Err(fail_at_folder(rt, wanted, reason)),
     };
-    // The result is checked instead: a file system may lack owners or modes, and the system may
-    // drop a bit.
+    // The result is checked instead: a file system may lack owners or modes, and the system may drop a bit.
     let _ = fchown(loading, Some(found.uid()), Some(found.gid()));
     let _ = loading.set_permissions(found.permissions());
     match loading.metadata() {
@@ -179,8 +176,7 @@ fn try_lock_folder(rt: &HostRuntime, path: &str) -> io::Result<Option<File>> {
     Ok(is_same.then_some(folder))
 }
 
-/// Removes the files of an interrupted load. If anything else is there, prints that and removes
-/// nothing.
+/// Removes the files of an interrupted load. If anything else is there, prints that and removes nothing.
 fn clear(rt: &HostRuntime, loading: &str) -> Result<(), Status> {
     for name in names_in(rt, loading)? {
         let path = or_stop(rt, Path::new(loading).join(rt.alloc(), name.as_str()))?;

@@ -87,9 +87,8 @@ fn words_of(rt: &HostRuntime) -> Result<Vec<String>, WordFault> {
     }
 }
 
-/// Runs the command of the order, if the system has what it needs, and returns the exit status; as
-/// an error, if it ended early. `threads` is the runtime again, for commands that may block, start
-/// threads and open sockets.
+/// Runs the command of the order, if the system has what it needs, and returns the exit status; as an error, if it
+/// ended early. `threads` is the runtime again, for commands that may block, start threads and open sockets.
 fn do_order<X>(threads: &X, rt: &HostRuntime, order: Order<'_>) -> Result<Status, Status>
 where
     X: Threads + Wait + Clock + Net + Sync + Send + Copy,
@@ -113,8 +112,7 @@ where
     }
 }
 
-/// Checks what a command needs of the system before it opens a file. Prints a message if something
-/// is missing.
+/// Checks what a command needs of the system before it opens a file. Prints a message if something is missing.
 fn may_run(rt: &HostRuntime, order: &Order<'_>) -> bool {
     match order {
         Order::Script => true,
@@ -196,8 +194,7 @@ fn run_migration<'a>(rt: &'a HostRuntime, order: &MigrateOptions<'a>) -> Result<
     }
 }
 
-/// Serves the order's files. `threads` is the runtime again, for what may block, start threads and
-/// open sockets.
+/// Serves the order's files. `threads` is the runtime again, for what may block, start threads and open sockets.
 fn run_server<X>(threads: &X, rt: &HostRuntime, order: &ServeOptions<'_>) -> Result<Status, Status>
 where
     X: Threads + Wait + Clock + Net + Sync + Send + Copy,
@@ -241,8 +238,7 @@ fn with_files<'a>(serving: ServeOptions<'a>, files: Vec<&'a str>) -> ServeOption
     order
 }
 
-/// Checks what a server needs of the system before it opens a file. Prints a message if something
-/// is missing.
+/// Checks what a server needs of the system before it opens a file. Prints a message if something is missing.
 fn may_serve(rt: &HostRuntime, order: &ServeOptions<'_>) -> bool {
     let is_http_address = match order.http {
         Some(address) => is_address(rt, address),
@@ -264,8 +260,7 @@ fn are_streams_open(rt: &HostRuntime) -> bool {
         && is_open(rt, "standard error", &rt.stderr())
 }
 
-/// Whether the stream is open: a closed descriptor can't be duplicated. Prints the reason if it
-/// isn't.
+/// Whether the stream is open: a closed descriptor can't be duplicated. Prints the reason if it isn't.
 fn is_open<F: AsFd>(rt: &HostRuntime, name: &str, stream: &F) -> bool {
     match stream.as_fd().try_clone_to_owned() {
         Ok(_copy) => true,

@@ -106,9 +106,8 @@ where
     }
 }
 
-/// After a refusal, prints the order of the server's files by their headers, if they were given in
-/// another one. Prints nothing if a header can't be read, or if they aren't the segments of one
-/// server: the refusal said so.
+/// After a refusal, prints the order of the server's files by their headers, if they were given in another one. Prints
+/// nothing if a header can't be read, or if they aren't the segments of one server: the refusal said so.
 pub fn say_right_order(rt: &HostRuntime, serving: &ServeOptions<'_>) {
     let Ok(files) = texts_of(rt.alloc(), &serving.files) else {
         return;
@@ -223,17 +222,15 @@ where
     )
 }
 
-/// How many descriptors a server needs beside its files, its further listeners, two for each
-/// worker, and its connections: the standard streams, the first listener, its poll, and what is
-/// open for a moment.
+/// How many descriptors a server needs beside its files, its further listeners, two for each worker, and its
+/// connections: the standard streams, the first listener, its poll, and what is open for a moment.
 const OTHERS: u64 = 16;
 
 /// How many more it needs for HTTP: the connections, the listener, its poll, and what stops it.
 const OF_HTTP: u64 = MAX_CONNECTIONS as u64 + 4;
 
-/// The limit of open connections: as many as the process may open, less the descriptors that it
-/// needs itself, and at most what the order says. So there is a descriptor for every connection
-/// that is accepted.
+/// The limit of open connections: as many as the process may open, less the descriptors that it needs itself, and at
+/// most what the order says. So there is a descriptor for every connection that is accepted.
 fn most_clients(order: &ServeOptions<'_>) -> usize {
     let asked = order.clients.map_or(usize::MAX, |clients| clients as usize);
     let Some(limit) = most_descriptors() else {
@@ -258,8 +255,7 @@ fn warn_of_everywhere<X: Wait + Clock>(log: &Lines<'_, X>, order: &ServeOptions<
     }
 }
 
-/// Warns of what everybody may do to each segment, if the address accepts connections from all
-/// networks.
+/// Warns of what everybody may do to each segment, if the address accepts connections from all networks.
 fn warn_of<X: Wait + Clock>(log: &Lines<'_, X>, target: &str, address: &str, right: &str) {
     if is_everywhere(address) {
         warn!(log; target: target, "{address}: whoever reaches this machine may {right} each segment");

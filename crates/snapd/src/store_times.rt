@@ -85,9 +85,8 @@ impl From<io::Error> for MeasureFault {
     }
 }
 
-/// Stores [`STORES`] values of [`STORED_LEN`] bytes in a temporary file in the folder, and returns
-/// the times. It removes the file however it ends. The file of a process that was killed is removed
-/// by a later measurement.
+/// Stores [`STORES`] values of [`STORED_LEN`] bytes in a temporary file in the folder, and returns the times. It
+/// removes the file however it ends. The file of a process that was killed is removed by a later measurement.
 pub fn measure(rt: &HostRuntime, folder: &str) -> Result<StoreTimes, MeasureFault> {
     let own = own_path(rt, folder)?;
     let path = own.as_str();
@@ -100,8 +99,7 @@ pub fn measure(rt: &HostRuntime, folder: &str) -> Result<StoreTimes, MeasureFaul
         }
     };
     let (_locked, taken) = store_all(rt, disk);
-    // The lock is held until the name is removed, so that no other process takes the file for a
-    // left one.
+    // The lock is held until the name is removed, so that no other process takes the file for a left one.
     fs::remove_file(rt, path)?;
     match taken {
         Err(MeasureFault::Store(_)) => Err(MeasureFault::Store(reason_of(rt.alloc(), &told)?)),
@@ -149,8 +147,7 @@ fn remove_left(rt: &HostRuntime, path: &str) {
     }
 }
 
-/// Formats the file, and stores the values in it. Returns the file, which is still locked, with the
-/// times.
+/// Formats the file, and stores the values in it. Returns the file, which is still locked, with the times.
 fn store_all<'p>(
     rt: &'p HostRuntime,
     mut disk: FileDisk<'p, HostRuntime>,

@@ -15,8 +15,7 @@ use std::{fs, io};
 /// address space and the second is resident.
 const MEMORY: &str = "/proc/self/statm";
 
-/// The status of this process, and the key of the signals that it ignores: a bit for each, in
-/// hexadecimal digits.
+/// The status of this process, and the key of the signals that it ignores: a bit for each, in hexadecimal digits.
 const STATUS: &str = "/proc/self/status";
 
 const IGNORED: &str = "SigIgn:";
@@ -35,8 +34,7 @@ const PAGE: u64 = 4_096;
 pub struct Process<'a> {
     pub rt: &'a HostRuntime,
     pub metrics: &'a Metrics,
-    /// When it started, by the steady clock, and in milliseconds since 1970; each `None` if the
-    /// clock can't be read.
+    /// When it started, by the steady clock, and in milliseconds since 1970; each `None` if the clock can't be read.
     pub began: Option<Instant>,
     pub started: Option<u64>,
     /// The limit of open connections.
@@ -114,8 +112,7 @@ pub fn limit_of(resource: i32) -> Option<u64> {
     (libc::getrlimit(resource, &mut limit) == 0).then_some(limit.rlim_cur)
 }
 
-/// A server in this process, as the HTTP thread shows it: with its log, and the samples of the last
-/// three minutes.
+/// A server in this process, as the HTTP thread shows it: with its log, and the samples of the last three minutes.
 #[derive_where(Clone, Copy)]
 #[derive(Drop)]
 pub struct Seen<'a, 'h, X: Wait + Clock> {

@@ -27,8 +27,7 @@ impl<'a> TimeLimit<'a> {
         }
     }
 
-    /// The remaining time, which is never zero. `None` without a limit. An error if the time is
-    /// over.
+    /// The remaining time, which is never zero. `None` without a limit. An error if the time is over.
     pub fn left(&self) -> io::Result<Option<Duration>> {
         let Some(end) = self.end else {
             return Ok(None);
@@ -141,9 +140,8 @@ impl LimitedStream<'_> {
     }
 }
 
-/// Whether a call moved nothing and has to be made again: a signal came, for instance after a stop
-/// of the process, or the system's timeout ran out, so that our own clock decides whether the time
-/// is over.
+/// Whether a call moved nothing and has to be made again: a signal came, for instance after a stop of the process, or
+/// the system's timeout ran out, so that our own clock decides whether the time is over.
 fn is_early(error: io::Error) -> bool {
     matches!(error.kind(), ErrorKind::Interrupted | ErrorKind::WouldBlock)
 }

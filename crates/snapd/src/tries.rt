@@ -108,8 +108,7 @@ impl<'a> Tries<'a> {
         }
     }
 
-    /// Pauses if the last connection failed, but for at most half of the remaining time. An error
-    /// if no time is left.
+    /// Pauses if the last connection failed, but for at most half of the remaining time. An error if no time is left.
     fn pause(&mut self, limit: &TimeLimit<'_>) -> io::Result<()> {
         let left = limit.left()?;
         if !self.course.has_failed() {
@@ -144,8 +143,7 @@ impl<'a> Tries<'a> {
     }
 }
 
-/// The time this many seconds after `began`. `None` if there is no such time, or no number of
-/// seconds.
+/// The time this many seconds after `began`. `None` if there is no such time, or no number of seconds.
 fn end_of(began: Instant, seconds: Option<u32>) -> Option<Instant> {
     began.checked_add(Duration::from_secs(u64::from(seconds?)))
 }

@@ -33,9 +33,8 @@ const PATIENCE: u64 = 10;
 /// The message about a server that took longer.
 const LATE: &str = "there was no answer within 10 s";
 
-/// Shows the segments of the server at the order's address, and each change, until the process is
-/// interrupted or standard output has no reader any more. A first poll that fails, or a refusal,
-/// ends it too.
+/// Shows the segments of the server at the order's address, and each change, until the process is interrupted or
+/// standard output has no reader any more. A first poll that fails, or a refusal, ends it too.
 pub fn watch<X: Wait>(
     waiting: &X,
     rt: &HostRuntime,
@@ -89,9 +88,8 @@ fn millis_since(rt: &HostRuntime, began: Option<Instant>) -> u64 {
     }
 }
 
-/// The current rows of the server, by one poll within its time. Sets `is_late` if that was over. If
-/// the connection fails it polls once more on a new one, and then requests the values anyway, since
-/// another server may answer.
+/// The current rows of the server, by one poll within its time. Sets `is_late` if that was over. If the connection
+/// fails it polls once more on a new one, and then requests the values anyway, since another server may answer.
 fn rows_now(
     rt: &HostRuntime,
     address: &str,
@@ -191,8 +189,7 @@ impl<'a> Screen<'a> {
         }
     }
 
-    /// Shows the rows: a board draws all, and else the changed ones are printed. An error is the
-    /// exit status.
+    /// Shows the rows: a board draws all, and else the changed ones are printed. An error is the exit status.
     fn show(&mut self, rt: &HostRuntime, rows: Vec<Row>) -> Result<(), Status> {
         let was_lost = self.contact == Contact::Lost;
         self.contact = Contact::Held;
@@ -209,8 +206,7 @@ impl<'a> Screen<'a> {
         print(rt, text.as_slice())
     }
 
-    /// Handles a failed poll: a server that has answered before is reported as lost. An error is
-    /// the exit status.
+    /// Handles a failed poll: a server that has answered before is reported as lost. An error is the exit status.
     fn bear(&mut self, rt: &HostRuntime, trouble: WatchFault, is_late: bool) -> Result<(), Status> {
         let address = self.address;
         match trouble {
@@ -226,8 +222,7 @@ impl<'a> Screen<'a> {
         }
     }
 
-    /// Shows why the server is lost: a board at each poll, and else once. An error is the exit
-    /// status.
+    /// Shows why the server is lost: a board at each poll, and else once. An error is the exit status.
     fn lose(&mut self, rt: &HostRuntime, loss: &str) -> Result<(), Status> {
         let was_held = self.contact == Contact::Held;
         self.contact = Contact::Lost;

@@ -94,8 +94,7 @@ impl HttpConnection {
         }
     }
 
-    /// Registers the socket, so that the system reports under `token` when it is readable or
-    /// writable.
+    /// Registers the socket, so that the system reports under `token` when it is readable or writable.
     pub(crate) fn register(&mut self, registry: &Registry, token: Token) -> io::Result<()> {
         registry.register(
             &mut self.stream,

@@ -15,8 +15,7 @@ const REST: u64 = 100;
 pub(crate) enum Queue {
     /// No, until the system reports one.
     Empty,
-    /// Perhaps: the system reports waiting connections only once, so the server accepts until none
-    /// is left.
+    /// Perhaps: the system reports waiting connections only once, so the server accepts until none is left.
     Perhaps,
     /// Perhaps, but the last accept failed, so the next one waits.
     Rests,

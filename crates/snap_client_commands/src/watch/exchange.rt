@@ -43,10 +43,9 @@ impl From<AllocError> for WatchFault {
 /// Polls a server on its connection, and returns the rows of the watched segments in order: of all
 /// segments if `watched` is `None`. `shown` are the rows that the last poll returned, or none.
 ///
-/// It asks for the numbers and fences, and for the values only if some number differs from the one
-/// in `shown`. Then all numbers and values are of one moment, and the fences are of the moment
-/// before. After [`WatchFault::Lost`] the client can't be used again, except if memory ran out after
-/// its answer.
+/// It asks for the numbers and fences, and for the values only if some number differs from the one in `shown`. Then all
+/// numbers and values are of one moment, and the fences are of the moment before. After [`WatchFault::Lost`] the client
+/// can't be used again, except if memory ran out after its answer.
 pub fn look<R: Read, W: Write>(
     alloc: Global,
     client: &mut Client<R, W>,

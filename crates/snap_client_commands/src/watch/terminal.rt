@@ -52,11 +52,10 @@ impl Panel<'_> {
 /// The text that draws the board in a terminal, over the `above` lines above the cursor. Afterwards
 /// the cursor is at the start of the line below the board.
 ///
-/// The terminal clips it: each line at its width, of which the last column stays empty, and the
-/// board at its height, of which the last line is left to the cursor. So it fits any size without
-/// knowing it. Nothing scrolls, except to make room for the first drawing. The text hides the
-/// cursor and turns line wrap off, and its end restores both, so it has to be written whole. It has
-/// no control character of a value.
+/// The terminal clips it: each line at its width, of which the last column stays empty, and the board at its height, of
+/// which the last line is left to the cursor. So it fits any size without knowing it. Nothing scrolls, except to make
+/// room for the first drawing. The text hides the cursor and turns line wrap off, and its end restores both, so it has
+/// to be written whole. It has no control character of a value.
 pub fn drawing(alloc: Global, above: usize, panel: &Panel<'_>) -> Result<String, AllocError> {
     let len = panel.len();
     let up = above.max(len);

@@ -83,8 +83,7 @@ pub(crate) fn fault_of(text: &[u8]) -> DumpFault {
     }
 }
 
-/// The lines before the last one, and the digits in the last one. `None` if that doesn't have its
-/// form.
+/// The lines before the last one, and the digits in the last one. `None` if that doesn't have its form.
 fn parts(text: &[u8]) -> Option<(&[u8], &[u8])> {
     if text.len() < LAST_LINE {
         return None;

@@ -48,8 +48,7 @@ fn with_values(
     mut text: Vec<u8>,
     values: &[SegmentValue],
 ) -> Result<Vec<u8>, AllocError>
-    ensures { IfOk result (λ lines. lines.items
-        ≡ text.items ++ (each_from row 0 values.now ++ 10 ∷ [])) }
+    ensures { IfOk result (λ lines. lines.items ≡ text.items ++ (each_from row 0 values.now ++ 10 ∷ [])) }
 {
     for (index, value) in values.iter().enumerate() {
         text = with_value(alloc, text, index, value)?;

@@ -14,8 +14,7 @@ use snap_slot::{BLOCK_LEN, FILE_LEN, body_at, recover, slot_of};
 use std::alloc::{AllocError, Global};
 
 impl<D: Disk> Segment<D> {
-    /// Opens segment `index` of `count` with the number and value that its file holds. The new
-    /// segment isn't fenced.
+    /// Opens segment `index` of `count` with the number and value that its file holds. The new segment isn't fenced.
     ///
     /// It syncs before it reads, so the value survives any later crash. It writes nothing.
     ///
@@ -33,30 +32,25 @@ impl<D: Disk> Segment<D> {
         requires few { count ≤ MAX_COUNT }
         requires headroom { D.failure_count device < 2 ^ 64 - 1 }
 
-        // The failure count grows by one exactly at `DeviceFailed`. Ok takes two calls, an error at
-        // most two.
+        // The failure count grows by one exactly at `DeviceFailed`. Ok takes two calls, an error at most two.
         ensures count_ok { IfOk result (λ s. D.failure_count s.device ≡ D.failure_count device) }
-        ensures count_err { IfErr result (λ e.
-            CountsFailed e.0 (D.failure_count device) (D.failure_count e.1)) }
+        ensures count_err { IfErr result (λ e. CountsFailed e.0 (D.failure_count device) (D.failure_count e.1)) }
         ensures calls_ok { IfOk result (λ s. D.clock s.device ≡ D.clock device + 2) }
         ensures calls_err { IfErr result (λ e. D.clock e.1 ≤ D.clock device + 2) }
         ensures honest_ok { IfOk result (λ s. D.is_honest s.device → D.is_honest device) }
         ensures honest_err { IfErr result (λ e. D.is_honest e.1 → D.is_honest device) }
 
         // The segment has what the bytes hold, no place is open, and it isn't fenced.
-        ensures opened { IfOk result (λ s. (s.index ≡ index) × (s.count ≡ count)
-            × (s.begun ≡ None)) }
+        ensures opened { IfOk result (λ s. (s.index ≡ index) × (s.count ≡ count) × (s.begun ≡ None)) }
         ensures holds { IfOk result (λ s. D.is_honest s.device
             → Head (D.device device).bytes index count
             × Holds (D.device device).bytes s.number s.value) }
         ensures at_rest { IfOk result (λ s. D.is_honest s.device
             → IsAtRest index count s.number s.value s.spare_open (D.device s.device)) }
 
-        // What the bytes are at each refusal. A wrong length and `NoMemory` leave the device
-        // untouched.
+        // What the bytes are at each refusal. A wrong length and `NoMemory` leave the device untouched.
         ensures refusals { IfErr result (λ e. IsOpenRefusal e.0) }
-        ensures refused { IfErr result (λ e. D.is_honest e.1
-            → IsNoOpening index count (D.device device).bytes e.0) }
+        ensures refused { IfErr result (λ e. D.is_honest e.1 → IsNoOpening index count (D.device device).bytes e.0) }
         ensures file_length { IfOk result (λ _. length (D.device device).bytes ≡ FILE_LEN) }
         ensures wrong_length { length (D.device device).bytes ≢ FILE_LEN
             → IfErr result (λ e. (e.0 ≡ Refusal.WrongFile) × (e.1 ≡ device)) }

@@ -1,5 +1,4 @@
-//! Turns whose reader or writer would block, fails, ends or is interrupted, and how often a request
-//! is handed over.
+//! Turns whose reader or writer would block, fails, ends or is interrupted, and how often a request is handed over.
 
 ghost use Rattle.std.specs.Prelude.{◌≡◌, IfOk};
 ghost use Rattle.snap_frame.specs.Messages.{IsInLimits};
@@ -230,8 +229,7 @@ fn a_read_that_gives_nothing(rt: HostRuntime) {
     }
 }
 
-/// The result of a turn with more pending output than the writer takes, by the result of the next
-/// write.
+/// The result of a turn with more pending output than the writer takes, by the result of the next write.
 const WRITES: [(Then, Polled); 4] = [
     (Then::Ends, Polled::Over(End::WriteFailed)),
     (Then::Fails(ErrorKind::WouldBlock), Polled::NeedsRoom),

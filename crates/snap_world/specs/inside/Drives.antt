@@ -28,8 +28,7 @@ pub record IsStoreUnderWay (i n k : ℕ) (u v : List ℕ) (device : Device)
   pub going : calls_left persist.stage ≢ []
   pub at_stage : IsAtStage i n k u v persist.stage device
 
--- the device of segment i, whose history has number k and value u, while its writer is in this
--- phase with this update
+-- the device of segment i, whose history has number k and value u, while its writer is in this phase with this update
 abbrev pub IsDriveAt : (i n k : ℕ) (u : List ℕ) → WriterPhase → Pending → Device → PersistState
     → Type 0
 IsDriveAt i n k u writer.Idle pending device persist = IsReady i n k u device persist

@@ -54,8 +54,7 @@ pub record RegisterStands (n : ℕ) (h : List Update) (i : ℕ) (r : Register) :
   pub value : r.value ≡ value_after from_nothing h i
   pub size : length r.view.items ≡ n
 
--- the view beside the register's update is the memory at moment p, when that update was the next
--- one of its segment
+-- the view beside the register's update is the memory at moment p, when that update was the next one of its segment
 pub record IsView (n : ℕ) (h : List Update) (i : ℕ) (r : Register) (p : ℕ) : Type 0 where
   pub until : p ≤ length h
   pub before : number_at h p i + 1 ≡ r.number

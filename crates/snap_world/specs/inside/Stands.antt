@@ -11,9 +11,8 @@ use Rattle.snap_world.specs.declared.scanner.ScannerPhase.{ScannerPhase}
 use Rattle.snap_world.specs.declared.writer.WriterPhase.TheVariants as writer
 use Rattle.snap_world.specs.declared.scanner.ScannerPhase.TheVariants as scanner
 
--- The writer has begun an update of segment i with its value, and its embedded scan began after the
--- segment's update before. History h is the actors', and g the length that it had when the node
--- last began to serve.
+-- The writer has begun an update of segment i with its value, and its embedded scan began after the segment's update
+-- before. History h is the actors', and g the length that it had when the node last began to serve.
 pub record HasBegun (n : ℕ) (h : List Update) (g i : ℕ) (v : List ℕ) (c : Collector)
     (s : WriterState) : Type 0 where
   pub born : g ≤ s.scan.start

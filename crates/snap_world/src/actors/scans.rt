@@ -66,10 +66,8 @@ impl Actors {
     /// Gives the answer of a scan. If memory runs out the scanner keeps the answer.
     pub fn answer(&mut self, alloc: Global, at: usize) -> Result<Reply, AllocError>
         requires stands { Stand self.old }
-        ensures step { IfOk result (λ reply.
-            IsActorsStep self.old (Event.Answer at) reply self.new) }
-        ensures memory { OnErr result
-            (ScannerIs (phases_of_actors self.old) at ScannerPhase.Ready) }
+        ensures step { IfOk result (λ reply. IsActorsStep self.old (Event.Answer at) reply self.new) }
+        ensures memory { OnErr result (ScannerIs (phases_of_actors self.old) at ScannerPhase.Ready) }
         ensures err { OnErr result (self.new ≡ self.old) }
     {
         if !self.scanner_is(at, ScannerPhase::Ready) {

@@ -85,8 +85,7 @@ impl Actors {
         ensures stands { (x : State) → ActorsStand self.old x
             → WriterIs (phases_of_actors self.old) segment WriterPhase.Storing
             → ActorsStand self.new x }
-        ensures phases { phases_of_actors self.new
-            ≡ writer_to (phases_of_actors self.old) segment WriterPhase.Stored }
+        ensures phases { phases_of_actors self.new ≡ writer_to (phases_of_actors self.old) segment WriterPhase.Stored }
     {
         self.writers[segment].phase = WriterPhase::Stored;
     }
@@ -101,8 +100,7 @@ impl Actors {
             → s.pending ≡ Begun v
             → ActorsStand self.new
             (with_writer x segment (record s { fenced = true })) }
-        ensures phases { phases_of_actors self.new
-            ≡ writer_to (phases_of_actors self.old) segment WriterPhase.Fenced }
+        ensures phases { phases_of_actors self.new ≡ writer_to (phases_of_actors self.old) segment WriterPhase.Fenced }
     {
         self.writers[segment].phase = WriterPhase::Fenced;
     }

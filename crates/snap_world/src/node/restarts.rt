@@ -46,8 +46,7 @@ impl Node {
         }
     }
 
-    /// Makes the next call of a restart, which succeeds: for each segment a sync, and then the read
-    /// of its file.
+    /// Makes the next call of a restart, which succeeds: for each segment a sync, and then the read of its file.
     pub fn restart_call(&mut self) -> Reply
         requires stands { NodeStand self.old }
         ensures step { IsNodeStep self.old Event.RestartCall result self.new }
