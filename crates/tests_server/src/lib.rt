@@ -17,6 +17,8 @@ mod frames;
 #[cfg(test)]
 mod metrics;
 #[cfg(test)]
+mod plug;
+#[cfg(test)]
 mod serve;
 #[cfg(test)]
 mod server;

@@ -1,7 +1,7 @@
 //! Servers as no client sees them: when their texts are flushed, and the gate that each request passes.
 
 mod gates;
-mod rooms;
+pub(crate) mod rooms;
 
 use crate::frames::{EMPTY, HI, SCAN, STORED_1};
 use crate::server::{connect, gets, listen};
@@ -36,7 +36,7 @@ fn flushes_each_text(rt: HostRuntime) -> Result<(), Fail> {
     let (tcp, address) = listen(&rt)?;
     let ready = Ready::new(&tcp, address);
     let files = new_files(rt.alloc(), 2)?;
-    let seen = host_printing(&rt, rt.alloc(), files, &ready, 0, &NoGate)?;
+    let seen = host_printing(&rt, rt.alloc(), files, &ready, 2, 0, &NoGate)?;
     assert!(rt; printed(&rt, &seen, address, 0)?);
     Ok(())
 }
@@ -66,7 +66,7 @@ fn scan_passes_a_held_update(rt: HostRuntime) -> Result<(), Fail> {
     let (rt, tcp, gate) = (&rt, &tcp, &gate);
     let (seen, passed) = thread::join(
         rt,
-        move || host_printing(rt, rt.alloc(), files, &Ready::new(tcp, address), 2, gate),
+        move || host_printing(rt, rt.alloc(), files, &Ready::new(tcp, address), 2, 2, gate),
         move || passes_a_held_update(rt, address, gate),
     );
     assert!(rt; passed?);

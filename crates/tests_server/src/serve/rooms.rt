@@ -1,4 +1,4 @@
-//! Servers over two segments in memory.
+//! Servers over segments in memory.
 use snap_disk::Disk;
 use snap_metrics::Metrics;
 use snap_order::{Level, ServeOptions, Status};
@@ -97,12 +97,13 @@ impl Write for Barred {
     }
 }
 
-/// A server over these two devices, with two scanners, which ends after `connections`.
+/// A server over these devices, 4 at most, with so many scanners, which ends after `connections`.
 pub(crate) fn host_printing<'x, X, D, B, G>(
     rt: &X,
     alloc: Global,
     devices: Vec<D>,
     bind: &'x B,
+    scanners: u8,
     connections: u64,
     gate: &'x G,
 ) -> Result<Seen, AllocError>
@@ -120,11 +121,13 @@ where
         },
         errors: Vec::new(alloc),
     };
+    let mut files = vec![in alloc; "first", "second", "third", "fourth"]?;
+    files.truncate(devices.len());
     let order = ServeOptions {
         addresses: vec![in alloc; "loopback"]?,
         socket_mode: 0o600,
-        files: vec![in alloc; "first", "second"]?,
-        scanners: 2,
+        files,
+        scanners,
         connections: Some(connections),
         clients: None,
         idle: None,
@@ -142,7 +145,7 @@ where
         watch: NoUpdateObserver,
         metrics: &metrics,
         observer,
-        causes: &[NoReason, NoReason],
+        causes: &[NoReason, NoReason, NoReason, NoReason],
         clients: 1_000,
         idle: None,
     };
