@@ -98,7 +98,7 @@ def by_seconds(tasks, seconds):
     """The kit's tasks with what each proof took last in place of its lines, by which the longest chain is found. Tests
     pass first of all, so that no proof leaves a processor to them."""
     took = {key: seconds.get(key[0]) or EACH_LINE * lines for key, (_, lines, *_) in tasks.items() if key[1] == "proof"}
-    passed = (), sum(took.values()), 0, lambda given, jobs: True
+    passed = (), sum(took.values()), 1, lambda given, jobs: True
     timed = {key: (waits, took.get(key, 0), *rest) for key, (waits, _, *rest) in tasks.items()}
     return {key: passed if key[1] == "tests" else it for key, it in timed.items()}
 

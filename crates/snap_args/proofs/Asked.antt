@@ -7,10 +7,9 @@ use Rattle.clap.specs.Words.{is_simple_and_free, rows_of, subcommand_name_of, su
 use Rattle.clap.specs.declared.{ArgMatches.ArgMatches, error.Error.Error}
 use Rattle.clap.proofs.{OnLiterals.clap_on_literals, WalkLemmas.first_value-rows, WalkLemmas.raw_values-rows}
 use Rattle.snap_order.specs.{Order.IsWithinLimits, declared.order.Order.Order}
-use Rattle.snap_args.specs.Orders.{IsAskedBy, IsParseFault, IsTold, Means}
+use Rattle.snap_args.specs.{Orders.IsAskedBy, Orders.IsParseFault, Orders.IsTold, Orders.Means, Grammar.grammar_of}
 use Rattle.snap_args.specs.Words.{Reads, word_in, word_of, words_in, words_of}
-use Rattle.snap_args.specs.declared.fault.WordFault.TheVariants.{Help, Memory, Words}
-use Rattle.snap_args.specs.{Grammar.grammar_of, declared.fault.WordFault.WordFault}
+use Rattle.snap_args.specs.declared.fault.WordFault.{TheVariants.Help, TheVariants.Memory, TheVariants.Words, WordFault}
 
 simple : is_simple grammar_of ≡ true
 unfolding clap_on_literals
@@ -21,8 +20,7 @@ unfolding clap_on_literals
 simple_and_free = refl
 
 both : {X : Type 0} (f : X → Text) (g : X → List Row) (o : Option X) (name : Text) (rows : List Row)
-    → option_map f o ≡ Some name
-    → option_map (λ (p : Text × List Row). p.1) (option_map {U = Text
+    → option_map f o ≡ Some name → option_map (λ (p : Text × List Row). p.1) (option_map {U = Text
     × List Row} (λ x. (f x, g x)) o) ≡ Some rows
     → option_map {U = Text × List Row} (λ x. (f x, g x)) o ≡ Some (name, rows)
 both f g None name rows named rowed = cc
@@ -38,21 +36,18 @@ pub command_met : (words : List Text) (app : App) → app ≡ grammar_of → (m 
     → subcommand_of grammar_of words ≡ Some (name, rows_of (found_of sub))
 command_met words app is m sub has name named rowed =
     let found = (has (ap is_simple is ∙ simple)).1 in
-    let here : subcommand_rows_of m ≡ Some (name, rows_of (found_of sub)) =
-    both _ _ _ name _ (sym named) (sym rowed) in
+    let here : subcommand_rows_of m ≡ Some (name, rows_of (found_of sub)) = both _ _ _ name _ (sym named) (sym rowed) in
     ap (λ (a : App). subcommand_of a words) (sym is) ∙ sym found ∙ here
 
 one_is : (m : ArgMatches) → word_of m ≡ word_in (rows_of (found_of m))
 one_is m = fun_ext (λ what. first_value-rows (found_of m) what)
 
 all_are : (m : ArgMatches) → words_of m ≡ words_in (rows_of (found_of m))
-all_are m = fun_ext (λ what.
-    ap (λ (o : Option (List Text)). unwrap_or o []) (raw_values-rows (found_of m) what))
+all_are m = fun_ext (λ what. ap (λ (o : Option (List Text)). unwrap_or o []) (raw_values-rows (found_of m) what))
 
 -- what the arguments that the parser found ask for is what the words mean
 pub meant : (words : List Text) (name : Text) (m : ArgMatches) → fault_of grammar_of words ≡ []
-    → subcommand_of grammar_of words ≡ Some (name, rows_of (found_of m))
-    → (r : Result Order WordFault)
+    → subcommand_of grammar_of words ≡ Some (name, rows_of (found_of m)) → (r : Result Order WordFault)
     → Reads r (λ o. IsWithinLimits o × IsAskedBy name (word_of m) (words_of m) o)
     → IfOk r IsWithinLimits × Reads r (Means words)
 meant words name m taken command (Ok o) is = (
@@ -70,8 +65,7 @@ meant words name m taken command (Err why) none = (
   tt,
   λ other o means.
       let same : means.found ≡ (name, rows_of (found_of m)) = cc in
-      let asked = subst (λ (f : Text × List Row). IsAskedBy f.0 (word_in f.1) (words_in f.1) o) same
-      means.asked in
+      let asked = subst (λ (f : Text × List Row). IsAskedBy f.0 (word_in f.1) (words_in f.1) o) same means.asked in
       none other o (
         means.limits,
         subst (λ (of : Text → Option Text). IsAskedBy name of (words_of m) o) (sym (one_is m))

@@ -15,7 +15,6 @@ not_lines text json AsText other is lines = lines.0 is.0
 not_lines text json Json other is lines = lines.1 is.0
 
 -- the arguments are those of a request whose reply lists segments, or those of another one
-pub one_listing : (words : List Text) (value after : Option Text) (q r : CallRequest)
-    → IsQuestionOf words value after q → IsQuestionOf words value after r
-    → lists_segments q ≡ false → lists_segments r ≡ true → ⊥
+pub one_listing : (words : List Text) (value after : Option Text) (q r : CallRequest) → IsQuestionOf words value after q
+    → IsQuestionOf words value after r → lists_segments q ≡ false → lists_segments r ≡ true → ⊥
 one_listing words value after q r is was unlisted listed = grind (arith, common_steps)

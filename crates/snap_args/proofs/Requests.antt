@@ -11,18 +11,15 @@ use Rattle.snap_order.specs.declared.order.CallRequest.TheVariants as question
 
 -- two arguments, of which the first is this name
 pub two_words : (words : List (Bor Text)) (d : Bor Text) (name : Text) → length words ≡ 2
-    → (get_or words 0 d).now ≡ name
-    → map (λ w. w.now) words ≡ name ∷ (get_or words 1 d).now ∷ []
+    → (get_or words 0 d).now ≡ name → map (λ w. w.now) words ≡ name ∷ (get_or words 1 d).now ∷ []
 two_words (a ∷ b ∷ []) d name long e = ap (λ (first : Text). first ∷ b.now ∷ []) e
 two_words words d name long e = absurd (omega arith)
 
 -- four arguments, of which the first is `update`
-pub four_words : (words : List (Bor Text)) (d : Bor Text) → length words ≡ 4
-    → (get_or words 0 d).now ≡ codes "update"
+pub four_words : (words : List (Bor Text)) (d : Bor Text) → length words ≡ 4 → (get_or words 0 d).now ≡ codes "update"
     → map (λ w. w.now) words ≡ codes "update" ∷ (get_or words 1 d).now ∷ (get_or words 2 d).now
     ∷ (get_or words 3 d).now ∷ []
-four_words (a ∷ b ∷ c ∷ f ∷ []) d long e =
-    ap (λ (first : Text). first ∷ b.now ∷ c.now ∷ f.now ∷ []) e
+four_words (a ∷ b ∷ c ∷ f ∷ []) d long e = ap (λ (first : Text). first ∷ b.now ∷ c.now ∷ f.now ∷ []) e
 four_words words d long e = absurd (omega arith)
 
 -- a text that is no value is none of an update
@@ -41,8 +38,7 @@ no_question words scan status health part get put update (question.Request (Upda
     update is.0.0 is.0.1 is.0.2 is.0.3
 no_question words scan status health part get put update (question.Request Scan) is = scan is.0
 no_question words scan status health part get put update (question.Request Status) is = status is.0
-no_question words scan status health part get put update (question.Request (Part set)) is =
-    part is.0.0 is.0.1
+no_question words scan status health part get put update (question.Request (Part set)) is = part is.0.0 is.0.1
 no_question words scan status health part get put update question.Health is = health is.0
 no_question words scan status health part get put update (question.Get i) is = get is.0.0 is.0.1
 no_question words scan status health part get put update (question.Put p) is = put is.0 is.1

@@ -15,9 +15,8 @@ next_word app after words i d rule within is adds =
     ∙ sym (at_drop_more (app_with app) words i d within)
 
 -- a program with one more command
-pub next_command : (r : Result Command AllocError) (old command : Command) (app wanted : App)
-    → app_of old ≡ app → app_of command ≡ wanted → (out-Command command).has_globals ≡ false
-    → IfOk r (AddsSubcommand old command)
+pub next_command : (r : Result Command AllocError) (old command : Command) (app wanted : App) → app_of old ≡ app
+    → app_of command ≡ wanted → (out-Command command).has_globals ≡ false → IfOk r (AddsSubcommand old command)
     → IfOk r (λ all. app_of all ≡ with_subcommand app wanted.top)
 next_command r old command app wanted is made local adds = IfOk-weaker r _ _
     (λ all its. its.shape local ∙ ap (λ (a : App). with_subcommand a (app_of command).top) is

@@ -7,13 +7,10 @@ use Rattle.clap.specs.Words.{Text}
 use Rattle.snap_args.specs.Numbers.{IsNumberOf}
 
 -- if the segments so far are their arguments' numbers, they are with one more at the end
-pub more_numbers : (of : ℕ → Option Text) (segments : List ℕ) (s at : ℕ) → length segments ≡ at
-    → IsNumberOf (of at) s
-    → ((k : ℕ) → k < at → IsNumberOf (of k) (slice_index segments k))
-    → (k : ℕ) → k < at + 1 → IsNumberOf (of k) (slice_index (segments ++ s ∷ []) k)
-more_numbers of segments s at long is before =
-    below_more _ _
-    (λ k below. subst (IsNumberOf (of k))
+pub more_numbers : (of : ℕ → Option Text) (segments : List ℕ) (s at : ℕ) → length segments ≡ at → IsNumberOf (of at) s
+    → ((k : ℕ) → k < at → IsNumberOf (of k) (slice_index segments k)) → (k : ℕ) → k < at + 1
+    → IsNumberOf (of k) (slice_index (segments ++ s ∷ []) k)
+more_numbers of segments s at long is before = below_more _ _ (λ k below. subst (IsNumberOf (of k))
     (sym (get_or_append_left segments (s ∷ []) 0 k (omega (arith, long, below)))) (before k below))
     (subst (λ (k : ℕ). IsNumberOf (of k) (slice_index (segments ++ s ∷ []) k)) long
     (subst (IsNumberOf (of (length segments))) (sym (get_or-append_seam segments s [] 0))

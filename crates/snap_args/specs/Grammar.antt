@@ -93,8 +93,7 @@ addressed app = with_rule app (word_rule (codes "address"))
 
 -- adds a server's limits and log level
 abbrev pub limited : App → App
-limited app = with_rule
-    (with_rule (with_rule app (large_number_rule (codes "clients-max")))
+limited app = with_rule (with_rule (with_rule app (large_number_rule (codes "clients-max")))
     (large_number_rule (codes "idle"))) (choice_rule (codes "log") (codes "info"))
 
 -- adds files, or their folder
@@ -157,16 +156,10 @@ program_of = record { top = top_shape; subs = [] }
 abbrev pub grammar_of : App
 grammar_of = with_subcommand (with_subcommand (with_subcommand (with_subcommand (with_subcommand
     (with_subcommand (with_subcommand (with_subcommand (with_subcommand (with_subcommand
-    (with_subcommand (with_subcommand (with_subcommand program_of
-    (placed (filed (new_app (codes "format")))).top)
-    (placed (filed (new_app (codes "put")))).top)
-    (placed (filed (new_app (codes "get")))).top)
-    (checked (new_app (codes "check"))).top)
-    (paired (new_app (codes "migrate"))).top)
-    (founded (new_app (codes "init"))).top)
-    (examined (new_app (codes "doctor"))).top)
-    (served (new_app (codes "serve"))).top)
-    (called (new_app (codes "call"))).top)
-    (watched (new_app (codes "watch"))).top)
-    (dumped (new_app (codes "dump"))).top)
+    (with_subcommand (with_subcommand (with_subcommand program_of (placed (filed (new_app (codes "format")))).top)
+    (placed (filed (new_app (codes "put")))).top) (placed (filed (new_app (codes "get")))).top)
+    (checked (new_app (codes "check"))).top) (paired (new_app (codes "migrate"))).top)
+    (founded (new_app (codes "init"))).top) (examined (new_app (codes "doctor"))).top)
+    (served (new_app (codes "serve"))).top) (called (new_app (codes "call"))).top)
+    (watched (new_app (codes "watch"))).top) (dumped (new_app (codes "dump"))).top)
     (loaded (new_app (codes "load"))).top) (new_app (codes "script")).top

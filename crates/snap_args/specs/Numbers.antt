@@ -9,13 +9,11 @@ use Rattle.snap_order.specs.declared.order.Level.TheVariants as level
 -- the argument is a decimal number, with or without a plus sign, and n is its value
 abbrev pub IsNumberOf : Option Text → ℕ → Type 0
 IsNumberOf None n = ⊥
-IsNumberOf (Some word) n =
-    IsNumeral 10 (without_leading_plus word) × (digits_value 10 (without_leading_plus word) ≡ n)
+IsNumberOf (Some word) n = IsNumeral 10 (without_leading_plus word) × (digits_value 10 (without_leading_plus word) ≡ n)
 
 -- the arguments are this index and this count
 abbrev pub IsPlaceOf : (of : Text → Option Text) → (index count : ℕ) → Type 0
-IsPlaceOf of index count =
-    IsNumberOf (of (codes "index")) index × IsNumberOf (of (codes "count")) count
+IsPlaceOf of index count = IsNumberOf (of (codes "index")) index × IsNumberOf (of (codes "count")) count
 
 -- the number of an optional argument: none if it isn't given
 abbrev pub IsLargeNumberOf : Option Text → Option ℕ → Type 0

@@ -19,11 +19,9 @@ use Rattle.snap_args.specs.declared.fault.WordFault.TheVariants as fault
 
 -- the arguments of `check` ask for this: the whole file, or the value of a slot
 abbrev pub IsCheckOf : (of : Text → Option Text) → FileOrder → Type 0
-IsCheckOf of (Check file is_json) = (of (codes "file") ≡ Some file.now)
-    × (IsTrue is_json ↔ IsGiven (of (codes "json")))
+IsCheckOf of (Check file is_json) = (of (codes "file") ≡ Some file.now) × (IsTrue is_json ↔ IsGiven (of (codes "json")))
     × (of (codes "slot") ≡ None) × (IsGiven (of (codes "value")) → ⊥)
-IsCheckOf of (Slot file slot) = (of (codes "file") ≡ Some file.now)
-    × IsNumberOf (of (codes "slot")) slot
+IsCheckOf of (Slot file slot) = (of (codes "file") ≡ Some file.now) × IsNumberOf (of (codes "slot")) slot
     × IsGiven (of (codes "value")) × (IsGiven (of (codes "json")) → ⊥)
 IsCheckOf of order = ⊥
 
@@ -31,10 +29,8 @@ IsCheckOf of order = ⊥
 abbrev pub IsFileAskedBy : Text → (of : Text → Option Text) → FileOrder → Type 0
 IsFileAskedBy name of (Format file i n) = (name ≡ codes "format")
     × (of (codes "file") ≡ Some file.now) × IsPlaceOf of i n
-IsFileAskedBy name of (Put file i n) = (name ≡ codes "put")
-    × (of (codes "file") ≡ Some file.now) × IsPlaceOf of i n
-IsFileAskedBy name of (Get file i n) = (name ≡ codes "get")
-    × (of (codes "file") ≡ Some file.now) × IsPlaceOf of i n
+IsFileAskedBy name of (Put file i n) = (name ≡ codes "put") × (of (codes "file") ≡ Some file.now) × IsPlaceOf of i n
+IsFileAskedBy name of (Get file i n) = (name ≡ codes "get") × (of (codes "file") ≡ Some file.now) × IsPlaceOf of i n
 IsFileAskedBy name of order = (name ≡ codes "check") × IsCheckOf of order
 
 -- the arguments ask to convert this file
@@ -62,8 +58,7 @@ AreAddressesOf (Some first) further addresses = addresses ≡ first ∷ further
 -- the server's addresses, numbers, log level and address for HTTP are those of these arguments
 pub record IsServiceOf (of : Text → Option Text) (all : Text → List Text) (s : ServeOptions)
     : Type 0 where
-  pub addresses : AreAddressesOf (of (codes "address")) (all (codes "listen"))
-      (map (λ a. a.now) s.addresses.items)
+  pub addresses : AreAddressesOf (of (codes "address")) (all (codes "listen")) (map (λ a. a.now) s.addresses.items)
   pub mode : IsModeOf (of (codes "socket-mode")) s.socket_mode
   pub scanners : IsNumberOf (of (codes "scanners")) s.scanners
   pub connections : IsLargeNumberOf (of (codes "connections")) s.connections
@@ -139,17 +134,14 @@ IsRequest kind = (kind ≡ DisplayHelp) ⊎ (kind ≡ DisplayVersion)
 -- the fault for an error of the parser
 abbrev pub IsParseFault : Error → WordFault → Type 0
 IsParseFault error (fault.Help e) = (e ≡ error) × IsRequest (kind_of error)
-IsParseFault error (fault.Words e) =
-    (e ≡ error) × (IsRequest (kind_of error) → ⊥) × (kind_of error ≡ OutOfMemory → ⊥)
+IsParseFault error (fault.Words e) = (e ≡ error) × (IsRequest (kind_of error) → ⊥) × (kind_of error ≡ OutOfMemory → ⊥)
 IsParseFault error fault.Memory = kind_of error ≡ OutOfMemory
 IsParseFault error why = ⊥
 
 -- The words don't match the grammar: `Help` is for those that ask for help or the version, and
 -- `Words` for all others.
 abbrev pub IsTold : List Text → WordFault → Type 0
-IsTold words (fault.Help e) =
-    IsAmong (kind_of e) (fault_of grammar_of words) × IsRequest (kind_of e)
-IsTold words (fault.Words e) =
-    IsAmong (kind_of e) (fault_of grammar_of words) × (IsRequest (kind_of e) → ⊥)
+IsTold words (fault.Help e) = IsAmong (kind_of e) (fault_of grammar_of words) × IsRequest (kind_of e)
+IsTold words (fault.Words e) = IsAmong (kind_of e) (fault_of grammar_of words) × (IsRequest (kind_of e) → ⊥)
 IsTold words fault.Memory = Unit {0}
 IsTold words why = ⊥

@@ -24,8 +24,7 @@ IsPartOf mask request = ⊥
 -- the request of these arguments
 abbrev pub IsRequestOf : List Text → Request → Type 0
 IsRequestOf words (Update i k bytes) = (segment : Text) × (number : Text) × (value : Text)
-    × (words ≡ codes "update" ∷ segment ∷ number ∷ value ∷ [])
-    × IsUpdateOf segment number value (Update i k bytes)
+    × (words ≡ codes "update" ∷ segment ∷ number ∷ value ∷ []) × IsUpdateOf segment number value (Update i k bytes)
 IsRequestOf words Scan = words ≡ codes "scan" ∷ []
 IsRequestOf words Status = words ≡ codes "status" ∷ []
 IsRequestOf words (Part set) = (mask : Text) × (words ≡ codes "part" ∷ mask ∷ []) × IsPartOf mask (Part set)
@@ -50,11 +49,9 @@ HasNoOption value after = (value ≡ None) × (after ≡ None)
 -- The call's request by these arguments. A put's options are allowed for a put only.
 abbrev pub IsQuestionOf : List Text → (value after : Option Text) → CallRequest → Type 0
 IsQuestionOf words value after (question.Request r) = IsRequestOf words r × HasNoOption value after
-IsQuestionOf words value after question.Health =
-    (words ≡ codes "health" ∷ []) × HasNoOption value after
+IsQuestionOf words value after question.Health = (words ≡ codes "health" ∷ []) × HasNoOption value after
 IsQuestionOf words value after (question.Get i) =
-    ((segment : Text) × (words ≡ codes "get" ∷ segment ∷ []) × IsNumberOf (Some segment) i)
-    × HasNoOption value after
+    ((segment : Text) × (words ≡ codes "get" ∷ segment ∷ []) × IsNumberOf (Some segment) i) × HasNoOption value after
 IsQuestionOf words value after (question.Put p) =
     (segment : Text) × (words ≡ codes "put" ∷ segment ∷ []) × IsPutOf segment value after p
 

@@ -95,10 +95,8 @@ pub(crate) fn grammar<'a>(alloc: Global) -> Result<Command<'a>, AllocError>
 /// The program with the commands on one segment's file.
 fn segment_commands<'a>(alloc: Global) -> Result<Command<'a>, AllocError>
     ensures { IfOk result (λ all. app_of all ≡ with_subcommand (with_subcommand
-        (with_subcommand (with_subcommand program_of
-        (placed (filed (new_app (codes "format")))).top)
-        (placed (filed (new_app (codes "put")))).top)
-        (placed (filed (new_app (codes "get")))).top)
+        (with_subcommand (with_subcommand program_of (placed (filed (new_app (codes "format")))).top)
+        (placed (filed (new_app (codes "put")))).top) (placed (filed (new_app (codes "get")))).top)
         (checked (new_app (codes "check"))).top) }
 {
     let words = place_words();

@@ -11,10 +11,8 @@ use snap_order::{MAX_COUNT, MAX_TIMEOUT, MAX_TRIES, MODE_BITS};
 
 /// The place of a file's segment, within the limits.
 pub(crate) fn place(matches: &ArgMatches<'_>) -> Result<(u8, u8), WordFault>
-    ensures { MatchResult result
-        (λ place. IsPlace place.0 place.1 × IsPlaceOf (word_of matches.now) place.0 place.1)
-        (λ why. why ≢ Memory
-        → (i n : ℕ) → IsPlace i n × IsPlaceOf (word_of matches.now) i n → ⊥) }
+    ensures { MatchResult result (λ place. IsPlace place.0 place.1 × IsPlaceOf (word_of matches.now) place.0 place.1)
+        (λ why. why ≢ Memory → (i n : ℕ) → IsPlace i n × IsPlaceOf (word_of matches.now) i n → ⊥) }
 {
     let index = number_of(matches, "index")?;
     let count = count_of(matches)?;

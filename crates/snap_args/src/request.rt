@@ -24,8 +24,7 @@ use std::alloc::Global;
 
 /// Parses the request of a call, within the limits.
 pub(crate) fn question_of(alloc: Global, matches: &ArgMatches<'_>) -> Result<CallRequest, WordFault>
-    ensures { Reads result (λ q. KeepsLimits q
-        × IsQuestionOf (words_of matches.now (codes "request"))
+    ensures { Reads result (λ q. KeepsLimits q × IsQuestionOf (words_of matches.now (codes "request"))
         (word_of matches.now (codes "value")) (word_of matches.now (codes "after")) q) }
 {
     question(alloc, matches.get_strs("request").unwrap_or(&[]), matches)
@@ -37,8 +36,7 @@ fn question(
     words: &[&str],
     matches: &ArgMatches<'_>,
 ) -> Result<CallRequest, WordFault>
-    ensures { Reads result (λ q. KeepsLimits q
-        × IsQuestionOf (map (λ w. w.now) words.now)
+    ensures { Reads result (λ q. KeepsLimits q × IsQuestionOf (map (λ w. w.now) words.now)
         (word_of matches.now (codes "value")) (word_of matches.now (codes "after")) q) }
 {
     if words.len() == 2 && is(words[0], "put") {

@@ -18,8 +18,7 @@ pub(crate) fn serving<'a>(
     alloc: Global,
     matches: &ArgMatches<'a>,
 ) -> Result<ServeOptions<'a>, WordFault>
-    ensures { Reads result (λ s. IsServable s
-        × (words_of matches.now (codes "files") ≡ map (λ f. f.now) s.files.items)
+    ensures { Reads result (λ s. IsServable s × (words_of matches.now (codes "files") ≡ map (λ f. f.now) s.files.items)
         × IsServiceOf (word_of matches.now) (words_of matches.now) s) }
 {
     let files = matches.get_strs("files").unwrap_or(&[]);
@@ -45,8 +44,7 @@ pub(crate) fn folder_serving<'a>(
     matches: &ArgMatches<'a>,
 ) -> Result<ServeOptions<'a>, WordFault>
     ensures { Reads result (λ s. KeepsLimits s × (length s.files.items ≡ 0)
-        × (words_of matches.now (codes "files") ≡ [])
-        × IsServiceOf (word_of matches.now) (words_of matches.now) s) }
+        × (words_of matches.now (codes "files") ≡ []) × IsServiceOf (word_of matches.now) (words_of matches.now) s) }
 {
     if matches
         .get_strs("files")

@@ -34,8 +34,7 @@ asked_of pages.History = None
 
 -- the page shows these values
 abbrev pub ShowsValues : Page → List SegmentValue → ℕ → List ℕ → Type 0
-ShowsValues pages.Scan values status content =
-    (status ≡ 200) × (content ≡ list_text (each_from value_tokens 0 values))
+ShowsValues pages.Scan values status content = (status ≡ 200) × (content ≡ list_text (each_from value_tokens 0 values))
 ShowsValues page values status content = ⊥
 
 -- The page shows these statuses. The status is 503 for the health if a segment is fenced, and for the readiness if all
@@ -91,8 +90,7 @@ module _ {S : Type 0} (gives : S → Request → Reply → S → Type 0) where
   -- the answer to a request
   abbrev pub Answers : S → http.Request (List ℕ) → ℕ → List ℕ → S → Type 0
   Answers old request status content new = MatchBool (is_read (head_of request).method)
-      (AnswersPath (named request) old status content new)
-      ((new ≡ old) × ((status ≡ 405) ⊎ (status ≡ 503)))
+      (AnswersPath (named request) old status content new) ((new ≡ old) × ((status ≡ 405) ⊎ (status ≡ 503)))
 
   -- the request to the service that an HTTP request may cause
   abbrev pub MayAskFor : S → http.Request (List ℕ) → S → Type 0

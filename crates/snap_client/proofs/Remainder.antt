@@ -1,21 +1,11 @@
--- A feed at its start, and the rest of a write.
-use Rattle.std.proofs.Common.{◌≡◌, ℕ, ◌+◌, ◌-◌, List, [], ◌++◌, length, take, drop, sym, ◌∙◌, ap, arith, length-drop}
+-- The rest of a write.
+use Rattle.std.proofs.Common.{◌≡◌, ℕ, ◌+◌, ◌-◌, List, ◌++◌, length, take, drop, sym, ◌∙◌, ap, length-drop}
 use Rattle.std.proofs.Math.Seq.{take-length, take-add}
-use Rattle.snap_frame.{specs.Stream.IsBytes, specs.Stream.IsPartial, proofs.Cuts.tiny_is_partial}
-
--- the empty list has no whole frame, and no length
-pub nothing_is_partial : IsPartial []
-nothing_is_partial = tiny_is_partial [] (omega arith)
-
-pub bytes-nil : IsBytes []
-bytes-nil i = omega arith
 
 -- the items from i on, as `&xs[i..]`
 rest_is : (i : ℕ) (xs : List ℕ) → take (length xs - i) (drop i xs) ≡ drop i xs
-rest_is i xs =
-    ap (λ k. take k (drop i xs)) (sym (length-drop i xs)) ∙ take-length (drop i xs)
+rest_is i xs = ap (λ k. take k (drop i xs)) (sym (length-drop i xs)) ∙ take-length (drop i xs)
 
 -- the first i bytes, and then n of `&xs[i..]`
-pub take_on : (i n : ℕ) (xs : List ℕ)
-    → take i xs ++ take n (take (length xs - i) (drop i xs)) ≡ take (i + n) xs
+pub take_on : (i n : ℕ) (xs : List ℕ) → take i xs ++ take n (take (length xs - i) (drop i xs)) ≡ take (i + n) xs
 take_on i n xs = ap (λ ys. take i xs ++ take n ys) (rest_is i xs) ∙ sym (take-add i n xs)

@@ -8,8 +8,7 @@ module _ {F R W : Type 0} (connects : F → Option (R × W) → F → Type 0) (r
     → Option (List ℕ)) (contents : W → Option (List ℕ)) (q : Request) where
   -- the last try
   pub tries_last : (old new : F) (result : Result Reply ClientFault)
-      → Tries connects remaining contents q old result new
-      → TriesUpTo 1 connects remaining contents q old result new
+      → Tries connects remaining contents q old result new → TriesUpTo 1 connects remaining contents q old result new
   tries_last old new result one = inl (one, inl refl)
 
   -- a try whose outcome is final
@@ -27,13 +26,7 @@ module _ {F R W : Type 0} (connects : F → Option (R × W) → F → Type 0) (r
   tries_on zero old mid new fault result some one may rest = absurd (omega (arith, some))
   tries_on (suc n) old mid new fault result some one may rest =
       let less : suc n - 1 ≡ n = omega arith in
-      inr (
-        fault,
-        mid,
-        may,
-        one,
-        subst (λ k. TriesUpTo k connects remaining contents q mid result new) less rest,
-      )
+      inr (fault, mid, may, one, subst (λ k. TriesUpTo k connects remaining contents q mid result new) less rest)
 
   tries_more : (n : ℕ) (old mid new : F) (fault : ClientFault) (result : Result Reply ClientFault)
       → TriesUpTo n connects remaining contents q old (Err fault) mid → MayPass fault
@@ -47,10 +40,9 @@ module _ {F R W : Type 0} (connects : F → Option (R × W) → F → Type 0) (r
       inr (first, next, passes, made, tries_more n next mid new fault result rest may one)
 
   -- a try after those that ended with a fault which may pass
-  pub tries_next : (n m : ℕ) (old mid new : F) (fault : ClientFault) (result : Result Reply ClientFault)
-      → suc n ≡ m → TriesUpTo n connects remaining contents q old (Err fault) mid → MayPass fault
-      → Tries connects remaining contents q mid result new
-      → TriesUpTo m connects remaining contents q old result new
+  pub tries_next : (n m : ℕ) (old mid new : F) (fault : ClientFault) (result : Result Reply ClientFault) → suc n ≡ m
+      → TriesUpTo n connects remaining contents q old (Err fault) mid → MayPass fault
+      → Tries connects remaining contents q mid result new → TriesUpTo m connects remaining contents q old result new
   tries_next n m old mid new fault result one_more tried may one =
       subst (λ k. TriesUpTo k connects remaining contents q old result new) one_more
       (tries_more n old mid new fault result tried may one)

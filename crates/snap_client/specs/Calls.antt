@@ -49,9 +49,7 @@ IsNoAnswer q x = SaysNothing x ⊎ ((r : Reply) × Says x r × (Answers q r → 
 
 -- the first frame of the bytes that arrived is no answer
 abbrev pub BeginsBadly : Request → List ℕ → Type 0
-BeginsBadly q came =
-    HasLongLength came
-    ⊎ ((x : List ℕ) × (rest : List ℕ) × HasFrame came x rest × IsNoAnswer q x)
+BeginsBadly q came = HasLongLength came ⊎ ((x : List ℕ) × (rest : List ℕ) × HasFrame came x rest × IsNoAnswer q x)
 
 -- nothing was read or written
 pub record IsUntouched {R W : Type 0} (old new : ClientState R W) : Type 0 where
@@ -85,16 +83,13 @@ Reaches remaining contents q old (Ok r) new =
 Reaches remaining contents q old (Err WriteFailed) new = HasCutShort contents q old new
 Reaches remaining contents q old (Err ReadFailed) new =
     HasAsked remaining contents q old new.held new × IsPartial new.held
-Reaches remaining contents q old (Err Ended) new =
-    HasAsked remaining contents q old new.held new × IsPartial new.held
+Reaches remaining contents q old (Err Ended) new = HasAsked remaining contents q old new.held new × IsPartial new.held
     × IsAtEnd (remaining new.reader)
 -- bytes without a request were held, or what arrived begins with no answer
-Reaches remaining contents q old (Err BadReply) new =
-    ((old.held ≡ [] → ⊥) × IsUntouched old new)
+Reaches remaining contents q old (Err BadReply) new = ((old.held ≡ [] → ⊥) × IsUntouched old new)
     ⊎ ((came : List ℕ) × HasAsked remaining contents q old came new × BeginsBadly q came)
 -- memory ran out before the frame was written, or for the last piece that arrived
-Reaches remaining contents q old (Err NoMemory) new =
-    ((old.held ≡ []) × IsUntouched old new)
+Reaches remaining contents q old (Err NoMemory) new = ((old.held ≡ []) × IsUntouched old new)
     ⊎ ((before : List ℕ) × (piece : List ℕ) × IsPartial before
     × HasAsked remaining contents q old (before ++ piece) new)
 Reaches remaining contents q old (Err ConnectFailed) new = ⊥
@@ -106,8 +101,7 @@ fault_of (Err f) = Some f
 
 -- a client that hasn't failed does the call; one that has returns its fault, and does nothing
 abbrev pub CallsAfter : {R W : Type 0} → Option ClientFault → (R → Option (List ℕ)) → (W
-    → Option (List ℕ)) → Request → ClientState R W → Result Reply ClientFault → ClientState R W
-    → Type 0
+    → Option (List ℕ)) → Request → ClientState R W → Result Reply ClientFault → ClientState R W → Type 0
 CallsAfter None remaining contents q old result new =
     Reaches remaining contents q old result new × (new.fault ≡ fault_of result)
 CallsAfter (Some f) remaining contents q old result new = (result ≡ Err f) × (new ≡ old)
@@ -115,5 +109,4 @@ CallsAfter (Some f) remaining contents q old result new = (result ≡ Err f) × 
 -- A call's result for a request, and the client after it.
 abbrev pub Calls : {R W : Type 0} → (R → Option (List ℕ)) → (W → Option (List ℕ)) → Request
     → ClientState R W → Result Reply ClientFault → ClientState R W → Type 0
-Calls remaining contents q old result new =
-    CallsAfter old.fault remaining contents q old result new
+Calls remaining contents q old result new = CallsAfter old.fault remaining contents q old result new

@@ -19,11 +19,8 @@ Hears old new (Ok r) held =
     (came : List ℕ) × (x : List ℕ) × Consumes old new came × HasFrame came x held.bytes × Says x r
     × (held.failure ≡ None)
 Hears old new (Err ReadFailed) held = Consumes old new held.bytes × IsPartial held.bytes
-Hears old new (Err Ended) held =
-    Consumes old new held.bytes × IsPartial held.bytes × IsAtEnd new
-Hears old new (Err BadReply) held =
-    (came : List ℕ) × Consumes old new came
-    × (HasLongLength came
+Hears old new (Err Ended) held = Consumes old new held.bytes × IsPartial held.bytes × IsAtEnd new
+Hears old new (Err BadReply) held = (came : List ℕ) × Consumes old new came × (HasLongLength came
     ⊎ ((x : List ℕ) × (rest : List ℕ) × HasFrame came x rest × SaysNothing x))
 Hears old new (Err NoMemory) held =
     (before : List ℕ) × (piece : List ℕ) × IsPartial before × Consumes old new (before ++ piece)

@@ -90,8 +90,7 @@ pub(crate) fn exchange<R: Read, W: Write>(
     requires going { feed.old.failure ≡ None }
     // It holds for whichever fault the client keeps then.
     ensures reaches { (fault : Option ClientFault) → Reaches R.remaining W.contents request.now
-        (talking reader.old writer.old feed.old.bytes) result
-        (client_of reader.new writer.new feed.new.bytes fault) }
+        (talking reader.old writer.old feed.old.bytes) result (client_of reader.new writer.new feed.new.bytes fault) }
     ensures going { OnOk result (feed.new.failure ≡ None) }
 {
     if !feed.is_between() {

@@ -12,8 +12,7 @@ use denote.Param.Members.{Mut, Called}
 
 module _ {F R W : Type 0} (connects : F → Option (R × W) → F → Type 0) (remaining : R
     → Option (List ℕ)) (contents : W → Option (List ℕ)) (q : Request) where
-  once_says : (old new : F) (r : Reply) → Tries connects remaining contents q old (Ok r) new
-      → IsInLimits r
+  once_says : (old new : F) (r : Reply) → Tries connects remaining contents q old (Ok r) new → IsInLimits r
   once_says old new r (inl failed) = absurd (grind arith)
   once_says old new r (inr (reader, writer, s, is, calls)) =
       let (came, x, asked, has, says, answers) = calls.0 in says.0
@@ -38,15 +37,12 @@ module _ {F R W : Type 0} (connects : F → Option (R × W) → F → Type 0) (r
 module _ {F R W : Type 0} (calls : Mut F (Unit {0}) (Option (R × W))) (remaining : R → Option (List ℕ))
     (contents : W → Option (List ℕ)) (q : Request) where
   once_leaves : (old new : F) (result : Result Reply ClientFault) → always_mut calls old
-      → Tries (λ f x f'. Called calls f tt x f') remaining contents q old result new
-      → always_mut calls new
+      → Tries (λ f x f'. Called calls f tt x f') remaining contents q old result new → always_mut calls new
   once_leaves old new result may (inl (is, failed)) = mut_next calls old tt _ new new is refl may
-  once_leaves old new result may (inr (reader, writer, s, is, did)) =
-      mut_next calls old tt _ new new is refl may
+  once_leaves old new result may (inr (reader, writer, s, is, did)) = mut_next calls old tt _ new new is refl may
 
   up_to_leave : (n : ℕ) (old new : F) (result : Result Reply ClientFault) → always_mut calls old
-      → TriesUpTo n (λ f x f'. Called calls f tt x f') remaining contents q old result new
-      → always_mut calls new
+      → TriesUpTo n (λ f x f'. Called calls f tt x f') remaining contents q old result new → always_mut calls new
   up_to_leave zero old new result may none = absurd none
   up_to_leave (suc n) old new result may (inl (one, last)) = once_leaves old new result may one
   up_to_leave (suc n) old new result may (inr (fault, mid, passes, one, rest)) =
@@ -54,8 +50,7 @@ module _ {F R W : Type 0} (calls : Mut F (Unit {0}) (Option (R × W))) (remainin
 
   -- a `connect` that can always be called can be called again after the tries
   pub tries_leave : (tries : Option ℕ) (old new : F) (result : Result Reply ClientFault) → always_mut calls old
-      → TriesIn tries (λ f x f'. Called calls f tt x f') remaining contents q old result new
-      → always_mut calls new
+      → TriesIn tries (λ f x f'. Called calls f tt x f') remaining contents q old result new → always_mut calls new
   tries_leave (Some n) old new result may tried = up_to_leave n old new result may tried
   tries_leave None old new result may (n, mid, tried, inl (final, same)) =
       subst (always_mut calls) (sym same) (up_to_leave n old mid result may tried)

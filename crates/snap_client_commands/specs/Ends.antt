@@ -40,10 +40,8 @@ abbrev pub IsCutShort : List ℕ → Exit → (out out' : Option (List ℕ)) →
 IsCutShort text ended out out' = HasFailed ended × AppendsBeginning out out' text
 
 -- the text was printed, or cut short
-abbrev pub PrintsInPlace : (how : Status) → List ℕ → Exit → (out out' : Option (List ℕ))
-    → Type 0
-PrintsInPlace how text ended out out' =
-    IsPrinted how text ended out out' ⊎ IsCutShort text ended out out'
+abbrev pub PrintsInPlace : (how : Status) → List ℕ → Exit → (out out' : Option (List ℕ)) → Type 0
+PrintsInPlace how text ended out out' = IsPrinted how text ended out out' ⊎ IsCutShort text ended out out'
 
 -- a text of the reply was printed or cut short, or memory ran out before the first byte
 unfoldable pub Prints : (how : Status) → OutputFormat → CallRequest → Reply → Exit → (out out' : Option (List ℕ))
@@ -59,16 +57,13 @@ IsOnlyValue segment values x = (length values ≡ 1)
 
 -- the value of this segment was printed, byte for byte; a reply without it, or with another one, counts as no answer
 abbrev pub EndsGot : ℕ → List NamedValue → Exit → (out out' : Option (List ℕ)) → Type 0
-EndsGot segment values ended out out' =
-    ((x : List ℕ) × IsOnlyValue segment values x
+EndsGot segment values ended out out' = ((x : List ℕ) × IsOnlyValue segment values x
     × PrintsInPlace status.Done x ended out out')
     ⊎ (((x : List ℕ) → IsOnlyValue segment values x → ⊥) × HasFailed ended × Keeps out out')
 
 -- how a call ends after the reply to a read
-abbrev pub EndsRead : OutputFormat → CallRequest → Reply → Exit → (out out' : Option (List ℕ))
-    → Type 0
-EndsRead layout (Get segment) (reply.Part values) ended out out' =
-    EndsGot segment values.items ended out out'
+abbrev pub EndsRead : OutputFormat → CallRequest → Reply → Exit → (out out' : Option (List ℕ)) → Type 0
+EndsRead layout (Get segment) (reply.Part values) ended out out' = EndsGot segment values.items ended out out'
 EndsRead layout question reply ended out out' =
     Prints (answer_status question reply) layout question reply ended out out'
 
@@ -84,16 +79,12 @@ IsRead reply = ⊥
 -- reply to an update, stored or refused.
 abbrev pub EndsAsked : OutputFormat → CallRequest → Result Reply ClientFault → Exit
     → (out out' : Option (List ℕ)) → Type 0
-EndsAsked layout question (Ok (Refused why detail)) ended out out' =
-    IsRefused ended × Keeps out out'
+EndsAsked layout question (Ok (Refused why detail)) ended out out' = IsRefused ended × Keeps out out'
 EndsAsked layout question (Ok (Stored number)) ended out out' =
     PrintsInPlace status.Done (stored_line number) ended out out'
-EndsAsked layout question (Ok reply) ended out out' =
-    EndsRead layout question reply ended out out'
-EndsAsked layout question (Err NoMemory) ended out out' =
-    IsRefused ended × Keeps out out'
-EndsAsked layout question (Err fault) ended out out' =
-    HasFailed ended × Keeps out out'
+EndsAsked layout question (Ok reply) ended out out' = EndsRead layout question reply ended out out'
+EndsAsked layout question (Err NoMemory) ended out out' = IsRefused ended × Keeps out out'
+EndsAsked layout question (Err fault) ended out out' = HasFailed ended × Keeps out out'
 
 -- The most connections of a request with this wait and these tries. `None` if it waits: then any number.
 abbrev pub most_tries : (wait : Option ℕ) → (tries : ℕ) → Option ℕ
@@ -106,9 +97,7 @@ tries_of c = most_tries c.wait c.tries
 
 -- A request was sent on at most that many connections, and the answer decides the end.
 abbrev pub Asks : {F R C : Type 0} → OutputFormat → (tries : Option ℕ) → (F → Option (R × C) → F → Type 0)
-    → (R → Option (List ℕ)) → (C → Option (List ℕ)) → CallRequest → F → Exit → F
-    → (out out' : Option (List ℕ)) → Type 0
-Asks layout tries connects remaining contents question old ended new out out' =
-    (answer : Result Reply ClientFault)
+    → (R → Option (List ℕ)) → (C → Option (List ℕ)) → CallRequest → F → Exit → F → (out out' : Option (List ℕ)) → Type 0
+Asks layout tries connects remaining contents question old ended new out out' = (answer : Result Reply ClientFault)
     × TriesIn tries connects remaining contents (request_of question) old answer new
     × EndsAsked layout question answer ended out out'

@@ -22,6 +22,5 @@ EndsFetch answer (Err ended) = EndsWithout answer ended
 -- a scan was sent on at most that many connections, and these are the values of the last answer
 abbrev pub Fetches : {F R C : Type 0} → (tries : Option ℕ) → (F → Option (R × C) → F → Type 0)
     → (R → Option (List ℕ)) → (C → Option (List ℕ)) → F → Result (Vec SegmentValue Global) Exit → F → Type 0
-Fetches tries connects remaining contents old result new =
-    (answer : Result Reply ClientFault)
+Fetches tries connects remaining contents old result new = (answer : Result Reply ClientFault)
     × TriesIn tries connects remaining contents Scan old answer new × EndsFetch answer result

@@ -39,16 +39,14 @@ EndsLacking lack ended = IsRefused ended
 
 -- the status has this number of the segment
 abbrev pub TellsNumber : List SegmentStatus → (segment number : ℕ) → Type 0
-TellsNumber statuses i k =
-    (s : SegmentStatus) × (slice_get statuses i ≡ Some s) × (s.number ≡ k)
+TellsNumber statuses i k = (s : SegmentStatus) × (slice_get statuses i ≡ Some s) × (s.number ≡ k)
 
 -- What follows the answer to the request for the numbers: an update with the next number of this segment, or the
 -- refusal of a segment that the server doesn't have. Any other answer ends the call.
 abbrev pub GoesOn : {F R C : Type 0} → (tries : Option ℕ) → (F → Option (R × C) → F → Type 0)
     → (R → Option (List ℕ)) → (C → Option (List ℕ)) → (segment : ℕ) → (v : List ℕ)
     → Result Reply ClientFault → F → Exit → F → (out out' : Option (List ℕ)) → Type 0
-GoesOn tries connects remaining contents i v (Ok (reply.Status statuses)) mid ended new
-    out out' =
+GoesOn tries connects remaining contents i v (Ok (reply.Status statuses)) mid ended new out out' =
     ((k : ℕ) × TellsNumber statuses.items i k × Asks Lines tries connects remaining contents
     (question.Request (Update i (k + 1) v)) mid ended new out out')
     ⊎ ((length statuses.items ≤ i) × (new ≡ mid) × IsRefused ended × Keeps out out')
@@ -60,11 +58,9 @@ abbrev pub Stores : {F R C : Type 0} → (tries : Option ℕ) → (F → Option 
     → (R → Option (List ℕ)) → (C → Option (List ℕ)) → (after : Option ℕ) → (segment : ℕ)
     → (v : List ℕ) → F → Exit → F → (out out' : Option (List ℕ)) → Type 0
 Stores tries connects remaining contents (Some k) i v old ended new out out' =
-    Asks Lines tries connects remaining contents (question.Request (Update i (k + 1) v)) old ended new
-    out out'
+    Asks Lines tries connects remaining contents (question.Request (Update i (k + 1) v)) old ended new out out'
 Stores {F} tries connects remaining contents None i v old ended new out out' =
-    (told : Result Reply ClientFault) × (mid : F)
-    × TriesIn tries connects remaining contents Status old told mid
+    (told : Result Reply ClientFault) × (mid : F) × TriesIn tries connects remaining contents Status old told mid
     × GoesOn tries connects remaining contents i v told mid ended new out out'
 
 -- How a put runs and ends, if standard input has the `known` bytes. Without a value no connection is made.

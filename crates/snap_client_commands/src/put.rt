@@ -56,8 +56,7 @@ pub(crate) fn store<
     requires within { IsWithin (question.Put put.now) }
     requires callable { F.IsAlwaysCallable connect.old }
     ensures puts { Puts (tries_of order.now) F.step R.remaining C.contents put.now
-        (I.remaining input.old) connect.old result connect.new (W.contents writer.old)
-        (W.contents writer.new) }
+        (I.remaining input.old) connect.old result connect.new (W.contents writer.old) (W.contents writer.new) }
     ensures unread { (ReadsInput (question.Put put.now) → ⊥) → input.new ≡ input.old }
 {
     match value_of(alloc, &put.value, input) {
@@ -134,8 +133,7 @@ fn store_value<R: Read + Drop, C: Write + Drop, F: FnMut() -> Option<(R, C)>, W:
     requires fits { length value ≤ MAX_UPDATE_VALUE }
     requires callable { F.IsAlwaysCallable connect.old }
     ensures { Stores (tries_of order.now) F.step R.remaining C.contents put.now.after
-        put.now.segment value connect.old result connect.new (W.contents writer.old)
-        (W.contents writer.new) }
+        put.now.segment value connect.old result connect.new (W.contents writer.old) (W.contents writer.new) }
 {
     match put.after {
         Some(number) => update(

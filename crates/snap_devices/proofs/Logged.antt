@@ -15,14 +15,11 @@ length_fit len bytes = omega (
   length-replicate {A = ℕ} len 0,
 )
 
-pub size_same : (len : ℕ) (story : Story) (calls calls' : List Call)
-    → length (device_after len story calls').bytes
+pub size_same : (len : ℕ) (story : Story) (calls calls' : List Call) → length (device_after len story calls').bytes
     ≡ length (device_after len story calls).bytes
 size_same len story calls calls' = length_fit len _ ∙ sym (length_fit len _)
 
-pub elapses : (len : ℕ) (story : Story) (calls calls' : List Call)
-    (e : Call)
-    → calls' ≡ e ∷ calls
+pub elapses : (len : ℕ) (story : Story) (calls calls' : List Call) (e : Call) → calls' ≡ e ∷ calls
     → Elapses (length calls) (length calls') (LeftSince len story calls)
     (LeftSince len story calls') (device_after len story calls')
 elapses len story calls calls' e is = rw is record {
@@ -32,10 +29,8 @@ elapses len story calls calls' e is = rw is record {
 }
 
 -- an honest log says what its newest call did
-pub honest : (len : ℕ) (story : Story) (calls calls' : List Call)
-    (e : Call)
-    → calls' ≡ e ∷ calls → IsHonestLog len story calls'
-    → IsHonestLog len story calls
+pub honest : (len : ℕ) (story : Story) (calls calls' : List Call) (e : Call)
+    → calls' ≡ e ∷ calls → IsHonestLog len story calls' → IsHonestLog len story calls
     × IsHonestCall e (device_after len story calls) (device_after len story calls')
 honest len story calls calls' e is = rw is (λ h. h)
 

@@ -20,8 +20,7 @@ plainly R = Struct (record { name = []; args = []; types = []; fields = R ∷ []
 module _ {M : Type 1} {𝓤 : Ura M} {𝓛 : Logic 𝓤} {K : Type 0} {Γ : List (Item 𝓤)} {G : Goal 𝓤 𝓛.H}
   where
     pub one_made : K → (R : RattleType) (x : R.Denot)
-        → Step K 𝓛 (‵ ((plainly R).own_val (x, tt) (one ∷ [])) ∷ Γ) G (‵ (R.own_val x (none ∷ []))
-        ∷ Γ) G
+        → Step K 𝓛 (‵ ((plainly R).own_val (x, tt) (one ∷ [])) ∷ Γ) G (‵ (R.own_val x (none ∷ [])) ∷ Γ) G
     one_made t R x = step (λ s.
         nothing t $ move t (1 ∷ 0 ∷ []) $ fjoin t $ feq_i t (List Val) (one ∷ []) (one
         ∷ []) refl $ fjoin t $

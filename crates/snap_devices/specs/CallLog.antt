@@ -14,10 +14,8 @@ abbrev pub open_after : (ℕ → Bool) → List Call → ℕ → Bool
 open_after first [] p = first p
 open_after first (Gave at bytes ∷ earlier) p = open_after first earlier p
 open_after first (ReadFailed ∷ earlier) p = open_after first earlier p
-open_after first (Wrote at bytes ∷ earlier) p =
-    in_range at (length bytes.items) p || open_after first earlier p
-open_after first (WriteFailed at count ∷ earlier) p =
-    in_range at count p || open_after first earlier p
+open_after first (Wrote at bytes ∷ earlier) p = in_range at (length bytes.items) p || open_after first earlier p
+open_after first (WriteFailed at count ∷ earlier) p = in_range at count p || open_after first earlier p
 open_after first (Synced ∷ earlier) p = false
 open_after first (SyncFailed ∷ earlier) p = open_after first earlier p
 
@@ -30,8 +28,7 @@ device_after len story calls = record {
 
 -- this call did what a device's call does
 abbrev pub IsHonestCall : Call → Device → Device → Type 0
-IsHonestCall (Gave at bytes) old new = IsUnchanged old new
-    × (bytes.items ≡ part at (length bytes.items) old.bytes)
+IsHonestCall (Gave at bytes) old new = IsUnchanged old new × (bytes.items ≡ part at (length bytes.items) old.bytes)
 IsHonestCall ReadFailed old new = IsUnchanged old new
 IsHonestCall (Wrote at bytes) old new = IsTouched at (length bytes.items) old new
     × (part at (length bytes.items) new.bytes ≡ bytes.items)
@@ -42,15 +39,13 @@ IsHonestCall SyncFailed old new = IsUnsynced old new
 -- so did each of them
 abbrev pub IsHonestLog : ℕ → Story → List Call → Type 0
 IsHonestLog len story [] = Unit {0}
-IsHonestLog len story (e ∷ earlier) = IsHonestLog len story earlier
-    × IsHonestCall e (device_after len story earlier)
+IsHonestLog len story (e ∷ earlier) = IsHonestLog len story earlier × IsHonestCall e (device_after len story earlier)
     (device_after len story (e ∷ earlier))
 
 -- a crash after call t or later could have left b
 abbrev pub LeftSince : ℕ → Story → List Call → ℕ → List ℕ → Type 0
 LeftSince len story [] t b = (t ≤ 0) × MayLeave (device_after len story []) b
-LeftSince len story (e ∷ earlier) t b =
-    ((t ≤ length (e ∷ earlier)) × MayLeave (device_after len story (e ∷ earlier)) b)
+LeftSince len story (e ∷ earlier) t b = ((t ≤ length (e ∷ earlier)) × MayLeave (device_after len story (e ∷ earlier)) b)
     ⊎ LeftSince len story earlier t b
 
 pub counts_now : (len : ℕ) (story : Story) (calls : List Call) (t : ℕ) (b : List ℕ)
@@ -62,8 +57,7 @@ not_before : (len : ℕ) (story : Story) (calls : List Call) (t : ℕ) (b : List
     → length calls < t → LeftSince len story calls t b → ⊥
 not_before len story [] t b later left = absurd (omega (arith, left.0))
 not_before len story (e ∷ earlier) t b later (inl now) = absurd (omega (arith, now.0))
-not_before len story (e ∷ earlier) t b later (inr past) =
-    not_before len story earlier t b (omega arith) past
+not_before len story (e ∷ earlier) t b later (inr past) = not_before len story earlier t b (omega arith) past
 
 pub only_now : (len : ℕ) (story : Story) (calls : List Call) (b : List ℕ)
     → LeftSince len story calls (length calls) b → MayLeave (device_after len story calls) b

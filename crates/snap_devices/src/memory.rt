@@ -162,8 +162,7 @@ impl Disk for MemDisk {
         ensures calls { memory_calls self.new ≡ next_call self.old }
         ensures plan { memory_plan self.new ≡ memory_plan self.old }
         ensures fails { IsErr result ↔ IsSome (next_fill self.old) }
-        ensures filled { IfSome (next_fill self.old) (λ fill. IsFilled fill
-            (in_range at (length bytes.now))
+        ensures filled { IfSome (next_fill self.old) (λ fill. IsFilled fill (in_range at (length bytes.now))
             (memory_device self.old).bytes (memory_device self.new).bytes) }
         ensures count { CountsFailure result (memory_failures self.old) (memory_failures self.new) }
         ensures size { length (memory_device self.new).bytes ≡ length (memory_device self.old).bytes }
@@ -194,8 +193,7 @@ impl Disk for MemDisk {
         ensures calls { memory_calls self.new ≡ next_call self.old }
         ensures plan { memory_plan self.new ≡ memory_plan self.old }
         ensures fails { IsErr result ↔ IsSome (next_fill self.old) }
-        ensures filled { IfSome (next_fill self.old) (λ fill. IsFilled fill
-            (memory_device self.old).is_open
+        ensures filled { IfSome (next_fill self.old) (λ fill. IsFilled fill (memory_device self.old).is_open
             (memory_device self.old).bytes (memory_device self.new).bytes) }
         ensures count { CountsFailure result (memory_failures self.old) (memory_failures self.new) }
         ensures size { length (memory_device self.new).bytes ≡ length (memory_device self.old).bytes }

@@ -20,8 +20,7 @@ vec_of items small = record {
       small;
 }
 
-at_zero : (v : Vec ℕ) (p old : ℕ) → p < length v.items
-    → fill_byte (At 0 v) p old ≡ slice_index v.items p
+at_zero : (v : Vec ℕ) (p old : ℕ) → p < length v.items → fill_byte (At 0 v) p old ≡ slice_index v.items p
 at_zero v p old within = grind (arith, common_steps)
 
 -- if bytes changed at touched places only, the fill made of the new bytes leads from old to new
@@ -38,21 +37,17 @@ filled is_touched old v size elsewhere = record {
       ] refl;
 }
 
-some_fill : (is_touched : ℕ → Bool) (old new : List ℕ) → length old < 2 ^ 63
-    → length new ≡ length old
-    → ((p : ℕ) → is_touched p ≡ false → slice_index new p ≡ slice_index old p)
-    → SomeFill is_touched old new
+some_fill : (is_touched : ℕ → Bool) (old new : List ℕ) → length old < 2 ^ 63 → length new ≡ length old
+    → ((p : ℕ) → is_touched p ≡ false → slice_index new p ≡ slice_index old p) → SomeFill is_touched old new
 some_fill is_touched old new small size elsewhere =
     let v : Vec ℕ = vec_of new (omega (arith, small, size)) in
     record { bytes = v; same = refl; filled = filled is_touched old v size elsewhere }
 
 pub any_crash : AnyCrash
-any_crash device b small left =
-    some_fill device.is_open device.bytes b small left.size left.elsewhere
+any_crash device b small left = some_fill device.is_open device.bytes b small left.size left.elsewhere
 
 pub any_failed_write : AnyFailedWrite
-any_failed_write at n old new small is =
-    some_fill (in_range at n) old new small is.size is.elsewhere
+any_failed_write at n old new small is = some_fill (in_range at n) old new small is.size is.elsewhere
 
 pub inside_any_write : InsideAnyWrite
 inside_any_write at n old new b small touched left =

@@ -5,15 +5,13 @@ use Rattle.snap_disk.specs.declared.refusal.Refusal.TheVariants.{TooLong, Fenced
 use Rattle.snap_disk.specs.{Device.Device, declared.refusal.Refusal.Refusal}
 use Rattle.snap_slot.specs.{Layout.Head, Layout.Holds, Findings.IsNoOpening}
 use Rattle.snap_segment.specs.{Refusals.IsStoreRefusal, Refusals.IsOpenRefusal, Open.CountsFailed}
-use Rattle.snap_file_commands.specs.Commands.{End, EndsStore, CountsEnd}
-use Rattle.snap_file_commands.specs.Effects.{StoreKeeps, PutKeeps}
-use Rattle.snap_file_commands.specs.declared.fault.CommandFault.TheVariants.{Refused}
+use Rattle.snap_file_commands.specs.{Commands.End, Commands.EndsStore, Commands.CountsEnd, Effects.StoreKeeps}
+use Rattle.snap_file_commands.specs.{Effects.PutKeeps, declared.fault.CommandFault.TheVariants.Refused}
 
 module _ (honest : Type 0) (i n : ℕ) (v : List ℕ) (old new : Device) (out out' : Option (List ℕ)) where
   pub refused_store : (why : Refusal) → IsStoreRefusal why → (why ≡ TooLong → ⊥) → (why ≡ Fenced → ⊥)
-      → (why ≡ Exhausted → honest → Head old.bytes i n
-      × ((u : List ℕ) × Holds old.bytes (2 ^ 63 - 1) u)) → Keeps out out'
-      → EndsStore honest i n v old new out out' (Err (Refused why))
+      → (why ≡ Exhausted → honest → Head old.bytes i n × ((u : List ℕ) × Holds old.bytes (2 ^ 63 - 1) u))
+      → Keeps out out' → EndsStore honest i n v old new out out' (Err (Refused why))
   refused_store TooLong is long fenced last keeps = absurd (long refl)
   refused_store Fenced is long fenced last keeps = absurd (fenced refl)
   refused_store Exhausted is long fenced last keeps = (last refl, keeps)
@@ -28,8 +26,7 @@ module _ (honest : Type 0) (i n : ℕ) (v : List ℕ) (old new : Device) (out ou
   refused_open why is not_open keeps = (not_open, keeps)
 
 -- the device's failure count, once an opening or a store was refused
-pub refused_count : (why : Refusal) (old new : ℕ) → CountsFailed why old new
-    → CountsEnd (Err (Refused why)) old new
+pub refused_count : (why : Refusal) (old new : ℕ) → CountsFailed why old new → CountsEnd (Err (Refused why)) old new
 refused_count why old new counts = search rules
 
 -- the device after a refused store
@@ -39,7 +36,6 @@ refused_keeps kept why keeps = search rules
 
 -- a put keeps what its store keeps
 pub put_keeps : (honest same segment kept : Type 0) (i n : ℕ) (v : List ℕ) (old new : Device)
-    (out out' : Option (List ℕ)) (end : End) → (segment → kept)
-    → EndsStore honest i n v old new out out' end → StoreKeeps segment end
-    → PutKeeps same kept end
+    (out out' : Option (List ℕ)) (end : End) → (segment → kept) → EndsStore honest i n v old new out out' end
+    → StoreKeeps segment end → PutKeeps same kept end
 put_keeps honest same segment kept i n v old new out out' end weaker ends keeps = search rules

@@ -1,8 +1,7 @@
 -- Files that are sorted by the segments in their headers.
 use Rattle.std.proofs.Common.{◌≡◌, ◌≢◌, ◌⊎◌, ℕ, ◌+◌, ◌<◌, List, length, Option, Some, None, slice_set, slice_get}
 use Rattle.std.proofs.Common.{sum_by, replicate, inl, inr, sym, ◌∙◌, ap, arith, length-set}
-use Rattle.std.proofs.lemmas.Bool.Decides.{eqb_tells}
-use Rattle.std.proofs.lemmas.Option.{get_or_from_slice_get, slice_get_within}
+use Rattle.std.proofs.lemmas.{Bool.Decides.eqb_tells, Option.get_or_from_slice_get, Option.slice_get_within}
 use Rattle.std.proofs.lemmas.List.{get_or-replicate, length-replicate, Sums.sum_by-set, Folds.sum_by-replicate}
 use Rattle.snap_history.proofs.Lists.{get-set_same, get-set_other}
 use Rattle.snap_file_commands.specs.declared.segment_order.SegmentPlace.{SegmentPlace}
@@ -17,8 +16,7 @@ no_file count i file sits =
     cc
 
 -- at first no segment has a file
-pub none_yet : (places : List SegmentPlace) (count : ℕ)
-    → IsSeating places count 0 (replicate count None)
+pub none_yet : (places : List SegmentPlace) (count : ℕ) → IsSeating places count 0 (replicate count None)
 none_yet places count = record {
   size = length-replicate count None;
   full = sum_by-replicate file_count count None ∙ omega arith;

@@ -42,8 +42,7 @@ CountsEnd end old new = new ≡ old
 -- the file was unformatted, and is that of segment i of n with number k and value v, in each of its bytes,
 -- also after a crash
 abbrev pub IsNewlyMade : (i n k : ℕ) (v : List ℕ) (old new : Device) → Type 0
-IsNewlyMade i n k v old new = IsUnformatted old.bytes × IsAtRest i n k v false new
-    × (new.bytes ≡ new_file i n k v)
+IsNewlyMade i n k v old new = IsUnformatted old.bytes × IsAtRest i n k v false new × (new.bytes ≡ new_file i n k v)
 
 -- why a file was not made, if its bytes are the reason
 abbrev pub IsNoMaking : List ℕ → Refusal → Type 0
@@ -81,21 +80,17 @@ IsNoStore i n v b why = IsNoOpening i n b why
 
 abbrev pub EndsStore : (honest : Type 0) (i n : ℕ) (v : List ℕ) (old new : Device)
     (out out' : Option (List ℕ)) → End → Type 0
-EndsStore honest i n v old new out out' (Ok s) =
-    (c : ℕ) × (s ≡ status.Done) × (honest → IsStored i n c v old new)
+EndsStore honest i n v old new out out' (Ok s) = (c : ℕ) × (s ≡ status.Done) × (honest → IsStored i n c v old new)
     × Appends out out' (stored_line (c + 1))
 EndsStore honest i n v old new out out' (Err (Unsaid number error)) =
-    (c : ℕ) × (number ≡ c + 1) × (honest → IsStored i n c v old new)
-    × AppendsBeginning out out' (stored_line (c + 1))
+    (c : ℕ) × (number ≡ c + 1) × (honest → IsStored i n c v old new) × AppendsBeginning out out' (stored_line (c + 1))
 EndsStore honest i n v old new out out' (Err (Refused refusal.TooLong)) = ⊥
-EndsStore honest i n v old new out out' (Err (Refused why)) =
-    (honest → IsNoStore i n v old.bytes why) × Keeps out out'
+EndsStore honest i n v old new out out' (Err (Refused why)) = (honest → IsNoStore i n v old.bytes why) × Keeps out out'
 EndsStore honest i n v old new out out' end = ⊥
 
 -- a crash during a store of v may leave what the file held, or v with the next number
 abbrev pub LeavesEither : (i n : ℕ) (v : List ℕ) (old : Device) → List ℕ → Type 0
-LeavesEither i n v old b = (c : ℕ) × (u : List ℕ) × Head old.bytes i n × Holds old.bytes c u
-    × IsEither i n c u v b
+LeavesEither i n v old b = (c : ℕ) × (u : List ℕ) × Head old.bytes i n × Holds old.bytes c u × IsEither i n c u v b
 
 -- A value that is too long, or can't be read, leaves the device untouched.
 abbrev pub EndsPut : (honest : Type 0) (i n : ℕ) (known : Option (List ℕ)) (old new : Device)
@@ -103,8 +98,7 @@ abbrev pub EndsPut : (honest : Type 0) (i n : ℕ) (known : Option (List ℕ)) (
 EndsPut honest i n known old new out out' (Err (Input error)) = (new ≡ old) × Keeps out out'
 EndsPut honest i n known old new out out' (Err (Refused refusal.TooLong)) =
     IfSome known (λ xs. MAX_VALUE_LEN < length xs) × (new ≡ old) × Keeps out out'
-EndsPut honest i n known old new out out' end =
-    (v : List ℕ) × Had known v × EndsStore honest i n v old new out out' end
+EndsPut honest i n known old new out out' end = (v : List ℕ) × Had known v × EndsStore honest i n v old new out out' end
 
 -- a crash during a put may leave what one before could, or what one during the store may
 abbrev pub PutLeaves : (i n : ℕ) (known : Option (List ℕ)) (old : Device) → List ℕ → Type 0
@@ -116,14 +110,12 @@ PutLeaves i n known old b = MayLeave old b ⊎ ((v : List ℕ) × Had known v ×
 abbrev pub HoldsValue : (i n : ℕ) (v : List ℕ) → Device → Type 0
 HoldsValue i n v device = Head device.bytes i n × ((k : ℕ) × Holds device.bytes k v)
 
-abbrev pub EndsGet : (honest : Type 0) (i n : ℕ) (old : Device) (out out' : Option (List ℕ)) → End
-    → Type 0
+abbrev pub EndsGet : (honest : Type 0) (i n : ℕ) (old : Device) (out out' : Option (List ℕ)) → End → Type 0
 EndsGet honest i n old out out' (Ok s) =
     (v : List ℕ) × (s ≡ status.Done) × (honest → HoldsValue i n v old) × Appends out out' v
 EndsGet honest i n old out out' (Err (Output error)) =
     (v : List ℕ) × (honest → HoldsValue i n v old) × AppendsBeginning out out' v
-EndsGet honest i n old out out' (Err (Refused why)) = (honest → IsNoOpening i n old.bytes why)
-    × Keeps out out'
+EndsGet honest i n old out out' (Err (Refused why)) = (honest → IsNoOpening i n old.bytes why) × Keeps out out'
 EndsGet honest i n old out out' end = ⊥
 
 -- ---- check
@@ -158,8 +150,7 @@ abbrev pub HasBadBody : (s : ℕ) (body : List ℕ) → Flaw → Type 0
 HasBadBody s body flaw = IsFlawed SLOT_COUNT s (gate_block OPEN_GATE) body flaw
 
 -- the printed value is that in the slot's body, whatever its gate is
-abbrev pub EndsSlot : (s : ℕ) (honest : Type 0) (old : Device) (out out' : Option (List ℕ)) → End
-    → Type 0
+abbrev pub EndsSlot : (s : ℕ) (honest : Type 0) (old : Device) (out out' : Option (List ℕ)) → End → Type 0
 EndsSlot s honest old out out' (Ok done) = (v : List ℕ) × (done ≡ status.Done)
     × (honest → HasBody s v (body_of s old.bytes)) × Appends out out' v
 EndsSlot s honest old out out' (Err (Output error)) =
@@ -175,8 +166,7 @@ EndsSlot s honest old out out' end = ⊥
 abbrev pub EndsOrder : FileOrder → (honest : Type 0) (known : Option (List ℕ)) (old new : Device)
     (out out' : Option (List ℕ)) → End → Type 0
 EndsOrder (Format file i n) honest known old new out out' end = EndsMaking honest i n 0 [] old new end
-EndsOrder (Put file i n) honest known old new out out' end =
-    EndsPut honest i n known old new out out' end
+EndsOrder (Put file i n) honest known old new out out' end = EndsPut honest i n known old new out out' end
 EndsOrder (Get file i n) honest known old new out out' end = EndsGet honest i n old out out' end
 EndsOrder (Check file is_json) honest known old new out out' end = EndsCheck honest old end
 EndsOrder (Slot file slot) honest known old new out out' end = EndsSlot slot honest old out out' end

@@ -31,8 +31,7 @@ body time values = print (head_tokens time (length values)) ++ (each_from row 0 
 
 -- the last line: the SHA-256 of the lines before it
 abbrev pub last_line : List ℕ → List ℕ
-last_line lines = line_of (end_array ∷ key (codes "sha256")
-    ∷ string (encode_lower (sha256 lines)) ∷ end_object ∷ [])
+last_line lines = line_of (end_array ∷ key (codes "sha256") ∷ string (encode_lower (sha256 lines)) ∷ end_object ∷ [])
 
 -- the document of these values at this time
 abbrev pub dump_text : (time : List ℕ) → List SegmentValue → List ℕ

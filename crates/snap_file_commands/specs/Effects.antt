@@ -8,8 +8,7 @@ use Rattle.snap_disk.specs.declared.refusal.Refusal.TheVariants as refusal
 use Rattle.snap_disk.specs.declared.disk.Disk as Disk
 
 -- If the device is honest, whatever a crash at any time during the call leaves, and one after it, has P.
-abbrev pub AnyCrashLeaves : {D : Type 0} (disk : Disk.Ghosts D) (old new : D)
-    (P : List ℕ → Type 0) → Type 0
+abbrev pub AnyCrashLeaves : {D : Type 0} (disk : Disk.Ghosts D) (old new : D) (P : List ℕ → Type 0) → Type 0
 AnyCrashLeaves disk old new P = disk.is_honest new → LeavesOnly disk old new P
 
 -- And whatever it leaves, a crash before the call could leave.

@@ -76,8 +76,7 @@ SaysBlank b (Err why) = ⊥
 abbrev pub EndsKeeping : (honest : Type 0) (i n : ℕ) (old new : Device) → End → Type 0
 EndsKeeping honest i n old new (Ok s) = (s ≡ status.Done)
     × ((k : ℕ) × (v : List ℕ) × (honest → HasKept i n k v old new))
-EndsKeeping honest i n old new (Err (Output error)) =
-    (k : ℕ) × (v : List ℕ) × (honest → HasKept i n k v old new)
+EndsKeeping honest i n old new (Err (Output error)) = (k : ℕ) × (v : List ℕ) × (honest → HasKept i n k v old new)
 EndsKeeping honest i n old new (Err (Refused refusal.AlreadyFormatted)) =
     honest → IsFormatted old.bytes → IsNotWhole i n old.bytes
 EndsKeeping honest i n old new (Err (Refused refusal.DeviceFailed)) = Unit {0}

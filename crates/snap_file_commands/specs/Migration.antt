@@ -25,8 +25,7 @@ migration_status_of (Other failure) = status_of failure
 abbrev pub CountsMigration : MigrationEnd → (before after new_before new_after : ℕ) → Type 0
 CountsMigration (Err (OfFile which why)) before after new_before new_after =
     CountsFault which why before after new_before new_after
-CountsMigration end before after new_before new_after =
-    (after ≡ before) × (new_after ≡ new_before)
+CountsMigration end before after new_before new_after = (after ≡ before) × (new_after ≡ new_before)
 
 -- `same`: the old file's bytes are the same
 abbrev pub MigrationReads : MigrationEnd → (same : Type 0) → Type 0
@@ -60,15 +59,13 @@ IsNoCopy old new refusal.DeviceFailed = Unit {0}
 IsNoCopy old new why = ⊥
 
 -- and, as far as it can be known, what the files are
-abbrev pub IsInTheWay : (i n : ℕ) (old_honest new_honest : Type 0) (old new : List ℕ) → Refusal
-    → Type 0
+abbrev pub IsInTheWay : (i n : ℕ) (old_honest new_honest : Type 0) (old new : List ℕ) → Refusal → Type 0
 IsInTheWay i n old_honest new_honest old new refusal.AlreadyFormatted =
     (old_honest → IsOldFile i n old) × (new_honest → IsFormatted new)
 IsInTheWay i n old_honest new_honest old new refusal.DeviceFailed = old_honest → IsOldFile i n old
 IsInTheWay i n old_honest new_honest old new why = Unit {0}
 
-abbrev pub EndsMigration : (i n : ℕ) (old_honest new_honest : Type 0) (old new new' : Device)
-    → MigrationEnd → Type 0
+abbrev pub EndsMigration : (i n : ℕ) (old_honest new_honest : Type 0) (old new new' : Device) → MigrationEnd → Type 0
 EndsMigration i n old_honest new_honest old new new' (Ok s) =
     (k : ℕ) × (s ≡ status.Done) × (old_honest → new_honest → IsMigrated i n k old new new')
 EndsMigration i n old_honest new_honest old new new' (Err (Other (Output error))) =
@@ -76,8 +73,7 @@ EndsMigration i n old_honest new_honest old new new' (Err (Other (Output error))
 EndsMigration i n old_honest new_honest old new new' (Err (Other (Refused refusal.NoMemory))) = Unit {0}
 EndsMigration i n old_honest new_honest old new new' (Err (OfFile Old why)) =
     old_honest → IsNoOldOpening i n old.bytes why
-EndsMigration i n old_honest new_honest old new new' (Err (OfFile New why)) =
-    IsNoCopy old.bytes new.bytes why
+EndsMigration i n old_honest new_honest old new new' (Err (OfFile New why)) = IsNoCopy old.bytes new.bytes why
     × IsInTheWay i n old_honest new_honest old.bytes new.bytes why
 EndsMigration i n old_honest new_honest old new new' end = ⊥
 
@@ -85,5 +81,4 @@ EndsMigration i n old_honest new_honest old new new' end = ⊥
 -- with the number and value of the old file
 abbrev pub MigrationLeaves : (i n : ℕ) (old new : Device) → List ℕ → Type 0
 MigrationLeaves i n old new b = MayLeave new b
-    ⊎ ((k : ℕ) × (v : List ℕ) × OldHead old.bytes i n × OldHolds old.bytes k v
-    × (IsUnformatted b ⊎ IsFileOf i n k v b))
+    ⊎ ((k : ℕ) × (v : List ℕ) × OldHead old.bytes i n × OldHolds old.bytes k v × (IsUnformatted b ⊎ IsFileOf i n k v b))

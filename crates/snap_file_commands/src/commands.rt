@@ -47,8 +47,7 @@ pub fn act<D: Disk, R: Read, W: Write>(
 
     // The end says what the file held and holds, and what was read and printed.
     ensures ends { EndsOrder order.now (D.is_honest result.0) (R.remaining reader.old)
-        (D.device disk) (D.device result.0) (W.contents writer.old) (W.contents writer.new)
-        result.1 }
+        (D.device disk) (D.device result.0) (W.contents writer.old) (W.contents writer.new) result.1 }
 
     // A refusal leaves what was there.
     ensures keeps { OrderKeeps order.now (result.0 ≡ disk) (LeavesNoMore D.Disk disk result.0) result.1 }
@@ -121,8 +120,7 @@ fn put<D: Disk, R: Read, W: Write>(
     ensures honest { D.is_honest result.0 → D.is_honest disk }
     ensures count { CountsEnd result.1 (D.failure_count disk) (D.failure_count result.0) }
     ensures ends { EndsPut (D.is_honest result.0) index count (R.remaining reader.old)
-        (D.device disk) (D.device result.0) (W.contents writer.old) (W.contents writer.new)
-        result.1 }
+        (D.device disk) (D.device result.0) (W.contents writer.old) (W.contents writer.new) result.1 }
     ensures keeps { PutKeeps (result.0 ≡ disk) (LeavesNoMore D.Disk disk result.0) result.1 }
     ensures wrong_length { length (D.device disk).bytes ≢ FILE_LEN → result.0 ≡ disk }
     ensures any_time { AnyCrashLeaves D.Disk disk result.0
@@ -165,10 +163,8 @@ fn store<D: Disk, W: Write>(
     ensures keeps { StoreKeeps (segment.new ≡ segment.old) result }
 
     // It changes nothing, or a crash leaves the value from before it or the new one.
-    ensures any_time { (segment.new ≡ segment.old)
-        ⊎ AnyCrashLeaves D.Disk segment.old.device segment.new.device
-        (IsEither segment.old.index segment.old.count segment.old.number segment.old.value
-        value.now) }
+    ensures any_time { (segment.new ≡ segment.old) ⊎ AnyCrashLeaves D.Disk segment.old.device segment.new.device
+        (IsEither segment.old.index segment.old.count segment.old.number segment.old.value value.now) }
 {
     // The line is made first, so that the file stays as it is if memory runs out.
     let number = segment.number() + 1;

@@ -113,8 +113,7 @@ pub fn act_pair<O: Disk, N: Disk, W: Write>(
     // A crash at any time leaves of the old file what one before could leave, and of the new one
     // what a migration may leave.
     ensures old_any_time { LeavesNoMore O.Disk old result.0 }
-    ensures new_any_time { O.is_honest result.0
-        → AnyCrashLeaves N.Disk new result.1
+    ensures new_any_time { O.is_honest result.0 → AnyCrashLeaves N.Disk new result.1
         (MigrationLeaves order.now.index order.now.count (O.device old) (N.device new)) }
 {
     let (mut old, mut new) = (old, new);

@@ -17,16 +17,13 @@ module _ {E : Type 0} (bytes : E → List ℕ) (MayStand : E → Type 0) where
     pub count : length fs ≡ length es + length more
     pub is : rest ≡ flat_map bytes more
 
-  pub behind : (es fs : List E) (rest : List ℕ) → Separate bytes MayStand → All MayStand es
-      → All MayStand fs → length es ≤ length fs → flat_map bytes es ++ rest ≡ flat_map bytes fs
-      → Behind es fs rest
-  behind [] fs rest apart read any few e =
-      record { more = fs; each = any; count = omega arith; is = e }
+  pub behind : (es fs : List E) (rest : List ℕ) → Separate bytes MayStand → All MayStand es → All MayStand fs
+      → length es ≤ length fs → flat_map bytes es ++ rest ≡ flat_map bytes fs → Behind es fs rest
+  behind [] fs rest apart read any few e = record { more = fs; each = any; count = omega arith; is = e }
   behind (d ∷ es) [] rest apart read any few e = absurd (omega (arith, few))
   behind (d ∷ es) (f ∷ fs) rest apart read any few e =
-      let both = apart.each d f (flat_map bytes es ++ rest) (flat_map bytes fs)
-      (read 0 d (omega arith)) (any 0 f (omega arith))
-      (sym (append_assoc (bytes d) (flat_map bytes es) rest) ∙ e) in
+      let both = apart.each d f (flat_map bytes es ++ rest) (flat_map bytes fs) (read 0 d (omega arith))
+      (any 0 f (omega arith)) (sym (append_assoc (bytes d) (flat_map bytes es) rest) ∙ e) in
       let rec = behind es fs rest apart (All-tail MayStand d es read)
       (All-tail MayStand f fs any) (omega (arith, few)) both.1 in
       record { more = rec.more; each = rec.each; count = omega (arith, rec.count); is = rec.is }
@@ -37,17 +34,14 @@ module _ {E : Type 0} (bytes : E → List ℕ) (MayStand : E → Type 0) where
       × (all ≡ flat_map bytes (es ++ e ∷ []) ++ tail)
   read_on es e all rest tail read may is one = (
     All-append MayStand es (e ∷ []) read (All-cons MayStand e [] may (All-nil MayStand)),
-    is
-        ∙ ap (λ xs. flat_map bytes es ++ xs)
-        (one ∙ ap (λ xs. xs ++ tail) (sym (append-nil (bytes e))))
-        ∙ sym (append_assoc (flat_map bytes es) (bytes e ++ []) tail)
-        ∙ ap (λ xs. xs ++ tail) (sym (flat_map-append bytes es (e ∷ []))),
+    is ∙ ap (λ xs. flat_map bytes es ++ xs) (one ∙ ap (λ xs. xs ++ tail) (sym (append-nil (bytes e))))
+        ∙ sym (append_assoc (flat_map bytes es) (bytes e ++ []) tail) ∙ ap (λ xs. xs ++ tail)
+        (sym (flat_map-append bytes es (e ∷ []))),
   )
 
   -- if no entry follows those that were read, the bytes aren't more entries
-  pub no_more : (es fs : List E) (rest : List ℕ) → Separate bytes MayStand → All MayStand es
-      → All MayStand fs → length es < length fs
-      → ((e : E) → (tail : List ℕ) → MayStand e → rest ≡ bytes e ++ tail → ⊥)
+  pub no_more : (es fs : List E) (rest : List ℕ) → Separate bytes MayStand → All MayStand es → All MayStand fs
+      → length es < length fs → ((e : E) → (tail : List ℕ) → MayStand e → rest ≡ bytes e ++ tail → ⊥)
       → flat_map bytes es ++ rest ≡ flat_map bytes fs → ⊥
   no_more es fs rest apart read any few none e =
       let left = behind es fs rest apart read any (omega (arith, few)) e in
@@ -58,9 +52,8 @@ module _ {E : Type 0} (bytes : E → List ℕ) (MayStand : E → Type 0) where
       ] left.each left.count left.is
 
   -- nothing follows the last of them
-  pub no_rest : (es fs : List E) (rest : List ℕ) → Separate bytes MayStand → All MayStand es
-      → All MayStand fs → length es ≡ length fs → flat_map bytes es ++ rest ≡ flat_map bytes fs
-      → rest ≡ []
+  pub no_rest : (es fs : List E) (rest : List ℕ) → Separate bytes MayStand → All MayStand es → All MayStand fs
+      → length es ≡ length fs → flat_map bytes es ++ rest ≡ flat_map bytes fs → rest ≡ []
   no_rest es fs rest apart read any same e =
       let left = behind es fs rest apart read any (omega (arith, same)) e in
       elim left.more as (λ (more : List E). length fs ≡ length es + length more
@@ -90,9 +83,8 @@ status_of n f = record { number = n; is_fenced = f }
 pub values_apart : Separate value_bytes IsValue
 values_apart = record {
   each = λ d e a b fits_d fits_e same.
-      let numbers = same_number d.number e.number ((to_be_bytes w32 (length d.value) ++ d.value)
-      ++ a) ((to_be_bytes w32 (length e.value) ++ e.value)
-      ++ b) (omega (arith, fits_d.0)) (omega (arith, fits_e.0)) same in
+      let numbers = same_number d.number e.number ((to_be_bytes w32 (length d.value) ++ d.value) ++ a)
+      ((to_be_bytes w32 (length e.value) ++ e.value) ++ b) (omega (arith, fits_d.0)) (omega (arith, fits_e.0)) same in
       let lengths = same_length (length d.value) (length e.value) (d.value ++ a) (e.value
       ++ b) (omega (arith, fits_d.1)) (omega (arith, fits_e.1)) numbers.1 in
       let values = append_split d.value e.value a b lengths.0 lengths.1 in

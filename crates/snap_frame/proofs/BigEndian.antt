@@ -19,23 +19,17 @@ bytes-take n xs bytes i =
 first_same : (n : ℕ) (xs : List ℕ) (i : ℕ) → i < n → get_or (take n xs) i 0 ≡ get_or xs i 0
 first_same n xs i below = get_or-take n xs i 0 below
 
-pub eight_again : (xs : List ℕ) → IsBytes xs → 8 ≤ length xs
-    → to_be_bytes w64 (big_number 8 xs) ≡ take 8 xs
+pub eight_again : (xs : List ℕ) → IsBytes xs → 8 ≤ length xs → to_be_bytes w64 (big_number 8 xs) ≡ take 8 xs
 eight_again xs bytes long =
-    be_bytes_8 (take 8 xs) _ (omega (arith, length-take 8 xs)) (bytes-take 8 xs bytes)
-    (omega (arith, first_same 8 xs))
+    be_bytes_8 (take 8 xs) _ (omega (arith, length-take 8 xs)) (bytes-take 8 xs bytes) (omega (arith, first_same 8 xs))
 
-pub four_again : (xs : List ℕ) → IsBytes xs → 4 ≤ length xs
-    → to_be_bytes w32 (big_number 4 xs) ≡ take 4 xs
+pub four_again : (xs : List ℕ) → IsBytes xs → 4 ≤ length xs → to_be_bytes w32 (big_number 4 xs) ≡ take 4 xs
 four_again xs bytes long =
-    be_bytes_4 (take 4 xs) _ (omega (arith, length-take 4 xs)) (bytes-take 4 xs bytes)
-    (omega (arith, first_same 4 xs))
+    be_bytes_4 (take 4 xs) _ (omega (arith, length-take 4 xs)) (bytes-take 4 xs bytes) (omega (arith, first_same 4 xs))
 
-pub two_again : (xs : List ℕ) → IsBytes xs → 2 ≤ length xs
-    → to_be_bytes w16 (big_number 2 xs) ≡ take 2 xs
+pub two_again : (xs : List ℕ) → IsBytes xs → 2 ≤ length xs → to_be_bytes w16 (big_number 2 xs) ≡ take 2 xs
 two_again xs bytes long =
-    be_bytes_2 (take 2 xs) _ (omega (arith, length-take 2 xs)) (bytes-take 2 xs bytes)
-    (omega (arith, first_same 2 xs))
+    be_bytes_2 (take 2 xs) _ (omega (arith, length-take 2 xs)) (bytes-take 2 xs bytes) (omega (arith, first_same 2 xs))
 
 -- the first n bytes are those of a number, and the rest follows
 pub front_is : (n : ℕ) (xs number : List ℕ) → number ≡ take n xs → xs ≡ number ++ drop n xs
@@ -49,16 +43,14 @@ same_bytes w m n one two e = sym one ∙ ap (from_be_bytes w) e ∙ two
 pub same_number : (m n : ℕ) (xs ys : List ℕ) → m < 2 ^ 64 → n < 2 ^ 64
     → to_be_bytes w64 m ++ xs ≡ to_be_bytes w64 n ++ ys → (m ≡ n) × (xs ≡ ys)
 same_number m n xs ys m_fits n_fits e = (
-  same_bytes w64 m n (from_be_bytes-to_be_bytes_8 m m_fits) (from_be_bytes-to_be_bytes_8 n n_fits)
-      (ap (take 8) e),
+  same_bytes w64 m n (from_be_bytes-to_be_bytes_8 m m_fits) (from_be_bytes-to_be_bytes_8 n n_fits) (ap (take 8) e),
   ap (drop 8) e,
 )
 
 pub same_length : (m n : ℕ) (xs ys : List ℕ) → m < 2 ^ 32 → n < 2 ^ 32
     → to_be_bytes w32 m ++ xs ≡ to_be_bytes w32 n ++ ys → (m ≡ n) × (xs ≡ ys)
 same_length m n xs ys m_fits n_fits e = (
-  same_bytes w32 m n (from_be_bytes-to_be_bytes_4 m m_fits) (from_be_bytes-to_be_bytes_4 n n_fits)
-      (ap (take 4) e),
+  same_bytes w32 m n (from_be_bytes-to_be_bytes_4 m m_fits) (from_be_bytes-to_be_bytes_4 n n_fits) (ap (take 4) e),
   ap (drop 4) e,
 )
 

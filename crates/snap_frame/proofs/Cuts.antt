@@ -17,22 +17,20 @@ abbrev pub Means : List ℕ → Cut → Type 0
 Means held (frame payload rest) = HasFrame held payload rest
 Means held too_big = HasLongLength held
 Means held overflows = ⊥
-Means held (unfinished state kept) =
-    (pending_in state kept ≡ held) × StateFits state × IsPartial held
+Means held (unfinished state kept) = (pending_in state kept ≡ held) × StateFits state × IsPartial held
 
 -- no whole frame after a length
 short_is_partial : (n : ℕ) (ys : List ℕ) → n ≤ messages.max_payload → length ys < n
     → IsPartial (to_be_bytes w32 n ++ ys)
-short_is_partial n ys fits short =
-    record {
-      no_frame = λ x rest has.
-          let same = same_length n (length x) ys (x ++ rest) (omega arith) (omega (arith, has.fits))
-          (has.split ∙ append_assoc (to_be_bytes w32 (length x)) x rest) in
-          absurd (omega (arith, same.0, ap length same.1, length-append x rest));
-      no_long = λ long.
-          let same = same_length n long.0 ys long.1 (omega arith) long.3 long.4 in
-          absurd (omega (arith, same.0, long.2));
-    }
+short_is_partial n ys fits short = record {
+  no_frame = λ x rest has.
+      let same = same_length n (length x) ys (x ++ rest) (omega arith) (omega (arith, has.fits))
+      (has.split ∙ append_assoc (to_be_bytes w32 (length x)) x rest) in
+      absurd (omega (arith, same.0, ap length same.1, length-append x rest));
+  no_long = λ long.
+      let same = same_length n long.0 ys long.1 (omega arith) long.3 long.4 in
+      absurd (omega (arith, same.0, long.2));
+}
 
 -- a whole frame after one
 frame_first : (n : ℕ) (ys : List ℕ) → n ≤ messages.max_payload → n ≤ length ys
@@ -51,36 +49,25 @@ pub payload_means : (n : ℕ) (ys : List ℕ) → n ≤ messages.max_payload
 payload_means n ys fits =
     let held = to_be_bytes w32 n ++ ys in
     elim (cases_lt (length ys) n) [
-      | inl short ↦ subst (Means held) (sym (cut_payload_short n ys short)) (
-        refl,
-        fits,
-        short_is_partial n ys fits short,
-      )
-      | inr whole ↦ subst (Means held) (sym (cut_payload_whole n ys whole))
-          (frame_first n ys fits whole)
+      | inl short ↦ subst (Means held) (sym (cut_payload_short n ys short))
+          (refl, fits, short_is_partial n ys fits short)
+      | inr whole ↦ subst (Means held) (sym (cut_payload_whole n ys whole)) (frame_first n ys fits whole)
     ]
 
 pub tiny_is_partial : (xs : List ℕ) → length xs < 4 → IsPartial xs
-tiny_is_partial xs tiny =
-    record {
-      no_frame = λ x rest has.
-          absurd (omega (
-            arith,
-            ap length has.split,
-            length-append (messages.frame x) rest,
-            length-append (to_be_bytes w32 (length x)) x,
-          ));
-      no_long = λ long. absurd (omega (
-        arith,
-        ap length long.4,
-        length-append (to_be_bytes w32 long.0) long.1,
-      ));
-    }
+tiny_is_partial xs tiny = record {
+  no_frame = λ x rest has. absurd (omega (
+    arith,
+    ap length has.split,
+    length-append (messages.frame x) rest,
+    length-append (to_be_bytes w32 (length x)) x,
+  ));
+  no_long = λ long. absurd (omega (arith, ap length long.4, length-append (to_be_bytes w32 long.0) long.1));
+}
 
 -- the length in the first four bytes
 first_four : (xs : List ℕ) → IsBytes xs → 4 ≤ length xs
-    → (to_be_bytes w32 (field_value feed_layout xs) ++ drop 4 xs ≡ xs)
-    × (field_value feed_layout xs < 2 ^ 32)
+    → (to_be_bytes w32 (field_value feed_layout xs) ++ drop 4 xs ≡ xs) × (field_value feed_layout xs < 2 ^ 32)
 first_four [] bytes long = absurd (omega arith)
 first_four (a ∷ []) bytes long = absurd (omega arith)
 first_four (a ∷ b ∷ []) bytes long = absurd (omega arith)
@@ -93,8 +80,7 @@ first_four (a ∷ b ∷ c ∷ d ∷ xs) bytes long =
     )
 
 -- with no whole frame first, and no length above the limit, fewer bytes are held than a frame may have
-pub partial_is_short : (xs : List ℕ) → IsBytes xs → IsPartial xs
-    → length xs < 4 + messages.max_payload
+pub partial_is_short : (xs : List ℕ) → IsBytes xs → IsPartial xs → length xs < 4 + messages.max_payload
 partial_is_short xs bytes part =
     elim (cases_lt (length xs) (4 + messages.max_payload)) [
       | inl short ↦ short
@@ -115,28 +101,17 @@ partial_is_short xs bytes part =
 pub head_means : (xs : List ℕ) → IsBytes xs → Means xs (cut_frame feed_layout xs)
 head_means xs bytes =
     elim (cases_lt (length xs) 4) [
-      | inl tiny ↦ subst (Means xs) (sym (cut_frame_short feed_layout xs tiny)) (
-        refl,
-        tt,
-        tiny_is_partial xs tiny,
-      )
+      | inl tiny ↦ subst (Means xs) (sym (cut_frame_short feed_layout xs tiny)) (refl, tt, tiny_is_partial xs tiny)
       | inr long ↦
           let v = field_value feed_layout xs in
           let first = first_four xs bytes long in
           elim (cases_lt messages.max_payload v) [
-            | inl big ↦ subst (Means xs) (sym (cut_frame_big feed_layout xs long big)) (
-              v,
-              drop 4 xs,
-              big,
-              first.1,
-              sym first.0,
-            )
+            | inl big ↦ subst (Means xs) (sym (cut_frame_big feed_layout xs long big))
+                (v, drop 4 xs, big, first.1, sym first.0)
             | inr small ↦
-                let fits : add_adjustment v (pos 0) ≡ Some v =
-                cond-true _ _ _ (lt-ltb (v + 0) (2 ^ 64) (omega arith))
+                let fits : add_adjustment v (pos 0) ≡ Some v = cond-true _ _ _ (lt-ltb (v + 0) (2 ^ 64) (omega arith))
                 ∙ ap Some (omega arith) in
-                let is : cut_frame feed_layout xs ≡ cut_payload v (drop 4 xs) =
-                cut_frame_head feed_layout xs long small
+                let is : cut_frame feed_layout xs ≡ cut_payload v (drop 4 xs) = cut_frame_head feed_layout xs long small
                 ∙ ap (λ o. cut_adjusted o (drop 4 xs)) fits in
                 subst (Means xs) (sym is)
                 (subst (λ held. Means held (cut_payload v (drop 4 xs))) first.0

@@ -31,11 +31,9 @@ means_in (Data n) xs fits bytes = payload_means n xs fits
 pub means : (c : LengthDelimitedCodec) (xs : List ℕ) → codec_layout c ≡ feed_layout
     → StateFits c.state → IsBytes xs → Means (pending c xs) (cut c xs)
 means c xs is fits bytes =
-    subst (λ (l : Layout). Means (pending c xs) (cut_in l c.state xs)) (sym is)
-    (means_in c.state xs fits bytes)
+    subst (λ (l : Layout). Means (pending c xs) (cut_in l c.state xs)) (sym is) (means_in c.state xs fits bytes)
 
-pending-append : (s : DecodeState) (xs more : List ℕ) → pending_in s (xs ++ more) ≡ pending_in s xs
-    ++ more
+pending-append : (s : DecodeState) (xs more : List ℕ) → pending_in s (xs ++ more) ≡ pending_in s xs ++ more
 pending-append Head xs more = refl
 pending-append (Data n) xs more = sym (append_assoc (to_be_bytes w32 n) xs more)
 
@@ -97,15 +95,9 @@ head_finish : (l : Layout) (xs : List ℕ) → Finish l Head xs
 head_finish l xs =
     let pad = blank (head_len l) in
     let z = xs ++ pad in
-    let long : head_len l ≤ length z =
-    omega (arith, length-append xs pad, length-blank (head_len l)) in
+    let long : head_len l ≤ length z = omega (arith, length-append xs pad, length-blank (head_len l)) in
     elim (cases_lt l.max_frame_len (field_value l z)) [
-      | inl big ↦ record {
-        more = pad;
-        bytes = zeros _;
-        done =
-            subst IsDone (sym (cut_frame_big l z long big)) tt;
-      }
+      | inl big ↦ record { more = pad; bytes = zeros _; done = subst IsDone (sym (cut_frame_big l z long big)) tt }
       | inr small ↦
           elim (add_adjustment (field_value l z) l.adjustment) as (λ o.
           add_adjustment (field_value l z) l.adjustment ≡ o → Finish l Head xs) [
@@ -118,45 +110,35 @@ head_finish l xs =
             }
             | Some n ↦ λ e.
                 let pad2 = blank n in
-                let is : cut_frame l (xs ++ (pad ++ pad2)) ≡ cut_payload n (drop (skip_len l) z
-                ++ pad2) =
-                ap (cut_frame l) (sym (append_assoc xs pad pad2))
-                ∙ cut_frame-append_head l z pad2 long small
+                let is : cut_frame l (xs ++ (pad ++ pad2)) ≡ cut_payload n (drop (skip_len l) z ++ pad2) =
+                ap (cut_frame l) (sym (append_assoc xs pad pad2)) ∙ cut_frame-append_head l z pad2 long small
                 ∙ ap (λ o. cut_adjusted o (drop (skip_len l) z ++ pad2)) e in
                 record {
                   more = pad ++ pad2;
                   bytes = bytes-append pad pad2 (zeros _) (zeros _);
                   done = subst IsDone (sym is)
-                      (payload_done n _ (omega (
-                        arith,
-                        length-append (drop (skip_len l) z) pad2,
-                        length-blank n,
-                      )));
+                      (payload_done n _ (omega (arith, length-append (drop (skip_len l) z) pad2, length-blank n)));
                 }
           ] refl
     ]
 
 finish : (l : Layout) (s : DecodeState) (xs : List ℕ) → Finish l s xs
 finish l Head xs = head_finish l xs
-finish l (Data n) xs =
-    record {
-      more = blank n;
-      bytes = zeros n;
-      done =
-          payload_done n _ (omega (arith, length-append xs (blank n), length-blank n));
-    }
+finish l (Data n) xs = record {
+  more = blank n;
+  bytes = zeros n;
+  done = payload_done n _ (omega (arith, length-append xs (blank n), length-blank n));
+}
 
 -- an error that a codec may return
 abbrev error_of : ℕ → Error
-error_of k =
-    record {
-      repr = 1;
-      kind = k;
-      len = 0;
-      code = pos 0;
-      message =
-          record { 0 = 0; 1 = 0; 2 = 0; 3 = 0; 4 = 0; 5 = 0; 6 = 0; 7 = 0; 8 = 0; 9 = 0 };
-    }
+error_of k = record {
+  repr = 1;
+  kind = k;
+  len = 0;
+  code = pos 0;
+  message = record { 0 = 0; 1 = 0; 2 = 0; 3 = 0; 4 = 0; 5 = 0; 6 = 0; 7 = 0; 8 = 0; 9 = 0 };
+}
 
 data_kind : error_kind (error_of 21) ≡ InvalidData
 unfolding kind_at
@@ -191,19 +173,12 @@ heard_error c t zs ws overflows e not_memory heard = (heard.1, heard.2)
 heard_error c t zs ws (unfinished s k) e not_memory heard = absurd heard
 
 pub taken : (c t : LengthDelimitedCodec) (xs ys : List ℕ) (b : Filled) → Ready c → IsBytes xs
-    → Decodes gives_frames c xs (Ok (Some b)) t ys → HasFrame (pending c xs) b.items (pending t ys)
-    × Ready t
+    → Decodes gives_frames c xs (Ok (Some b)) t ys → HasFrame (pending c xs) b.items (pending t ys) × Ready t
 taken c t xs ys b ready bytes told =
-    let heard = heard_frame c t xs (pending c xs) (cut c xs) b ys
-    (means c xs ready.layout ready.fits bytes) told in
+    let heard = heard_frame c t xs (pending c xs) (cut c xs) b ys (means c xs ready.layout ready.fits bytes) told in
     let head : t.state ≡ Head = ap (λ (z : LengthDelimitedCodec). z.state) heard.1 in (
-      subst (λ (s : DecodeState). HasFrame (pending c xs) b.items (pending_in s ys))
-          (sym head) heard.0,
-      record {
-        layout = ap codec_layout heard.1 ∙ ready.layout;
-        fits =
-            subst StateFits (sym head) tt;
-      },
+      subst (λ (s : DecodeState). HasFrame (pending c xs) b.items (pending_in s ys)) (sym head) heard.0,
+      record { layout = ap codec_layout heard.1 ∙ ready.layout; fits = subst StateFits (sym head) tt },
     )
 
 pub waits : (c t : LengthDelimitedCodec) (xs ys : List ℕ) → Ready c → IsBytes xs → IsBytes ys
@@ -237,27 +212,23 @@ waits c t xs ys ready bytes_xs bytes_ys told =
           let found : cut_in feed_layout t.state zs ≡ frame p r =
           ap (λ (l : Layout). cut_in l t.state zs) (sym laid) ∙ e in
           let fits : StateFits t.state = state_fits t.state zs p r found heard.0.fits in
-          let mine : HasFrame (pending t zs) p r =
-          subst (Means (pending t zs)) found
+          let mine : HasFrame (pending t zs) p r = subst (Means (pending t zs)) found
           (means_in t.state zs fits (bytes-append ys more bytes_ys end.bytes)) in (
             append_cancel_right _ _ more (sym (pending-append t.state ys more) ∙ mine.split
                 ∙ sym heard.0.split ∙ pending-append c.state xs more),
             record { layout = laid; fits = fits },
           )
       | too_big ↦ λ e _. fails (error_of 21) (λ m. not_data (sym data_kind ∙ m))
-          (subst (λ (v : Cut). Answers t zs v (Err (error_of 21)) t zs) (sym e)
-          (data_kind, refl, refl))
+          (subst (λ (v : Cut). Answers t zs v (Err (error_of 21)) t zs) (sym e) (data_kind, refl, refl))
       | overflows ↦ λ e _. fails (error_of 20) (λ m. not_input (sym input_kind ∙ m))
-          (subst (λ (v : Cut). Answers t zs v (Err (error_of 20)) t zs) (sym e)
-          (input_kind, refl, refl))
+          (subst (λ (v : Cut). Answers t zs v (Err (error_of 20)) t zs) (sym e) (input_kind, refl, refl))
       | unfinished s k ↦ λ _ none. absurd none
     ] refl end.done
 
 pub answered : (c t : LengthDelimitedCodec) (xs ys : List ℕ) (o : Option Filled) → Ready c
     → IsBytes xs → IsBytes ys → Decodes gives_frames c xs (Ok o) t ys → IfNone o (IsSettled t ys)
     → Found (pending c xs) (Ok o) (pending t ys) × Ready t
-answered c t xs ys (Some b) ready bytes_xs bytes_ys told settled =
-    taken c t xs ys b ready bytes_xs told
+answered c t xs ys (Some b) ready bytes_xs bytes_ys told settled = taken c t xs ys b ready bytes_xs told
 answered c t xs ys None ready bytes_xs bytes_ys told settled =
     let rest = waits c t xs ys ready bytes_xs bytes_ys told in
     let known : Means (pending t ys) (unfinished t.state ys) =
@@ -265,15 +236,11 @@ answered c t xs ys None ready bytes_xs bytes_ys told settled =
     ((subst IsPartial rest.0 known.2, rest.0), rest.1)
 
 refused_by : (c t : LengthDelimitedCodec) (xs ys held : List ℕ) (v : Cut) (e : Error) → Means held v
-    → Answers c xs v (Err e) t ys → (error_kind e ≡ OutOfMemory → (x : List ℕ) × (rest : List ℕ)
-    × HasFrame held x rest) × (error_kind e ≢ OutOfMemory → HasLongLength held × (t ≡ c)
-    × (ys ≡ xs))
-refused_by c t xs ys held (frame p r) e means heard =
-    (λ _. (p, r, means), λ never. absurd (never heard.0))
-refused_by c t xs ys held too_big e means heard = (
-  λ m. absurd (not_data (sym heard.0 ∙ m)),
-  λ _. (means, heard.1, heard.2),
-)
+    → Answers c xs v (Err e) t ys → (error_kind e ≡ OutOfMemory → (x : List ℕ) × (rest : List ℕ) × HasFrame held x rest)
+    × (error_kind e ≢ OutOfMemory → HasLongLength held × (t ≡ c) × (ys ≡ xs))
+refused_by c t xs ys held (frame p r) e means heard = (λ _. (p, r, means), λ never. absurd (never heard.0))
+refused_by c t xs ys held too_big e means heard =
+    (λ m. absurd (not_data (sym heard.0 ∙ m)), λ _. (means, heard.1, heard.2))
 refused_by c t xs ys held overflows e means heard = absurd means
 refused_by c t xs ys held (unfinished s k) e means heard = absurd heard
 
@@ -282,6 +249,5 @@ pub refused : (c t : LengthDelimitedCodec) (xs ys : List ℕ) (e : Error) → Re
     → (error_kind e ≡ OutOfMemory → (x : List ℕ) × (rest : List ℕ) × HasFrame (pending c xs) x rest)
     × (error_kind e ≢ OutOfMemory → HasLongLength (pending c xs) × (pending t ys ≡ pending c xs))
 refused c t xs ys e ready bytes told =
-    let known = refused_by c t xs ys (pending c xs) (cut c xs) e
-    (means c xs ready.layout ready.fits bytes) told in
+    let known = refused_by c t xs ys (pending c xs) (cut c xs) e (means c xs ready.layout ready.fits bytes) told in
     (known.0, λ never. let same = known.1 never in (same.0, ap₂ pending same.1 same.2))

@@ -1,6 +1,6 @@
 -- The first frame of the bytes is unique.
 use Rattle.std.proofs.Common.{◌≡◌, ◌≢◌, ℕ, List, ◌++◌, [], length, Option, Some, None, Result, Ok, Err, inl, inr, refl}
-use Rattle.std.proofs.Common.{sym, ◌∙◌, ap, arith, append_assoc, append-nil, length-append, take, drop, take_at}
+use Rattle.std.proofs.Common.{sym, ◌∙◌, ap, arith, append_assoc, length-append, take, drop, take_at}
 use Rattle.std.proofs.Common.{drop_at}
 use Rattle.std.specs.{Int.w32, Int.to_be_bytes, declared.io.Error.Error}
 use Rattle.bytes.specs.Filled.{Filled}
@@ -9,7 +9,7 @@ use Rattle.tokio_util.specs.Codec.LengthDelimited.{Cut, frame, too_big, overflow
 use Rattle.tokio_util.specs.Codec.LengthDelimited.{AnswersLast, AnswersAtEnd, gives_frames}
 use Rattle.tokio_util.specs.declared.codec.length_delimited.LengthDelimitedCodec.{LengthDelimitedCodec}
 use Rattle.tokio_util.specs.{declared.codec.length_delimited.DecodeState.DecodeState, Codec.Next.DecodesAtEnd}
-use Rattle.snap_frame.specs.Stream.{HasFrame, HasLongLength, pending, pending_in, Ready, IsBytes, NoFrameBeginsAnother}
+use Rattle.snap_frame.specs.Stream.{HasFrame, pending, pending_in, Ready, IsBytes}
 use Rattle.snap_frame.proofs.{BigEndian.same_length, Cuts.Means, Decode.means}
 use Rattle.snap_frame.specs.Messages as messages
 
@@ -28,24 +28,13 @@ same_frame held x y r s one two =
     ++ s) (omega (arith, one.fits)) (omega (arith, two.fits)) e in
     append_split x y r s same.0 same.1
 
-pub long_no_frame : (held x r : List ℕ) → HasFrame held x r → HasLongLength held → ⊥
-long_no_frame held x r has long =
-    let e : to_be_bytes w32 (length x) ++ (x ++ r) ≡ to_be_bytes w32 long.0 ++ long.1 =
-    sym (append_assoc (to_be_bytes w32 (length x)) x r) ∙ sym has.split ∙ long.4 in
-    let same = same_length (length x) long.0 (x ++ r) long.1 (omega (arith, has.fits)) long.3 e in
-    absurd (omega (arith, same.0, has.fits, long.2))
-
-head_of : (state : DecodeState) (kept : List ℕ) → pending_in state kept ≡ [] → (state ≡ Head)
-    × (kept ≡ [])
+head_of : (state : DecodeState) (kept : List ℕ) → pending_in state kept ≡ [] → (state ≡ Head) × (kept ≡ [])
 head_of Head kept none = (refl, none)
-head_of (Data n) kept none =
-    absurd (omega (arith, ap length none, length-append (to_be_bytes w32 n) kept))
+head_of (Data n) kept none = absurd (omega (arith, ap length none, length-append (to_be_bytes w32 n) kept))
 
-last_by : (state : DecodeState) (kept held : List ℕ) (r : Result (Option Filled) Error)
-    → pending_in state kept ≡ held → AnswersLast state kept r → (r ≡ Ok None → held ≡ [])
-    × (held ≡ [] → r ≡ Ok None)
-last_by state kept held (Ok None) same told =
-    (λ _. sym same ∙ ap (λ s. pending_in s kept) told.0 ∙ told.1, λ _. refl)
+last_by : (state : DecodeState) (kept held : List ℕ) (r : Result (Option Filled) Error) → pending_in state kept ≡ held
+    → AnswersLast state kept r → (r ≡ Ok None → held ≡ []) × (held ≡ [] → r ≡ Ok None)
+last_by state kept held (Ok None) same told = (λ _. sym same ∙ ap (λ s. pending_in s kept) told.0 ∙ told.1, λ _. refl)
 last_by state kept held (Ok (Some b)) same told = absurd told
 last_by state kept held (Err e) same told =
     (λ wrong. absurd cc, λ none. absurd (told.1 (head_of state kept (same ∙ none))))
@@ -56,27 +45,19 @@ end_by : (s : DecodeState) (c t : LengthDelimitedCodec) (ys : List ℕ) (v : Cut
 end_by s c t ys (frame p k) r means told = absurd told
 end_by s c t ys too_big r means told = absurd told
 end_by s c t ys overflows r means told = absurd told
-end_by s c t ys (unfinished state kept) r means told =
-    last_by state kept (pending_in s []) r means.0 told.0
+end_by s c t ys (unfinished state kept) r means told = last_by state kept (pending_in s []) r means.0 told.0
 
-done_by : (s : DecodeState) (c t : LengthDelimitedCodec) (xs ys : List ℕ) (v : Cut)
-    (r : Result Filled Error) → Means (pending_in s []) v → Answers c xs v r t ys
-    → pending_in s [] ≢ []
-done_by s c t xs ys (frame p k) r means told =
-    λ none. absurd (omega (
-      arith,
-      ap length means.split,
-      ap length none,
-      length-append (messages.frame p) k,
-      length-append (to_be_bytes w32 (length p)) p,
-    ))
+done_by : (s : DecodeState) (c t : LengthDelimitedCodec) (xs ys : List ℕ) (v : Cut) (r : Result Filled Error)
+    → Means (pending_in s []) v → Answers c xs v r t ys → pending_in s [] ≢ []
+done_by s c t xs ys (frame p k) r means told = λ none. absurd (omega (
+  arith,
+  ap length means.split,
+  ap length none,
+  length-append (messages.frame p) k,
+  length-append (to_be_bytes w32 (length p)) p,
+))
 done_by s c t xs ys too_big r means told =
-    λ none. absurd (omega (
-      arith,
-      ap length means.4,
-      ap length none,
-      length-append (to_be_bytes w32 means.0) means.1,
-    ))
+    λ none. absurd (omega (arith, ap length means.4, ap length none, length-append (to_be_bytes w32 means.0) means.1))
 done_by s c t xs ys overflows r means told = absurd means
 done_by s c t xs ys (unfinished state kept) r means told = absurd told
 
@@ -84,30 +65,15 @@ none_bytes : IsBytes []
 none_bytes i = omega arith
 
 pub at_end : (c t : LengthDelimitedCodec) (ys : List ℕ) (r : Result (Option Filled) Error) → Ready c
-    → DecodesAtEnd gives_frames c [] r t ys → (r ≡ Ok None → pending c [] ≡ [])
-    × (pending c [] ≡ [] → r ≡ Ok None)
+    → DecodesAtEnd gives_frames c [] r t ys → (r ≡ Ok None → pending c [] ≡ []) × (pending c [] ≡ [] → r ≡ Ok None)
 at_end c t ys r ready = by (means c [] ready.layout ready.fits none_bytes) r
   where
-    by : Means (pending c []) (cut c []) → (r : Result (Option Filled) Error)
-        → DecodesAtEnd gives_frames c [] r t ys → (r ≡ Ok None → pending c [] ≡ [])
-        × (pending c [] ≡ [] → r ≡ Ok None)
+    by : Means (pending c []) (cut c []) → (r : Result (Option Filled) Error) → DecodesAtEnd gives_frames c [] r t ys
+        → (r ≡ Ok None → pending c [] ≡ []) × (pending c [] ≡ [] → r ≡ Ok None)
     by means (Ok None) told = end_by c.state c t ys (cut c []) (Ok None) means told
-    by means (Ok (Some b)) (inl told) = (
-      λ wrong. absurd cc,
-      λ none. absurd (done_by c.state c t [] ys (cut c []) (Ok b) means told none),
-    )
+    by means (Ok (Some b)) (inl told) =
+        (λ wrong. absurd cc, λ none. absurd (done_by c.state c t [] ys (cut c []) (Ok b) means told none))
     by means (Ok (Some b)) (inr told) = end_by c.state c t ys (cut c []) (Ok (Some b)) means told
-    by means (Err e) (inl told) = (
-      λ wrong. absurd cc,
-      λ none. absurd (done_by c.state c t [] ys (cut c []) (Err e) means told none),
-    )
+    by means (Err e) (inl told) =
+        (λ wrong. absurd cc, λ none. absurd (done_by c.state c t [] ys (cut c []) (Err e) means told none))
     by means (Err e) (inr told) = end_by c.state c t ys (cut c []) (Err e) means told
-
--- no frame is a beginning of another frame
-pub no_frame_begins_another : NoFrameBeginsAnother
-no_frame_begins_another x y rest x_fits y_fits e =
-    (same_frame (messages.frame y) x y rest [] (record {
-      fits = x_fits;
-      split =
-          sym e;
-    }) (record { fits = y_fits; split = sym (append-nil (messages.frame y)) })).0

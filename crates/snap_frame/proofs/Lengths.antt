@@ -11,8 +11,7 @@ use Rattle.snap_frame.specs.declared.reply.Reply.{Reply}
 -- entries of at most `longest_entry` bytes each
 module _ {E : Type 0} (bytes : E → List ℕ) (MayStand : E → Type 0)
     (fits : (e : E) → MayStand e → length (bytes e) ≤ longest_entry) where
-  entries_fit : (es : List E) → All MayStand es
-      → length (flat_map bytes es) ≤ longest_entry * length es
+  entries_fit : (es : List E) → All MayStand es → length (flat_map bytes es) ≤ longest_entry * length es
   entries_fit [] each = omega arith
   entries_fit (e ∷ es) each = omega (
     arith,
@@ -36,10 +35,7 @@ status_fits s may = omega arith
 -- the payload of a reply fits a frame
 pub says_fits : (r : Reply) → IsInLimits r → length (says r) ≤ max_payload
 says_fits (Stored number) limits = omega arith
-says_fits (Snapshot values) limits =
-    omega (arith, list_fits value_bytes IsValue value_fits values.items limits)
-says_fits (Status statuses) limits =
-    omega (arith, list_fits status_bytes IsStatus status_fits statuses.items limits)
-says_fits (Part values) limits =
-    omega (arith, list_fits named_bytes IsNamedValue named_fits values.items limits.0)
+says_fits (Snapshot values) limits = omega (arith, list_fits value_bytes IsValue value_fits values.items limits)
+says_fits (Status statuses) limits = omega (arith, list_fits status_bytes IsStatus status_fits statuses.items limits)
+says_fits (Part values) limits = omega (arith, list_fits named_bytes IsNamedValue named_fits values.items limits.0)
 says_fits (Refused why detail) limits = omega arith

@@ -79,14 +79,11 @@ IsNamedValue v = (v.segment < MAX_COUNT) × IsNumber v.number × IsShort v.value
 
 -- each entry's segment is above that of the one before it
 abbrev pub Ascend : List NamedValue → Type 0
-Ascend vs =
-    (p : ℕ) (a b : NamedValue) → slice_get vs p ≡ Some a → slice_get vs (p + 1) ≡ Some b
-    → a.segment < b.segment
+Ascend vs = (p : ℕ) (a b : NamedValue) → slice_get vs p ≡ Some a → slice_get vs (p + 1) ≡ Some b → a.segment < b.segment
 
 -- no entry's bytes are a beginning of another's
 pub record Separate {E : Type 0} (bytes : E → List ℕ) (MayStand : E → Type 0) : Type 0 where
-  pub each : (d e : E) (a b : List ℕ) → MayStand d → MayStand e → bytes d ++ a ≡ bytes e ++ b
-      → (d ≡ e) × (a ≡ b)
+  pub each : (d e : E) (a b : List ℕ) → MayStand d → MayStand e → bytes d ++ a ≡ bytes e ++ b → (d ≡ e) × (a ≡ b)
 
 -- the most bytes of an entry: the segment, the number, the length and the value
 abbrev pub longest_entry : ℕ

@@ -36,9 +36,7 @@ pub record HasFrame (bytes x rest : List ℕ) : Type 0 where
 
 -- the bytes begin with a length above the limit
 abbrev pub HasLongLength : List ℕ → Type 0
-HasLongLength bytes =
-    (n : ℕ) × (rest : List ℕ) × (max_payload < n) × (n < 2 ^ 32)
-    × (bytes ≡ to_be_bytes w32 n ++ rest)
+HasLongLength bytes = (n : ℕ) × (rest : List ℕ) × (max_payload < n) × (n < 2 ^ 32) × (bytes ≡ to_be_bytes w32 n ++ rest)
 
 -- they begin with neither: more bytes are needed
 pub record IsPartial (bytes : List ℕ) : Type 0 where
@@ -78,39 +76,31 @@ Found held (Err TooLarge) new = HasLongLength held × (new ≡ held)
 
 -- it fails because memory ran out, with a whole frame first, or because of a length above the limit
 abbrev pub Fails : List ℕ → Failure → Held → Type 0
-Fails held NoMemory new =
-    (x : List ℕ) × (rest : List ℕ) × HasFrame held x rest × (new.failure ≡ Some NoMemory)
+Fails held NoMemory new = (x : List ℕ) × (rest : List ℕ) × HasFrame held x rest × (new.failure ≡ Some NoMemory)
 Fails held TooLarge new =
     HasLongLength held × (new ≡ record { bytes = held; failure = Some TooLarge })
 
 -- the result of taking the first frame off, and the state that is left
 abbrev pub TakesOff : List ℕ → Result (Option Filled) Failure → Held → Type 0
-TakesOff held (Ok (Some payload)) new =
-    HasFrame held payload.items new.bytes × (new.failure ≡ None)
+TakesOff held (Ok (Some payload)) new = HasFrame held payload.items new.bytes × (new.failure ≡ None)
 TakesOff held (Ok None) new = IsPartial held × (new ≡ record { bytes = held; failure = None })
 TakesOff held (Err failure) new = Fails held failure new
 
 -- The result of a feed's `next` over the bytes held, and the state that is left.
 abbrev pub IsNextRequest : List ℕ → Result (Option Request) Refusal → Held → Type 0
-IsNextRequest held (Ok (Some r)) new =
-    (x : List ℕ) × HasFrame held x new.bytes × Asks x r × (new.failure ≡ None)
+IsNextRequest held (Ok (Some r)) new = (x : List ℕ) × HasFrame held x new.bytes × Asks x r × (new.failure ≡ None)
 IsNextRequest held (Ok None) new = IsPartial held × (new ≡ record { bytes = held; failure = None })
-IsNextRequest held (Err why) new =
-    ((why ≡ refusals.Malformed) × (x : List ℕ) × HasFrame held x new.bytes × Malformed x
-    × (new.failure ≡ None))
-    ⊎ ((failure : Failure) × (why ≡ refusal_of failure) × Fails held failure new)
+IsNextRequest held (Err why) new = ((why ≡ refusals.Malformed) × (x : List ℕ) × HasFrame held x new.bytes × Malformed x
+    × (new.failure ≡ None)) ⊎ ((failure : Failure) × (why ≡ refusal_of failure) × Fails held failure new)
 
 -- The result of a reply feed's `next` over the bytes held, and the state that is left.
 abbrev pub IsNextReply : List ℕ → Result (Option Reply) ReplyFault → Held → Type 0
-IsNextReply held (Ok (Some r)) new =
-    (x : List ℕ) × HasFrame held x new.bytes × Says x r × (new.failure ≡ None)
+IsNextReply held (Ok (Some r)) new = (x : List ℕ) × HasFrame held x new.bytes × Says x r × (new.failure ≡ None)
 IsNextReply held (Ok None) new = IsPartial held × (new ≡ record { bytes = held; failure = None })
-IsNextReply held (Err BadReply) new =
-    (x : List ℕ) × HasFrame held x new.bytes × SaysNothing x × (new.failure ≡ None)
+IsNextReply held (Err BadReply) new = (x : List ℕ) × HasFrame held x new.bytes × SaysNothing x × (new.failure ≡ None)
 IsNextReply held (Err (Failed failure)) new = Fails held failure new
 
 -- no frame is a beginning of another frame
 abbrev pub NoFrameBeginsAnother : Type 0
-NoFrameBeginsAnother =
-    (x y rest : List ℕ) → length x ≤ max_payload → length y ≤ max_payload
+NoFrameBeginsAnother = (x y rest : List ℕ) → length x ≤ max_payload → length y ≤ max_payload
     → frame x ++ rest ≡ frame y → x ≡ y

@@ -70,8 +70,7 @@ impl Feed {
         // `TooLarge` exactly if they begin with such a length.
         ensures too_large { self.old.failure ≡ None → (result ≡ Err Refusal.TooLarge ↔ HasLongLength self.old.bytes) }
         // A malformed frame is refused as one, unless memory runs out.
-        ensures malformed { (x rest : List ℕ) → self.old.failure ≡ None
-            → HasFrame self.old.bytes x rest → Malformed x
+        ensures malformed { (x rest : List ℕ) → self.old.failure ≡ None → HasFrame self.old.bytes x rest → Malformed x
             → (result ≡ Err Refusal.Malformed) ⊎ (result ≡ Err Refusal.NoMemory) }
         // So the bytes begin with at most one frame.
         ensures first { NoFrameBeginsAnother }

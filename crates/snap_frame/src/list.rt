@@ -102,12 +102,10 @@ fn read_entries<E: Entry + Drop>(
 /// Reads the entries of a list's payload, or returns `None` if it isn't a list of them.
 pub(crate) fn read_list<E: Entry + Drop>(payload: BytesMut) -> Result<Option<Vec<E>>, AllocError>
     requires apart { Separate E.bytes E.may_stand }
-    ensures some { IfOk result (λ o. IfSome o (λ es. AreEntries E.may_stand es.items
-        × (payload.items
+    ensures some { IfOk result (λ o. IfSome o (λ es. AreEntries E.may_stand es.items × (payload.items
         ≡ slice_index payload.items 0 ∷ length es.items ∷ flat_map E.bytes es.items))) }
     ensures none { IfOk result (λ o. IfNone o ((kind : ℕ) → (es : List E)
-        → AreEntries E.may_stand es → payload.items ≡ kind ∷ length es ∷ flat_map E.bytes es
-        → ⊥)) }
+        → AreEntries E.may_stand es → payload.items ≡ kind ∷ length es ∷ flat_map E.bytes es → ⊥)) }
 {
     let alloc = *payload.allocator();
     let Some((count, entries)) = split_list(payload)? else {

@@ -75,12 +75,10 @@ fn ascend(values: &[NamedValue]) -> bool
 /// list of them, or they don't ascend.
 #[tactic(auto, using(crate::proofs::Behind::named_apart))]
 pub(crate) fn read_named(payload: BytesMut) -> Result<Option<Vec<NamedValue>>, AllocError>
-    ensures some { IfOk result (λ o. IfSome o (λ vs. AreEntries IsNamedValue vs.items
-        × Ascend vs.items × (payload.items
+    ensures some { IfOk result (λ o. IfSome o (λ vs. AreEntries IsNamedValue vs.items × Ascend vs.items × (payload.items
         ≡ slice_index payload.items 0 ∷ length vs.items ∷ flat_map named_bytes vs.items))) }
     ensures none { IfOk result (λ o. IfNone o ((kind : ℕ) → (vs : List NamedValue)
-        → AreEntries IsNamedValue vs → Ascend vs
-        → payload.items ≡ kind ∷ length vs ∷ flat_map named_bytes vs → ⊥)) }
+        → AreEntries IsNamedValue vs → Ascend vs → payload.items ≡ kind ∷ length vs ∷ flat_map named_bytes vs → ⊥)) }
 {
     let Some(values) = read_list(payload)? else {
         return Ok(None);

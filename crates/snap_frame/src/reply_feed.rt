@@ -73,10 +73,8 @@ impl ReplyFeed {
         ensures too_large { self.old.failure ≡ None
             → (result ≡ Err (ReplyFault.Failed Failure.TooLarge) ↔ HasLongLength self.old.bytes) }
         // A frame that is no reply is refused, unless memory runs out.
-        ensures bad { (x rest : List ℕ) → self.old.failure ≡ None
-            → HasFrame self.old.bytes x rest → SaysNothing x
-            → (result ≡ Err ReplyFault.BadReply)
-            ⊎ (result ≡ Err (ReplyFault.Failed Failure.NoMemory)) }
+        ensures bad { (x rest : List ℕ) → self.old.failure ≡ None → HasFrame self.old.bytes x rest → SaysNothing x
+            → (result ≡ Err ReplyFault.BadReply) ⊎ (result ≡ Err (ReplyFault.Failed Failure.NoMemory)) }
     {
         match self.frames.next() {
             Ok(None) => Ok(None),

@@ -6,8 +6,7 @@ use Rattle.std.proofs.lemmas.{List.length-set, List.set-get_or, Bool.cases_eq}
 use Rattle.snap_history.{specs.Pairs.Pairs, proofs.Lists.get-set_same, proofs.Lists.get-set_other}
 
 -- there is an element at each place of a list
-pub element : {A : Type 0} (xs : List A) (i : ℕ) → i < length xs → (a : A)
-    × (slice_get xs i ≡ Some a)
+pub element : {A : Type 0} (xs : List A) (i : ℕ) → i < length xs → (a : A) × (slice_get xs i ≡ Some a)
 element [] i l = absurd (omega arith)
 element (x ∷ xs) zero l = (x, refl)
 element (x ∷ xs) (suc i) l = element xs i (omega arith)
@@ -21,10 +20,8 @@ partner R xs ys i a p e =
     (y.0, y.1, p.each i a y.0 e y.1)
 
 -- to write the element that is there changes nothing
-set_same : {A : Type 0} (xs : List A) (i : ℕ) (x : A) → slice_get xs i ≡ Some x
-    → slice_set xs i x ≡ xs
-set_same xs i x at =
-    ap (slice_set xs i) (sym (get_or_from_slice_get xs i x x at)) ∙ set-get_or xs i x
+set_same : {A : Type 0} (xs : List A) (i : ℕ) (x : A) → slice_get xs i ≡ Some x → slice_set xs i x ≡ xs
+set_same xs i x at = ap (slice_set xs i) (sym (get_or_from_slice_get xs i x x at)) ∙ set-get_or xs i x
 
 -- one pair is replaced, and the fact carries over at all other places
 pub Pairs-set : {A B : Type 0} (R Q : ℕ → A → B
@@ -59,13 +56,11 @@ Pairs-map R Q xs ys f p = record {
 pub Pairs-left : {A B : Type 0} (R : ℕ → A → B
     → Type 0) (xs : List A) (ys : List B) (i : ℕ) (a : A) (b : B) → i < length xs
     → slice_get ys i ≡ Some b → R i a b → Pairs R xs ys → Pairs R (slice_set xs i a) ys
-Pairs-left R xs ys i a b l there here p =
-    subst (Pairs R (slice_set xs i a)) (set_same ys i b there)
+Pairs-left R xs ys i a b l there here p = subst (Pairs R (slice_set xs i a)) (set_same ys i b there)
     (Pairs-set R R xs ys i a b l (λ j c d ne r. r) here p)
 
 -- an element of the second list alone is replaced
-pub Pairs-right : {A B : Type 0} (R : ℕ → A → B
-    → Type 0) (xs : List A) (ys : List B) (i : ℕ) (b : B) → i < length ys
+pub Pairs-right : {A B : Type 0} (R : ℕ → A → B → Type 0) (xs : List A) (ys : List B) (i : ℕ) (b : B) → i < length ys
     → ((a : A) → slice_get xs i ≡ Some a → R i a b) → Pairs R xs ys → Pairs R xs (slice_set ys i b)
 Pairs-right R xs ys i b l here p =
     let s : length xs ≡ length ys = p.size in

@@ -37,16 +37,12 @@ taken k xs x left rest is next =
 
 -- the front of the list after mapping a function
 pub map_front : {A B : Type 0} (f : A → B) (k : ℕ) (xs : List A) (x : A) (rest : List A)
-    → Taken k xs x rest → (n : ℕ) → n ≡ k + 1
-    → map f (take n xs) ≡ map f (take k xs) ++ f x ∷ []
-map_front f k xs x rest next n on =
-    ap (map f) (next.front n on) ∙ map-append f (take k xs) (x ∷ [])
+    → Taken k xs x rest → (n : ℕ) → n ≡ k + 1 → map f (take n xs) ≡ map f (take k xs) ++ f x ∷ []
+map_front f k xs x rest next n on = ap (map f) (next.front n on) ∙ map-append f (take k xs) (x ∷ [])
 
 -- if nothing remains, all items were removed
-pub none_after : {A : Type 0} (k : ℕ) (xs rest : List A) → rest ≡ drop k xs → length rest ≡ 0
-    → length xs ≤ k
+pub none_after : {A : Type 0} (k : ℕ) (xs rest : List A) → rest ≡ drop k xs → length rest ≡ 0 → length xs ≤ k
 none_after k xs rest is none = let e = ap length is ∙ length-drop k xs in omega arith
 
-pub all_taken : {A : Type 0} (k : ℕ) (xs rest : List A) → rest ≡ drop k xs → length rest ≡ 0
-    → take k xs ≡ xs
+pub all_taken : {A : Type 0} (k : ℕ) (xs rest : List A) → rest ≡ drop k xs → length rest ≡ 0 → take k xs ≡ xs
 all_taken k xs rest is none = take_all k xs (none_after k xs rest is none)

@@ -35,8 +35,7 @@ each_next f xs k x old before after now low is e =
     wrote old (each_from f 0 (take k xs)) (f k x) before after e now ∙ ap (λ l. old ++ l) (sym more)
 
 -- the element at a place inside the list doesn't depend on the default
-pub same_place : {X : Type 0} (xs : List X) (k : ℕ) (d e : X) → k < length xs
-    → get_or xs k d ≡ get_or xs k e
+pub same_place : {X : Type 0} (xs : List X) (k : ℕ) (d e : X) → k < length xs → get_or xs k d ≡ get_or xs k e
 same_place [] k d e low = absurd (omega arith)
 same_place (x ∷ xs) zero d e low = refl
 same_place (x ∷ xs) (suc k) d e low = same_place xs k d e (omega arith)

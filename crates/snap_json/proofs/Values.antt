@@ -6,8 +6,7 @@ use Rattle.base64.specs.{Engines.standard, GeneralPurpose.encode_of}
 use Rattle.json.specs.Token.{key, string}
 use Rattle.snap_json.specs.Documents.{bytes_tokens}
 
-pub text_tokens : (bytes : List ℕ) → IsUtf8 bytes
-    → bytes_tokens bytes ≡ key (codes "text") ∷ string bytes ∷ []
+pub text_tokens : (bytes : List ℕ) → IsUtf8 bytes → bytes_tokens bytes ≡ key (codes "text") ∷ string bytes ∷ []
 text_tokens bytes u = ap (λ (b : Bool). if b then key (codes "text") ∷ string bytes ∷ []
     else key (codes "base64") ∷ string (encode_of standard bytes) ∷ []) (is_utf8-from_IsUtf8 bytes u)
 

@@ -12,11 +12,10 @@ use Rattle.snap_laws.{specs.Again.AreOfOne, specs.Again.GoOnBehind, proofs.Openi
 use Rattle.snap_disk.specs.declared.disk.Disk as Disk
 
 module _ {D : Type 0} (disk : Disk.Ghosts D) where
-  pub go_on_behind : (plan : Plan) (h : List Update) (firsts : List (WriterState D))
-      (scanners : List Known) (seconds : List (WriterState D))
-      → AreOfOne disk plan firsts → IsHistory h firsts scanners → AnyCut disk h firsts scanners
-      → Pairs (IsOpened disk (length (map its_device firsts))) (map its_device firsts)
-      (map its_segment seconds)
+  pub go_on_behind : (plan : Plan) (h : List Update) (firsts : List (WriterState D)) (scanners : List Known)
+      (seconds : List (WriterState D)) → AreOfOne disk plan firsts → IsHistory h firsts scanners
+      → AnyCut disk h firsts scanners
+      → Pairs (IsOpened disk (length (map its_device firsts))) (map its_device firsts) (map its_segment seconds)
       → AreOpened disk (map its_device firsts) seconds → GoOnBehind disk firsts scanners seconds
   go_on_behind plan h firsts scanners seconds are history cut were opened hon =
       let devices = map its_device firsts in

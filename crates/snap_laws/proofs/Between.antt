@@ -20,10 +20,8 @@ use Rattle.snap_disk.specs.declared.disk.Disk as Disk
 
 module _ {D : Type 0} (disk : Disk.Ghosts D) where
   -- the other devices are the same
-  works : (i : ℕ) (leaves : List ℕ → Type 0) (devices : List D) (old new : D)
-      → slice_get devices i ≡ Some old
-      → ((b : List ℕ) → MayLeave (disk.device new) b → leaves b)
-      → Works disk i leaves devices (slice_set devices i new)
+  works : (i : ℕ) (leaves : List ℕ → Type 0) (devices : List D) (old new : D) → slice_get devices i ≡ Some old
+      → ((b : List ℕ) → MayLeave (disk.device new) b → leaves b) → Works disk i leaves devices (slice_set devices i new)
   works i leaves devices old new at left =
       let there = slice_get_within devices i old at in record {
         there = there;
@@ -34,8 +32,7 @@ module _ {D : Type 0} (disk : Disk.Ghosts D) where
         own = λ e b ee may. let same : new ≡ e = cc (get-set_same devices i new there) in left b (rw same may);
       }
 
-  stored_goes_on : (i n c : ℕ) (v : List ℕ) (old new : D)
-      → IsStored i n c v (disk.device old) (disk.device new)
+  stored_goes_on : (i n c : ℕ) (v : List ℕ) (old new : D) → IsStored i n c v (disk.device old) (disk.device new)
       → GoesOnWith disk n i ((record { segment = i; value = v } ∷ []) ∷ []) old new
   stored_goes_on i n c v old new is start moments devices at past =
       Put start moments devices (slice_set devices i new) i c is.value v past
@@ -45,13 +42,10 @@ module _ {D : Type 0} (disk : Disk.Ghosts D) where
   pub cut_off_goes_on : (v : List ℕ) (old new : SegmentState D)
       → (disk.is_honest new.device → disk.is_honest old.device)
       → (disk.is_honest old.device → IsAtRest old.index old.count old.number old.value old.spare_open
-      (disk.device old.device))
-      → (disk.is_honest new.device → LeavesOnly disk old.device new.device
-      (IsEither old.index old.count old.number old.value v))
-      → CutOffGoesOn disk v old new
+      (disk.device old.device)) → (disk.is_honest new.device → LeavesOnly disk old.device new.device
+      (IsEither old.index old.count old.number old.value v)) → CutOffGoesOn disk v old new
   cut_off_goes_on v old new honest_then rests any_time hon cut might start moments devices at past =
-      PutCutOff start moments devices (slice_set devices old.index cut) old.index old.number old.value
-      v past
+      PutCutOff start moments devices (slice_set devices old.index cut) old.index old.number old.value v past
       (λ d ed. rw (same_Some old.device d (sym at ∙ ed)) at (at_rest_file old.index old.count old.number
       old.value old.spare_open (disk.device old.device) (rests (honest_then hon))).holds)
       (works old.index (IsEither old.index old.count old.number old.value v) devices old.device cut at
@@ -62,10 +56,7 @@ module _ {D : Type 0} (disk : Disk.Ghosts D) where
       → PutGoesOn disk o known old new
   put_goes_on (order.Put file i n) known out out' old new s (v, had, stores) =
       λ hon. (v, had, stored_goes_on i n stores.0 v old new (stores.2 hon))
-  put_goes_on (order.Format file i n) known out out' old new s ends = tt
-  put_goes_on (order.Get file i n) known out out' old new s ends = tt
-  put_goes_on (order.Check file is_json) known out out' old new s ends = tt
-  put_goes_on (order.Slot file slot) known out out' old new s ends = tt
+  put_goes_on o known out out' old new s ends = tt
 
   pub no_more_goes_on : CountsNow disk → (i n : ℕ) (old new : D) → disk.is_honest new
       → LeavesNoMore disk old new → GoesOnWith disk n i [] old new
@@ -78,29 +69,23 @@ module _ {D : Type 0} (disk : Disk.Ghosts D) where
             let was : d ≡ old = cc in
             let is : new ≡ e = cc (get-set_same devices i new (slice_get_within devices i old at)) in
             rw was (only.each b (counts_now new (disk.clock old) b hon only.later (rw is may))))
-            (λ other. let same : d ≡ e = cc (get-set_other devices i j new other) in rw same may)
-            (cases_eq j i);
+            (λ other. let same : d ≡ e = cc (get-set_other devices i j new other) in rw same may) (cases_eq j i);
       })
 
   pub begins_again : (i n k : ℕ) (v : List ℕ) (blank new : D)
       → IsNewlyMade i n k v (disk.device blank) (disk.device new) → BeginsAgain disk n i k v new
   begins_again i n k v blank new made start moments devices lost at past =
       Remade start (from_there start i k v) moments _ devices (slice_set devices i new) i k v past
-      (works i (IsFileOf i n k v) devices lost new at
-      (at_rest_leaves i n k v false (disk.device new) made.1)) refl refl
+      (works i (IsFileOf i n k v) devices lost new at (at_rest_leaves i n k v false (disk.device new) made.1)) refl refl
 
   pub init_goes_on : CountsNow disk → (i n : ℕ) (old new : D)
       → IsDone (disk.is_honest new) i n (disk.device old) (disk.device new)
-      → ((IsBlank (disk.device old).bytes → ⊥) → LeavesNoMore disk old new)
-      → InitGoesOn disk i n old new
-  init_goes_on counts_now i n old new (inl made) spared hon =
-      inr (begins_again i n 0 [] old new (made hon).1)
+      → ((IsBlank (disk.device old).bytes → ⊥) → LeavesNoMore disk old new) → InitGoesOn disk i n old new
+  init_goes_on counts_now i n old new (inl made) spared hon = inr (begins_again i n 0 [] old new (made hon).1)
   init_goes_on counts_now i n old new (inr kept) spared hon = inl (
-      no_more_goes_on counts_now i n old new hon
-      (spared (λ blank. blank.0 (kept.2 hon).was.head.gate)))
+      no_more_goes_on counts_now i n old new hon (spared (λ blank. blank.0 (kept.2 hon).was.head.gate)))
 
-  pub put_end : (o : FileOrder) (known out out' : Option (List ℕ)) (old new : D)
-      (r : Result Status CommandFault)
+  pub put_end : (o : FileOrder) (known out out' : Option (List ℕ)) (old new : D) (r : Result Status CommandFault)
       → EndsOrder o (disk.is_honest new) known (disk.device old) (disk.device new) out out' r
       → IfOk r (λ _. PutGoesOn disk o known old new)
   put_end o known out out' old new (Ok s) ends = put_goes_on o known out out' old new s ends
@@ -108,8 +93,7 @@ module _ {D : Type 0} (disk : Disk.Ghosts D) where
 
   pub init_end : CountsNow disk → (i n : ℕ) (old new : D) (r : Result Status CommandFault)
       → EndsFounding (disk.is_honest new) i n (disk.device old) (disk.device new) r
-      → ((IsBlank (disk.device old).bytes → ⊥) → LeavesNoMore disk old new)
-      → IfOk r (λ _. InitGoesOn disk i n old new)
+      → ((IsBlank (disk.device old).bytes → ⊥) → LeavesNoMore disk old new) → IfOk r (λ _. InitGoesOn disk i n old new)
   init_end counts_now i n old new (Ok s) ends spared = init_goes_on counts_now i n old new ends.1 spared
   init_end counts_now i n old new (Err why) ends spared = tt
 
@@ -119,8 +103,7 @@ module _ {D : Type 0} (disk : Disk.Ghosts D) where
   load_end i n k v old new (Ok s) ends = λ hon. begins_again i n k v old new (ends.1 hon)
   load_end i n k v old new (Err why) ends = tt
 
-  pub migrate_end : (i n : ℕ) (old_honest : Type 0) (old : Device) (blank new : D)
-      (r : Result Status MigrationFault)
+  pub migrate_end : (i n : ℕ) (old_honest : Type 0) (old : Device) (blank new : D) (r : Result Status MigrationFault)
       → EndsMigration i n old_honest (disk.is_honest new) old (disk.device blank) (disk.device new) r
       → OnOk r (old_honest → disk.is_honest new → (k : ℕ) × (v : List ℕ) × OldHolds old.bytes k v
       × BeginsAgain disk n i k v new)

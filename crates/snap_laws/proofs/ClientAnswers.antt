@@ -1,7 +1,6 @@
 -- Replies that a client returned to its caller over an honest connection are among what the service has seen.
-use Rattle.std.proofs.Common.{◌≡◌, ℕ, List, ◌++◌, Option, ap, sym, ◌∙◌, append_assoc}
+use Rattle.std.proofs.Common.{ℕ, List, ◌++◌, Option, append_assoc}
 use Rattle.snap_register.specs.{History.starts, Rule.segments}
-use Rattle.snap_session.specs.Talk.{frames}
 use Rattle.snap_client.specs.Calls.{fresh}
 use Rattle.snap_laws.proofs.Calls.{spoke, run_fits, tail_is, answers_stand}
 use Rattle.snap_laws.{specs.Laws.ClientLaw, proofs.Runs.session_told}
@@ -15,19 +14,10 @@ answered_stands remaining contents b qs rs h was seen =
     let said = spoke remaining contents qs rs was.reads (fresh was.reader was.writer) new was.converses in
     let more = connection.given_is.0 in
     let late = connection.taken_is.0 in
-    let owed : was.served.turns.given ++ was.served.talk.owed
-    ≡ frames said.payloads ++ (new.held ++ (more ++ was.served.talk.owed)) =
-    ap (λ (z : List ℕ). z ++ was.served.talk.owed)
-    (connection.given_is.1 ∙ ap (λ (z : List ℕ). z ++ more) said.cut)
-    ∙ append_assoc (frames said.payloads ++ new.held) more was.served.talk.owed
-    ∙ append_assoc (frames said.payloads) new.held (more ++ was.served.talk.owed) in
     let fits = run_fits was.served.began b goes.payloads (goes.replies ++ goes.unsaid) goes.run in
     answers_stand (segments b.plan) (starts b.plan) h qs rs said.payloads goes.payloads goes.replies goes.unsaid
-    goes.rest
-    goes.tail (new.held ++ (more ++ was.served.talk.owed)) late was.sendable said.said fits.0 fits.1
-    (session_told b was.served h seen)
-    (connection.taken_is.1 ∙ ap (λ (z : List ℕ). z ++ late) goes.cut
-    ∙ append_assoc (frames goes.payloads) goes.rest late)
-    (sym owed ∙ goes.said)
+    goes.rest goes.tail (new.held ++ (more ++ was.served.talk.owed)) late was.sendable said.said fits.0 fits.1
+    (session_told b was.served h seen) (simp (connection.taken_is.1, goes.cut, append_assoc))
+    (simp (connection.given_is.1, said.cut, append_assoc) at goes.said)
     (tail_is was.served.talk.over was.served.turns.taken goes.payloads goes.replies goes.unsaid goes.rest _ goes.tail
     goes.phase)

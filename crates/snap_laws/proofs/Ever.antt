@@ -11,9 +11,8 @@ use Rattle.snap_restart.specs.Restarts.{Restarts, First, Crashed, Interrupted, S
 use Rattle.snap_restart.proofs.Starts.{all_devices, history_on, last}
 use Rattle.snap_restart.{proofs.LifeCrash.seen_saw, proofs.LifeStarts.StartsAfter, specs.Crash.AreOpened}
 use Rattle.snap_restart.{specs.Crash.GoesOn, proofs.Commands.stored, proofs.Commands.cut_off, proofs.Crash.starts_after}
-use Rattle.snap_laws.specs.Told.{Stands, IsTold}
+use Rattle.snap_laws.specs.{Told.Stands, Told.IsTold, Ever.WasTold, Ever.WasEverTold, Ever.EverLaw}
 use Rattle.snap_laws.specs.Laws.{SessionUpTo, SessionTold, WasAnswered, AllStand, WasSeenIn}
-use Rattle.snap_laws.specs.Ever.{WasTold, WasEverTold, EverLaw}
 use Rattle.snap_laws.proofs.Stands.{stands_on, stands_earlier, stands_without, beside_map, beside_at}
 use Rattle.snap_laws.proofs.{ClientAnswers.answered_stands, Runs.session_told}
 use Rattle.snap_disk.specs.declared.disk.Disk as Disk
@@ -24,12 +23,9 @@ pub seen_then : (plan : Plan) (s : Moment) (kept : Kept plan s)
 seen_then plan s kept seen was = beginning-trans seen was.0 (updates kept.history) was.2
     (seen_saw plan s kept was.0 was.1)
 
-module _ {D : Type 0} (disk : Disk.Ghosts D) (devices : List D)
-    (writers : List (WriterState D))
-    (opened : AreOpened disk devices writers) (start : Start)
-    (before : List Update) (earlier : List (Place D))
-    (on : GoesOn disk opened.plan start before earlier writers)
-    (s : Moment) (kept : Kept opened.plan s) where
+module _ {D : Type 0} (disk : Disk.Ghosts D) (devices : List D) (writers : List (WriterState D))
+    (opened : AreOpened disk devices writers) (start : Start) (before : List Update) (earlier : List (Place D))
+    (on : GoesOn disk opened.plan start before earlier writers) (s : Moment) (kept : Kept opened.plan s) where
   abbrev n : ℕ
   n = length writers
 
@@ -47,12 +43,10 @@ module _ {D : Type 0} (disk : Disk.Ghosts D) (devices : List D)
     -- what is in the history of this opening is in the whole history, after the earlier one
     stood : (q : Request) (r : Reply) → Stands (segments b.plan) (starts b.plan) now q r
         → Stands n start (base ++ now) q r
-    stood q r is = stands_earlier n start base (starts opened.plan) after now q r
-        (rw opened.all (rw same at is))
+    stood q r is = stands_earlier n start base (starts opened.plan) after now q r (rw opened.all (rw same at is))
 
     pub session_stands : (t : SessionUpTo b) → SessionTold t n start (base ++ now)
-    session_stands t = beside_map
-        (λ x y. IsTold (segments b.plan) (starts b.plan) now x y)
+    session_stands t = beside_map (λ x y. IsTold (segments b.plan) (starts b.plan) now x y)
         (λ x y. IsTold n start (base ++ now) x y)
         (λ x y told q r number asks says. stood q r (told q r number asks says)) _ _
         (session_told b t now (seen_then opened.plan s kept b.seen was))
@@ -61,19 +55,15 @@ module _ {D : Type 0} (disk : Disk.Ghosts D) (devices : List D)
         (contents : W → Option (List ℕ)) (qs : List Request) (rs : List Reply)
         → WasAnswered remaining contents b qs rs → AllStand n start (base ++ now) qs rs
     client_stands remaining contents qs rs answered = beside_map
-        (λ q r. Stands (segments b.plan) (starts b.plan) now q r)
-        (λ q r. Stands n start (base ++ now) q r) stood qs rs
-        (answered_stands remaining contents b qs rs now answered
-        (seen_then opened.plan s kept b.seen was))
+        (λ q r. Stands (segments b.plan) (starts b.plan) now q r) (λ q r. Stands n start (base ++ now) q r) stood qs rs
+        (answered_stands remaining contents b qs rs now answered (seen_then opened.plan s kept b.seen was))
 
-  pub before_stands : (q : Request) (r : Reply) → Stands n start before q r
-      → Stands n start (base ++ now) q r
+  pub before_stands : (q : Request) (r : Reply) → Stands n start before q r → Stands n start (base ++ now) q r
   before_stands q r stands = stands_on n start before (base ++ now) q r
       (on.more ++ now, append_assoc before on.more now) stands
 
-  pub told_stands : {R W : Type 0} (remaining : R → Option (List ℕ))
-      (contents : W → Option (List ℕ)) (q : Request) (r : Reply)
-      → WasTold remaining contents opened.plan s.views q r → Stands n start (base ++ now) q r
+  pub told_stands : {R W : Type 0} (remaining : R → Option (List ℕ)) (contents : W → Option (List ℕ)) (q : Request)
+      (r : Reply) → WasTold remaining contents opened.plan s.views q r → Stands n start (base ++ now) q r
   told_stands remaining contents q r (b, same, was, inl replied) =
       beside_at (λ x y. IsTold n start (base ++ now) x y) _ _ replied.place replied.payload
       replied.reply (session_stands b same was replied.served)
@@ -92,18 +82,15 @@ module _ {D R W : Type 0} (disk : Disk.Ghosts D) (remaining : R → Option (List
   unfolding last
   stands_ever n start [] _ (First _ devices kept) q r told = absurd told
   stands_ever n start (_ ∷ _) _
-      (Crashed _ moments devices nexts writers crashed s past opened hon kept count each follow) q r
-      told =
+      (Crashed _ moments devices nexts writers crashed s past opened hon kept count each follow) q r told =
       let l = last disk n start moments devices past in
       let on = history_on disk n start moments devices l writers opened hon in
       let h = (l.history ++ on.more) ++ updates kept.history in
       let all : length writers ≡ n = opened.one_each ∙ all_devices disk n start moments devices l in
       subst (λ (k : ℕ). Stands k start h q r) all (⊎_elim
-      (λ t. told_stands disk devices writers opened start l.history l.crashed on s kept remaining
-      contents q r t)
+      (λ t. told_stands disk devices writers opened start l.history l.crashed on s kept remaining contents q r t)
       (λ t. before_stands disk devices writers opened start l.history l.crashed on s kept q r
-      (rw all (stands_ever n start moments devices past q r t)))
-      told)
+      (rw all (stands_ever n start moments devices past q r t))) told)
   stands_ever n start _ _ (Interrupted _ moments devices news nexts past stay follow) q r told =
       stands_ever n start moments devices past q r told
   stands_ever n start _ _ (Spared _ moments devices nexts past same) q r told =
@@ -122,20 +109,15 @@ module _ {D R W : Type 0} (disk : Disk.Ghosts D) (remaining : R → Option (List
       ))
       (λ t. stands_on n start l.history h q r
       (is.more ++ update i v ∷ [], append_assoc l.history is.more (update i v ∷ []))
-      (stands_ever n start moments devices past q r t))
-      told
+      (stands_ever n start moments devices past q r t)) told
   stands_ever n start (_ ∷ _) _ (PutCutOff _ moments devices nexts i k u v past held works) q r told =
       let l = last disk n start moments devices past in
       let is = cut_off disk n start l.history l.crashed devices nexts l.kept i k u v held works in
       stands_on n start l.history (l.history ++ is.more) q r (is.more, refl)
       (stands_ever n start moments devices past q r told)
-  stands_ever n next rest _ (Remade start _ moments _ devices nexts i k v past works from rest_is) q r
-      told =
+  stands_ever n next rest _ (Remade start _ moments _ devices nexts i k v past works from rest_is) q r told =
       rw from (stands_without n start i k v (last disk n start moments devices past).history q r told.0
       (stands_ever n start moments devices past q r told.1))
 
   pub ever : EverLaw disk remaining contents
-  ever n start moments devices past = (
-    last disk n start moments devices past,
-    stands_ever n start moments devices past,
-  )
+  ever n start moments devices past = (last disk n start moments devices past, stands_ever n start moments devices past)

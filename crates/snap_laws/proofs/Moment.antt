@@ -3,11 +3,10 @@ use Rattle.std.proofs.Common.{◌≡◌, ℕ, zero, suc, ◌+◌, ◌-◌, ◌<�
 use Rattle.std.proofs.Common.{sym, subst, ◌∙◌, arith, length-append}
 use Rattle.std.proofs.lemmas.Option.{slice_get_within}
 use Rattle.snap_register.specs.Rule.{segments, seats, size, IsWriter, Kept, first_role, without_first_role}
-use Rattle.snap_register.specs.Setup.{first_view, opening_words, IsReady, IsFirst}
-use Rattle.snap_register.proofs.Opens.{opens, first_is, enough, bare, first_after}
-use Rattle.snap_register.specs.{Registers.Moment, declared.plan.Plan.Plan}
-use Rattle.snap_register.specs.{declared.plan.SeatView.SeatView, History.updates, History.only}
-use Rattle.snap_register.proofs.{Joins.gives, Updates.updates_count}
+use Rattle.snap_register.specs.{Setup.first_view, Setup.opening_words, Setup.IsReady, Setup.IsFirst, Registers.Moment}
+use Rattle.snap_register.proofs.{Opens.opens, Opens.first_is, Opens.enough, Opens.bare, Opens.first_after, Joins.gives}
+use Rattle.snap_register.specs.{declared.plan.Plan.Plan, declared.plan.SeatView.SeatView, History.updates, History.only}
+use Rattle.snap_register.proofs.Updates.{updates_count}
 use Rattle.snap_writer.specs.{Writer.WriterState, Life.Place, Life.seen_at}
 use Rattle.snap_restart.specs.{LifeLaws.IsSeatOf, Crash.IsLifeFrom, Restarts.Crashed}
 use Rattle.snap_laws.specs.Moment.{ShowNothing, HasNone, AtOnceLaw, OverLaw}
@@ -19,8 +18,7 @@ use Rattle.snap_disk.specs.declared.disk.Disk as Disk
 
 -- ---- the end of a list of views
 
-inside_still : {A : Type 0} (xs ys : List A) (i : ℕ) (x : A) → get_elem? xs i ≡ some x
-    → get_elem? (xs ++ ys) i ≡ some x
+inside_still : {A : Type 0} (xs ys : List A) (i : ℕ) (x : A) → get_elem? xs i ≡ some x → get_elem? (xs ++ ys) i ≡ some x
 inside_still [] ys i x e = absurd (cc e)
 inside_still (z ∷ xs) ys zero x e = e
 inside_still (z ∷ xs) ys (suc i) x e = inside_still xs ys i x e
@@ -46,25 +44,20 @@ module _ (p : Plan) (ready : IsReady p) where
     pub left_is : left + k ≡ seats p
     pub is_first : IsFirst {S = Unit {0}} (size p) left (first, [])
     pub many : length others ≡ k
-    pub writers : (i : ℕ) → i < k → (v : SeatView) × (get_elem? others i ≡ some v)
-        × IsWriter v i × (v.seen ≡ [])
+    pub writers : (i : ℕ) → i < k → (v : SeatView) × (get_elem? others i ≡ some v) × IsWriter v i × (v.seen ≡ [])
 
   one_more : (k : ℕ) → k < segments p → Handed k → Handed (suc k)
   one_more k low h =
       let v = h.first in
       let f = h.is_first in
-      let left_is = h.left_is in
-      let low_is = h.low_is in
-      let high_is = h.high_is in
       let some_left : 0 < h.left = omega arith in
       let any = enough (Unit {0}) (size p) h.left (v, []) f some_left in
       let role : v.low < v.high = omega arith in
       record {
         first = without_first_role v;
         others = h.others ++ first_role v ∷ [];
-        kept = gives (Unit {0}) p 0 v f.seen_end_is f.pool_end_is role
-            (bare (Unit {0}) (size p) h.left (v, []) f) any.0 any.1
-            (table (v ∷ h.others)) h.kept refl;
+        kept = gives (Unit {0}) p 0 v f.seen_end_is f.pool_end_is role (bare (Unit {0}) (size p) h.left (v, []) f) any.0
+            any.1 (table (v ∷ h.others)) h.kept refl;
         plan_is = h.plan_is;
         low_is = omega arith;
         high_is = h.high_is;
@@ -132,16 +125,12 @@ module _ (p : Plan) (ready : IsReady p) where
 
   pub seat_there : {D : Type 0} (m : AtOnce) (i : ℕ) (place : Place D) → i < segments p
       → seen_at place ≡ [] → IsSeatOf m.state.views i place
-  seat_there m i place low none =
-      let seat = m.seat i low in
-      (seat.0, seat.1, seat.2, seat.3, rw (none, seat.4))
+  seat_there m i place low none = let seat = m.seat i low in (seat.0, seat.1, seat.2, seat.3, rw (none, seat.4))
 
 module _ {D : Type 0} (disk : Disk.Ghosts D) where
-  seats_there : (plan : Plan) (ready : IsReady plan) (m : AtOnce plan ready)
-      (writers : List (WriterState D)) (places : List (Place D)) → length writers ≡ segments plan
-      → length places ≡ length writers
-      → ShowNothing disk writers places
-      → (i : ℕ) (q : Place D) → slice_get places i ≡ Some q
+  seats_there : (plan : Plan) (ready : IsReady plan) (m : AtOnce plan ready) (writers : List (WriterState D))
+      (places : List (Place D)) → length writers ≡ segments plan → length places ≡ length writers
+      → ShowNothing disk writers places → (i : ℕ) (q : Place D) → slice_get places i ≡ Some q
       → IsLifeFrom disk writers i q × IsSeatOf m.state.views i q
   seats_there plan ready m writers places all size nothing i q at =
       let is = nothing i q at in

@@ -8,13 +8,11 @@ use Rattle.snap_history.proofs.{Beginnings.beginning-self, Beginnings.number-beg
 use Rattle.snap_memory.proofs.Collects.{grows_self}
 use Rattle.snap_register.specs.{declared.plan.Plan.Plan, History.starts, Seat.Known}
 use Rattle.snap_writer.{specs.Life.resting, specs.Life.Sees, specs.Writer.WriterState, proofs.Crashes.CountsNow}
-use Rattle.snap_restart.specs.Crash.{AreOpened, StayKept, AnyCut}
-use Rattle.snap_restart.proofs.Crash.{its_segment, its_device, opened_on, unmap}
-use Rattle.snap_restart.specs.{LifeCrash.Recovers, Closed.IsHistory, Opened.IsBack, Opened.IsOpened, Restarts.First}
-use Rattle.snap_restart.specs.Restarts.{Interrupted}
-use Rattle.snap_restart.proofs.{Placed.same_file, LifeCrash.each_seen, Removals.get_map}
-use Rattle.snap_laws.specs.Worked.{IsLeft, IsRecoveredNow, KeepAStart, ComeThrough}
-use Rattle.snap_laws.specs.Again.{AreOfOne}
+use Rattle.snap_restart.specs.{Crash.AreOpened, Crash.StayKept, Crash.AnyCut, LifeCrash.Recovers, Closed.IsHistory}
+use Rattle.snap_restart.proofs.{Crash.its_segment, Crash.its_device, Crash.opened_on, Crash.unmap, Placed.same_file}
+use Rattle.snap_restart.specs.{Opened.IsBack, Opened.IsOpened, Restarts.First, Restarts.Interrupted}
+use Rattle.snap_restart.proofs.{LifeCrash.each_seen, Removals.get_map}
+use Rattle.snap_laws.specs.{Worked.IsLeft, Worked.IsRecoveredNow, Worked.KeepAStart, Worked.ComeThrough, Again.AreOfOne}
 use Rattle.snap_disk.specs.declared.disk.Disk as Disk
 
 abbrev pub seen_of : Known → List Update
@@ -25,16 +23,13 @@ module _ {D : Type 0} (disk : Disk.Ghosts D) where
   sees_itself w = record { segment_is = refl; grows = grows_self w.seat }
 
   -- what a crash leaves of the devices of writers at rest, whatever these did
-  pub at_rest_recovers : (plan : Plan) (h : List Update) (writers : List (WriterState D))
-      (scanners : List Known) → AreOfOne disk plan writers → IsHistory h writers scanners
-      → AnyCut disk h writers scanners → (files : List (List ℕ))
-      → Pairs (IsLeft disk) (map its_device writers) files
-      → Recovers (length (map resting writers)) (starts plan) h (map resting writers)
-      (map seen_of scanners) files
+  pub at_rest_recovers : (plan : Plan) (h : List Update) (writers : List (WriterState D)) (scanners : List Known)
+      → AreOfOne disk plan writers → IsHistory h writers scanners → AnyCut disk h writers scanners
+      → (files : List (List ℕ)) → Pairs (IsLeft disk) (map its_device writers) files
+      → Recovers (length (map resting writers)) (starts plan) h (map resting writers) (map seen_of scanners) files
   at_rest_recovers plan h writers scanners are history cut files left =
       let start = starts plan in
-      let below = each_seen (λ (x : List Update). IsBeginning x h) (map resting writers)
-      (map seen_of scanners)
+      let below = each_seen (λ (x : List Update). IsBeginning x h) (map resting writers) (map seen_of scanners)
       (λ i p e. let w = unmap resting writers i p e in rw (← w.2) (history.writers_saw i w.0 w.1).0)
       (λ k x e. let s = unmap seen_of scanners k x e in rw (← s.2) (history.scanners_saw k s.0 s.1)) in
       cut plan (map resting writers) (map seen_of scanners) files (length-map writers resting)
@@ -47,8 +42,7 @@ module _ {D : Type 0} (disk : Disk.Ghosts D) where
       (λ j x e i p at.
       let w = unmap resting writers i p at in
       let rises = number-beginning start x h i (below j x e) in
-      rw (← w.2) (omega (arith, rises, (history.writers_saw i w.0 w.1).1)))
-      (record {
+      rw (← w.2) (omega (arith, rises, (history.writers_saw i w.0 w.1).1))) (record {
         size = length-map writers resting ∙ sym (length-map writers its_device) ∙ left.size;
         each = λ i p b ep eb.
             let w = unmap resting writers i p ep in
@@ -88,8 +82,7 @@ module _ {D : Type 0} (disk : Disk.Ghosts D) where
               let now = opened.starts_are i w.0 w.1 in
               same_file refl (sym opened.one_each ∙ sym size) (omega (arith, now.0)) now.1
               (at_rest_leaves i (length olds) w.0.segment.number w.0.segment.value
-              w.0.segment.spare_open (disk.device w.0.segment.device)
-              (is.rests (hon i w.0.segment.device there)) b
+              w.0.segment.spare_open (disk.device w.0.segment.device) (is.rests (hon i w.0.segment.device there)) b
               (left.each i w.0.segment.device b there eb));
         }),
       )

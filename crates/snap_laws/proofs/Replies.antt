@@ -3,8 +3,7 @@ use Rattle.std.proofs.Common.{◌≡◌, ⊎_elim, inl, inr, ℕ, ◌^◌, ◌<�
 use Rattle.snap_disk.specs.declared.refusal.Refusal.{Refusal}
 use Rattle.snap_history.specs.History.{Update, IsBeginning}
 use Rattle.snap_history.proofs.Beginnings.{beginning-self, beginning-trans}
-use Rattle.snap_register.specs.Seat.{Known, Grows, IsMemory}
-use Rattle.snap_register.specs.{History.starts, Rule.segments}
+use Rattle.snap_register.specs.{Seat.Known, Seat.Grows, Seat.IsMemory, History.starts, Rule.segments}
 use Rattle.snap_scan.proofs.Sets.{at_below}
 use Rattle.snap_memory.specs.{Scans.BeginsFresh, Scans.MayRefuse, Sets.size, Values.pair_of}
 use Rattle.snap_frame.specs.declared.reply.Reply.TheVariants.{Stored, Snapshot, Status, Part, Refused}
@@ -33,8 +32,7 @@ sees_grown a b grows = (grows.plan, grows.later)
 -- ---- a reply keeps what was seen
 
 scan_refused : (k : ℕ) (a b : Known) (why : Refusal) → MayRefuse k a why b → Sees a b
-scan_refused k a b why = ⊎_elim
-    (λ m. ⊎_elim (sees_same a b) (λ more. sees_grown a b more.0) m.1)
+scan_refused k a b why = ⊎_elim (λ m. ⊎_elim (sees_same a b) (λ more. sees_grown a b more.0) m.1)
     (λ worn. sees_same a b worn.2)
 
 pub answered : (a b : Known) (q : Request) (r : Reply) → Answers a q r b → Sees a b
@@ -53,26 +51,22 @@ answered a b q r is = absurd is
 
 -- ---- what a reply says is in the history
 
-pub stored : (a b : Known) (i k n : ℕ) (v : List ℕ) (h : List Update)
-    → AnswersUpdate a i k v (Stored n) b → IsBeginning b.seen h
-    → (i < segments b.plan) × (n ≡ k) × Has (starts b.plan) h i k v
+pub stored : (a b : Known) (i k n : ℕ) (v : List ℕ) (h : List Update) → AnswersUpdate a i k v (Stored n) b
+    → IsBeginning b.seen h → (i < segments b.plan) × (n ≡ k) × Has (starts b.plan) h i k v
 stored a b i k n v h (Outside far is same) seen = absurd (cc is)
 stored a b i k n v h (Long inside long is same) seen = absurd (cc is)
 stored a b i k n v h (Unseen inside short none is same) seen = absurd (cc is)
-stored a b i k n v h (Settled inside short is grows) seen =
-    (rw grows.plan inside, is.0, (b.seen, seen, is.1, is.2))
+stored a b i k n v h (Settled inside short is grows) seen = (rw grows.plan inside, is.0, (b.seen, seen, is.1, is.2))
 
-pub snapshot : (a b : Known) (values : _) (h : List Update) → AnswersScan a (Snapshot values) b
-    → IsBeginning b.seen h
+pub snapshot : (a b : Known) (values : _) (h : List Update) → AnswersScan a (Snapshot values) b → IsBeginning b.seen h
     → (part : List Update) × IsBeginning a.seen part × BeginsFresh a b part × IsBeginning part h
     × IsMemory b part (map pair_of values.items)
 snapshot a b values h is seen =
     let s = is.0 in
     (s.part, s.begins, s.fresh, beginning-trans s.part b.seen h s.within seen, s.is_memory)
 
-pub snapshot_part : (a b : Known) (set : ℕ) (values : _) (h : List Update)
-    → AnswersPart a set (Part values) b → IsBeginning b.seen h
-    → (part : List Update) × IsBeginning a.seen part × BeginsFresh a b part × IsBeginning part h
+pub snapshot_part : (a b : Known) (set : ℕ) (values : _) (h : List Update) → AnswersPart a set (Part values) b
+    → IsBeginning b.seen h → (part : List Update) × IsBeginning a.seen part × BeginsFresh a b part × IsBeginning part h
     × IsPartAfter (segments b.plan) (starts b.plan) set part values.items
 snapshot_part a b set values h is seen =
     let s = is.values in

@@ -14,18 +14,15 @@ answer_sees a b x y (fits, inr malformed) = sees_same a b malformed.1
 run_sees : (between : Known → Known → Type 0) → ((a b : Known) → between a b → Sees a b)
     → (a b : Known) (xs ys : List (List ℕ)) → Run between Answers a xs ys b → Sees a b
 run_sees between sees a b [] [] run = sees a b run
-run_sees between sees a b (x ∷ xs) (y ∷ ys) run =
-    sees_then a run.0 b (sees a run.0 run.2)
-    (sees_then run.0 run.1 b (answer_sees run.0 run.1 x y run.3)
-    (run_sees between sees run.1 b xs ys run.4))
+run_sees between sees a b (x ∷ xs) (y ∷ ys) run = sees_then a run.0 b (sees a run.0 run.2)
+    (sees_then run.0 run.1 b (answer_sees run.0 run.1 x y run.3) (run_sees between sees run.1 b xs ys run.4))
 run_sees between sees a b xs ys run = absurd run
 
 moves_sees : (a b : Known) → Moves Answers a b → Sees a b
 moves_sees a b moves = run_sees Stays sees_same a b moves.0 moves.1 moves.2
 
-run_told : (a b : Known) (h : List Update) (xs ys : List (List ℕ))
-    → Run (Moves Answers) Answers a xs ys b → IsBeginning b.seen h
-    → AreTold (segments b.plan) (starts b.plan) h xs ys
+run_told : (a b : Known) (h : List Update) (xs ys : List (List ℕ)) → Run (Moves Answers) Answers a xs ys b
+    → IsBeginning b.seen h → AreTold (segments b.plan) (starts b.plan) h xs ys
 run_told a b h [] [] run seen = tt
 run_told a b h (x ∷ xs) (y ∷ ys) run seen =
     let later = run_sees (Moves Answers) moves_sees run.1 b xs ys run.4 in (

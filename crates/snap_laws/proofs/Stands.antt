@@ -29,8 +29,7 @@ stands_on n start h whole q r longer is = tt
 abbrev memory_at : Start → List Update → ℕ → ℕ × List ℕ
 memory_at start part i = (number_after start part i, value_after start part i)
 
-module _ (n : ℕ) (start : Start) (base : List Update) (next : Start)
-    (after : StartsAfter n start base next) where
+module _ (n : ℕ) (start : Start) (base : List Update) (next : Start) (after : StartsAfter n start base next) where
   begins_on : (part h : List Update) → IsBeginning part h → IsBeginning (base ++ part) (base ++ h)
   begins_on part h b = (b.0, ap (λ (x : List Update). base ++ x) b.1 ∙ sym (append_assoc base part b.0))
 
@@ -56,9 +55,8 @@ module _ (n : ℕ) (start : Start) (base : List Update) (next : Start)
 
 -- ---- a history in which one segment begins again
 
-pub stands_without : (n : ℕ) (start : Start) (i k : ℕ) (v : List ℕ) (h : List Update) (q : Request)
-    (r : Reply) → UpdatesAnother i q → Stands n start h q r
-    → Stands n (from_there start i k v) (without i h) q r
+pub stands_without : (n : ℕ) (start : Start) (i k : ℕ) (v : List ℕ) (h : List Update) (q : Request) (r : Reply)
+    → UpdatesAnother i q → Stands n start h q r → Stands n (from_there start i k v) (without i h) q r
 stands_without n start i k v h (request.Update j l w) (Stored m) other is =
     let part = is.2.0 in
     let rest = is.2.1.0 in

@@ -18,14 +18,12 @@ use Rattle.snap_disk.specs.declared.disk.Disk as Disk
 
 module _ {D : Type 0} (disk : Disk.Ghosts D) where
   -- to show an update, or to see more, leaves the segment unchanged
-  same_segment : (b z : WriterState D) → (Shows disk b z)
-      ⊎ (Sees disk b z) → z.segment ≡ b.segment
+  same_segment : (b z : WriterState D) → (Shows disk b z) ⊎ (Sees disk b z) → z.segment ≡ b.segment
   same_segment b z (inl shows) = shows.segment_is
   same_segment b z (inr sees) = sees.segment_is
 
-  module _ (plan : Plan) (i : ℕ) (v : List ℕ) (a z : WriterState D)
-      (is : IsWriterOf disk plan 2 i a) (fresh : a.seat.seen ≡ [])
-      (first : StoresFirst disk v a z) where
+  module _ (plan : Plan) (i : ℕ) (v : List ℕ) (a z : WriterState D) (is : IsWriterOf disk plan 2 i a)
+      (fresh : a.seat.seen ≡ []) (first : StoresFirst disk v a z) where
     none_seen : IsBeginning first.0.seat.seen []
     none_seen = rw (first.1.seat_is, fresh) (beginning-self [])
 
@@ -33,8 +31,7 @@ module _ {D : Type 0} (disk : Disk.Ghosts D) where
     lived_at p there = (a, first.0, first.0 ∷ [], is, (inr (inl (v, first.1)), refl), there, none_seen)
 
     -- inside its store
-    lived_inside : IsLivedIn disk plan 2 [] i
-        (in_store a v z.segment.device)
+    lived_inside : IsLivedIn disk plan 2 [] i (in_store a v z.segment.device)
     lived_inside = lived_at _ (inr (inl (
       a,
       v,
@@ -45,8 +42,7 @@ module _ {D : Type 0} (disk : Disk.Ghosts D) where
     )))
 
     -- between its store and its show
-    lived_between : IsLivedIn disk plan 2 [] i
-        (stored_unshown a z)
+    lived_between : IsLivedIn disk plan 2 [] i (stored_unshown a z)
     lived_between = lived_at _ (inr (inr (
       first.0,
       sees_itself disk first.0,
@@ -54,9 +50,7 @@ module _ {D : Type 0} (disk : Disk.Ghosts D) where
       rw (same_segment first.0 z first.2, first.1.seat_is),
     )))
 
-  module _ (plan : Plan) (p q : Place D)
-      (first : IsLivedIn disk plan 2 [] 0 p)
-      (second : IsLivedIn disk plan 2 [] 1 q)
+  module _ (plan : Plan) (p q : Place D) (first : IsLivedIn disk plan 2 [] 0 p) (second : IsLivedIn disk plan 2 [] 1 q)
       (p_fresh : seen_at p ≡ []) (q_fresh : seen_at q ≡ []) where
     of_both : (P : ℕ → Place D → Type 0) → P 0 p → P 1 q → (i : ℕ) (r : Place D)
         → slice_get (p ∷ q ∷ []) i ≡ Some r → P i r
@@ -77,14 +71,11 @@ module _ {D : Type 0} (disk : Disk.Ghosts D) where
         (λ k x there. absurd (cc there)) j seen e in
         let one = ap (λ (h : List Update). number_after (starts plan) h i) fresh in
         let two = ap (λ (h : List Update). number_after (starts plan) h i) (fresh_at i r at) in
-        omega (arith, one, two)))
-        left
+        omega (arith, one, two))) left
 
   -- both made an update, stored first and then shown
-  module _ (first second first_new second_new : WriterState D) (v w : List ℕ)
-      (two : AreTwo disk first second)
-      (one : StoresFirst disk v first first_new)
-      (other : StoresFirst disk w second second_new) where
+  module _ (first second first_new second_new : WriterState D) (v w : List ℕ) (two : AreTwo disk first second)
+      (one : StoresFirst disk v first first_new) (other : StoresFirst disk w second second_new) where
     abbrev plan : Plan
     plan = first.seat.plan
 
@@ -94,32 +85,24 @@ module _ {D : Type 0} (disk : Disk.Ghosts D) where
     second_between : IsLivedIn disk plan 2 [] 1 (stored_unshown second second_new)
     second_between = lived_between plan 1 w second second_new two.second_is two.second_fresh other
 
-    -- both inside their stores; one inside its store and the other stored; both stored and not yet
-    -- shown
+    -- both inside their stores; one inside its store and the other stored; both stored and not yet shown
     pub at_work : IsRecoveredAt disk plan (in_store first v first_new.segment.device
         ∷ in_store second w second_new.segment.device ∷ [])
-        × IsRecoveredAt disk plan (in_store first v first_new.segment.device
-        ∷ stored_unshown second second_new ∷ [])
-        × IsRecoveredAt disk plan (stored_unshown first first_new
-        ∷ stored_unshown second second_new ∷ [])
+        × IsRecoveredAt disk plan (in_store first v first_new.segment.device ∷ stored_unshown second second_new ∷ [])
+        × IsRecoveredAt disk plan (stored_unshown first first_new ∷ stored_unshown second second_new ∷ [])
     at_work = (
-      recovered_at plan _ _ first_inside
-          (lived_inside plan 1 w second second_new two.second_is two.second_fresh other)
+      recovered_at plan _ _ first_inside (lived_inside plan 1 w second second_new two.second_is two.second_fresh other)
           two.first_fresh two.second_fresh,
       recovered_at plan _ _ first_inside second_between two.first_fresh two.second_fresh,
-      recovered_at plan _ _
-          (lived_between plan 0 v first first_new two.first_is two.first_fresh one)
-          second_between two.first_fresh two.second_fresh,
+      recovered_at plan _ _ (lived_between plan 0 v first first_new two.first_is two.first_fresh one) second_between
+          two.first_fresh two.second_fresh,
     )
 
 -- ---- an opening meets these premises
 
 pub two_popped : {A : Type 0} (all mid rest : List A) (r s : Option A) (x y : A) → length all ≡ 2
-    → all ≡ mid ++ option_to_list r → r ≡ Some y → mid ≡ rest ++ option_to_list s → s ≡ Some x
-    → all ≡ x ∷ y ∷ []
-two_popped all mid [] r s x y size one er two es =
-    one ∙ ap (λ (o : Option _). mid ++ option_to_list o) er
-    ∙ ap (λ (l : List _). l ++ y ∷ []) (two ∙ ap (λ (o : Option _). option_to_list o) es)
+    → all ≡ mid ++ option_to_list r → r ≡ Some y → mid ≡ rest ++ option_to_list s → s ≡ Some x → all ≡ x ∷ y ∷ []
+two_popped all mid [] r s x y size one er two es = rw (one, er, two, es)
 two_popped all mid (z ∷ zs) r s x y size one er two es =
     let ry = ap (λ (o : Option _). length (option_to_list o)) er in
     let sx = ap (λ (o : Option _). length (option_to_list o)) es in
@@ -128,9 +111,8 @@ two_popped all mid (z ∷ zs) r s x y size one er two es =
 pub below_last : (k : ℕ) → IsNumber k → (k ≡ LAST_NUMBER → ⊥) → IsNumber (k + 1)
 below_last k low other = omega arith
 
-module _ {D : Type 0} (disk : Disk.Ghosts D) (devices : List D)
-    (writers : List (WriterState D)) (x y : WriterState D) (are : writers ≡ x ∷ y ∷ [])
-    (new : AreNew disk devices writers) where
+module _ {D : Type 0} (disk : Disk.Ghosts D) (devices : List D) (writers : List (WriterState D)) (x y : WriterState D)
+    (are : writers ≡ x ∷ y ∷ []) (new : AreNew disk devices writers) where
   at_0 : slice_get writers 0 ≡ Some x
   at_0 = ap (λ (l : List (WriterState D)). slice_get l 0) are
 
@@ -143,8 +125,7 @@ module _ {D : Type 0} (disk : Disk.Ghosts D) (devices : List D)
   same_plan : x.seat.plan ≡ new.opened.plan
   same_plan = (new.opened.writers_are 0 x at_0).plan_is
 
-  of_two : (i : ℕ) (w : WriterState D) → slice_get writers i ≡ Some w
-      → IsWriterOf disk x.seat.plan 2 i w
+  of_two : (i : ℕ) (w : WriterState D) → slice_get writers i ≡ Some w → IsWriterOf disk x.seat.plan 2 i w
   of_two i w at = rw (← same_plan, two) at (new.opened.writers_are i w at)
 
   pub are_two : AreTwo disk x y
@@ -160,19 +141,11 @@ module _ {D : Type 0} (disk : Disk.Ghosts D) (devices : List D)
   goes_at i w k v at short next number =
       let is = (opened_on disk devices writers new.were i w at).2 in
       let left = (new.fresh i w at).1 in
-      let count : segments w.seat.plan ≡ 2 =
-      ap (λ (p : Plan). segments p) (new.opened.writers_are i w at).plan_is
-      ∙ sym new.opened.all ∙ two in (
-        (short, next),
-        number,
-        is.unfenced,
-        rw count (omega (arith, left)),
-      )
+      let count : segments w.seat.plan ≡ 2 = rw (new.opened.writers_are i w at).plan_is (sym new.opened.all ∙ two) in
+      ((short, next), number, is.unfenced, rw count (omega (arith, left)))
 
-  pub first_goes : (k : ℕ) (v : List ℕ) → IsShort v → k ≡ number_of x + 1 → IsNumber k
-      → IsJudged x k v Go
+  pub first_goes : (k : ℕ) (v : List ℕ) → IsShort v → k ≡ number_of x + 1 → IsNumber k → IsJudged x k v Go
   first_goes k v = goes_at 0 x k v at_0
 
-  pub second_goes : (k : ℕ) (v : List ℕ) → IsShort v → k ≡ number_of y + 1 → IsNumber k
-      → IsJudged y k v Go
+  pub second_goes : (k : ℕ) (v : List ℕ) → IsShort v → k ≡ number_of y + 1 → IsNumber k → IsJudged y k v Go
   second_goes k v = goes_at 1 y k v at_1

@@ -16,12 +16,8 @@ module _ {D : Type 0} (disk : Disk.Ghosts D) where
   -- is one history, which begins with all that these and their scanners had seen; then come at most
   -- one update of each writer that was begun and not shown, and the second writers' updates.
   abbrev pub GoOnBehind : List (WriterState D) → List Known → List (WriterState D) → Type 0
-  GoOnBehind firsts scanners seconds =
-      AllHonest disk seconds
-      → (plan : Plan) × (next : Plan) × (h : List Update)
-      × AreOfOne plan firsts
-      × ((j : ℕ) (seen : List Update)
+  GoOnBehind firsts scanners seconds = AllHonest disk seconds → (plan : Plan) × (next : Plan) × (h : List Update)
+      × AreOfOne plan firsts × ((j : ℕ) (seen : List Update)
       → slice_get (all_seen (map (λ (w : WriterState D). resting w) firsts)
-      (map (λ (b : Known). b.seen) scanners)) j ≡ Some seen → IsBeginning seen h)
-      × GoesOn disk next (starts plan) h
+      (map (λ (b : Known). b.seen) scanners)) j ≡ Some seen → IsBeginning seen h) × GoesOn disk next (starts plan) h
       (map (λ (w : WriterState D). resting w) firsts) seconds

@@ -28,8 +28,7 @@ module _ {D : Type 0} (disk : Disk.Ghosts D) where
   -- if the device is honest: it continues with any device of which a crash leaves only what one since this store of v
   -- began could leave
   abbrev pub CutOffGoesOn : List ℕ → SegmentState D → SegmentState D → Type 0
-  CutOffGoesOn v old new = disk.is_honest new.device → (cut : D)
-      → ((b : List ℕ) → MayLeave (disk.device cut) b
+  CutOffGoesOn v old new = disk.is_honest new.device → (cut : D) → ((b : List ℕ) → MayLeave (disk.device cut) b
       → disk.might_have_left new.device (disk.clock old.device) b)
       → GoesOnWith old.count old.index ([] ∷ []) old.device cut
 
@@ -41,5 +40,4 @@ module _ {D : Type 0} (disk : Disk.Ghosts D) where
       → Restarts disk n (from_there start i k v) (map (without i) moments) (slice_set devices i new)
 
   abbrev pub InitGoesOn : (i n : ℕ) → D → D → Type 0
-  InitGoesOn i n old new = disk.is_honest new
-      → GoesOnWith n i [] old new ⊎ BeginsAgain n i 0 [] new
+  InitGoesOn i n old new = disk.is_honest new → GoesOnWith n i [] old new ⊎ BeginsAgain n i 0 [] new

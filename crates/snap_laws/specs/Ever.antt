@@ -52,20 +52,16 @@ module _ {D R W : Type 0} (disk : Disk.Ghosts D) (remaining : R → Option (List
   -- a `put` between two openings stored this update. Once a file was made anew, of what came before
   -- only the updates of other segments count.
   abbrev pub WasEverTold : (n : ℕ) (start : Start) (moments : List (List Update))
-      (devices : List D) → Restarts disk n start moments devices
-      → Request → Reply → Type 0
+      (devices : List D) → Restarts disk n start moments devices → Request → Reply → Type 0
   WasEverTold n start [] _ (First _ devices kept) q r = ⊥
   WasEverTold n start (_ ∷ _) _
       (Crashed _ moments devices nexts writers crashed s past opened hon kept count each follow) q r =
-      WasTold remaining contents opened.plan s.views q r
-      ⊎ WasEverTold n start moments devices past q r
+      WasTold remaining contents opened.plan s.views q r ⊎ WasEverTold n start moments devices past q r
   WasEverTold n start _ _ (Interrupted _ moments devices news nexts past stay follow) q r =
       WasEverTold n start moments devices past q r
-  WasEverTold n start _ _ (Spared _ moments devices nexts past same) q r =
-      WasEverTold n start moments devices past q r
+  WasEverTold n start _ _ (Spared _ moments devices nexts past same) q r = WasEverTold n start moments devices past q r
   WasEverTold n start (_ ∷ _) _ (Put _ moments devices nexts i k u v past held works) q r =
-      ((q ≡ request.Update i (k + 1) v) × (r ≡ Stored (k + 1)))
-      ⊎ WasEverTold n start moments devices past q r
+      ((q ≡ request.Update i (k + 1) v) × (r ≡ Stored (k + 1))) ⊎ WasEverTold n start moments devices past q r
   WasEverTold n start (_ ∷ _) _ (PutCutOff _ moments devices nexts i k u v past held works) q r =
       WasEverTold n start moments devices past q r
   WasEverTold n _ _ _ (Remade start _ moments _ devices nexts i k v past works from rest_is) q r =
@@ -76,7 +72,5 @@ module _ {D R W : Type 0} (disk : Disk.Ghosts D) (remaining : R → Option (List
   -- all that was replied to anybody in any opening, and each update that a `put` stored.
   abbrev pub EverLaw : Type 0
   EverLaw = (n : ℕ) (start : Start) (moments : List (List Update)) (devices : List D)
-      (past : Restarts disk n start moments devices)
-      → (last : Last disk n start moments devices)
-      × ((q : Request) (r : Reply) → WasEverTold n start moments devices past q r
-      → Stands n start last.history q r)
+      (past : Restarts disk n start moments devices) → (last : Last disk n start moments devices)
+      × ((q : Request) (r : Reply) → WasEverTold n start moments devices past q r → Stands n start last.history q r)

@@ -64,5 +64,4 @@ first_update = record { segment = 0; value = 7 ∷ [] }
 -- A client has heard that the first update of that file is stored; and it is in the history.
 abbrev pub FirstHeard : Type 0
 FirstHeard = WasAnswered bytes_of bytes_of (scanner_after (first_update ∷ []))
-    (request.Update 0 1 (7 ∷ []) ∷ []) (Stored 1 ∷ [])
-    × Has (starts one_file) (first_update ∷ []) 0 1 (7 ∷ [])
+    (request.Update 0 1 (7 ∷ []) ∷ []) (Stored 1 ∷ []) × Has (starts one_file) (first_update ∷ []) 0 1 (7 ∷ [])

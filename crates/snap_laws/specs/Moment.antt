@@ -23,11 +23,9 @@ module _ {D : Type 0} (disk : Disk.Ghosts D) where
   -- New registers are at a moment at which nothing is shown: a crash there leaves what the files
   -- were opened with, and at most one update of each that was begun.
   abbrev pub AtOnceLaw : Type 0
-  AtOnceLaw = (devices : List D) (writers : List (WriterState D))
-      (opened : AreOpened disk devices writers)
+  AtOnceLaw = (devices : List D) (writers : List (WriterState D)) (opened : AreOpened disk devices writers)
       → IsReady opened.plan → (places : List (Place D)) (files : List (List ℕ))
-      → length places ≡ length writers → ShowNothing writers places
-      → Pairs (λ _. CrashLeaves disk) places files
+      → length places ≡ length writers → ShowNothing writers places → Pairs (λ _. CrashLeaves disk) places files
       → (h : List Update) × HasNone (length writers) h
       × IsRecovered (length writers) (starts opened.plan) h (Begun places) files
 
@@ -35,10 +33,7 @@ module _ {D : Type 0} (disk : Disk.Ghosts D) where
   abbrev pub OverLaw : Type 0
   OverLaw = (n : ℕ) (start : Start) (moments : List (List Update)) (devices : List D)
       (writers : List (WriterState D)) (places : List (Place D)) (nexts : List D)
-      → Restarts disk n start moments devices
-      → (opened : AreOpened disk devices writers)
-      → AllHonest disk writers
+      → Restarts disk n start moments devices → (opened : AreOpened disk devices writers) → AllHonest disk writers
       → IsReady opened.plan → length places ≡ length writers → ShowNothing writers places
-      → FollowCrash disk places nexts
-      → (h : List Update) × HasNone (length writers) h
+      → FollowCrash disk places nexts → (h : List Update) × HasNone (length writers) h
       × Restarts disk n start (h ∷ moments) nexts

@@ -8,8 +8,7 @@ use Rattle.snap_disk.specs.declared.disk.Disk as Disk
 module _ {D : Type 0} (disk : Disk.Ghosts D) where
   -- w is a writer of some opening
   abbrev pub IsAWriter : WriterState D → Type 0
-  IsAWriter w = (plan : Plan) × (n : ℕ) × (i : ℕ)
-      × IsWriterOf disk plan n i w
+  IsAWriter w = (plan : Plan) × (n : ℕ) × (i : ℕ) × IsWriterOf disk plan n i w
 
   -- a crash at any time since leaves the number stored then, with its value, or a later number
   abbrev pub LosesNothing : WriterState D → WriterState D → Type 0

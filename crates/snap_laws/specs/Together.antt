@@ -22,6 +22,5 @@ module _ {D : Type 0} (disk : Disk.Ghosts D) where
 
   -- a crash that finds the writers at these places is recovered
   abbrev pub IsRecoveredAt : Plan → List (Place D) → Type 0
-  IsRecoveredAt plan places = (files : List (List ℕ))
-      → Pairs (λ _. CrashLeaves disk) places files
+  IsRecoveredAt plan places = (files : List (List ℕ)) → Pairs (λ _. CrashLeaves disk) places files
       → Recovers 2 (starts plan) [] places [] files

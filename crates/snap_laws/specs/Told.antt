@@ -13,8 +13,7 @@ use Rattle.snap_frame.specs.declared.request.Request.TheVariants as request
 pub record IsMemoryAfter (n : ℕ) (start : Start) (part : List Update)
     (pairs : List (ℕ × List ℕ)) : Type 0 where
   pub size : length pairs ≡ n
-  pub each : (i : ℕ) → i < n
-      → slice_get pairs i ≡ Some (number_after start part i, value_after start part i)
+  pub each : (i : ℕ) → i < n → slice_get pairs i ≡ Some (number_after start part i, value_after start part i)
 
 -- these are the segments that the set names, in ascending order, all among the n, each with its
 -- number and its value after the updates `part`
@@ -48,8 +47,7 @@ IsSendable q = HasNumber q × IsAskable q × (length (payload q) ≤ max_payload
 
 -- read as a request and its reply, these payloads say something that is in the history
 abbrev pub IsTold : ℕ → Start → List Update → List ℕ → List ℕ → Type 0
-IsTold n start h x y = (q : Request) (r : Reply) → HasNumber q → Asks x q → Says y r
-    → Stands n start h q r
+IsTold n start h x y = (q : Request) (r : Reply) → HasNumber q → Asks x q → Says y r → Stands n start h q r
 
 -- two lists of equal length, and R holds at each place
 abbrev pub SideBySide : {A B : Type 0} → (A → B → Type 0) → List A → List B → Type 0

@@ -20,8 +20,7 @@ module _ {D : Type 0} (disk : Disk.Ghosts D) where
     pub theirs : devices ≡ map (λ (w : WriterState D). w.segment.device) writers
     pub recovered : (files : List (List ℕ)) → Pairs IsLeft devices files
         → Recovers (length (map (λ (w : WriterState D). resting w) writers)) (starts plan) history
-        (map (λ (w : WriterState D). resting w) writers)
-        (map (λ (b : Known). b.seen) scanners) files
+        (map (λ (w : WriterState D). resting w) writers) (map (λ (b : Known). b.seen) scanners) files
 
   abbrev pub AreHonest : List D → Type 0
   AreHonest devices = (i : ℕ) (d : D) → slice_get devices i ≡ Some d → disk.is_honest d
@@ -29,12 +28,9 @@ module _ {D : Type 0} (disk : Disk.Ghosts D) where
   -- if they are honest, these devices keep the memory of a start, from which any number of crashes
   -- and starts may follow
   abbrev pub KeepAStart : List D → Type 0
-  KeepAStart devices = AreHonest devices → (start : Start)
-      × Restarts disk (length devices) start [] devices
+  KeepAStart devices = AreHonest devices → (start : Start) × Restarts disk (length devices) start [] devices
 
   -- if the second devices are honest, all that happened to the first ones happened to them too
   abbrev pub ComeThrough : List D → List D → Type 0
-  ComeThrough olds news = AreHonest news → (n : ℕ) (start : Start)
-      (moments : List (List Update))
-      → Restarts disk n start moments olds
-      → Restarts disk n start moments news
+  ComeThrough olds news = AreHonest news → (n : ℕ) (start : Start) (moments : List (List Update))
+      → Restarts disk n start moments olds → Restarts disk n start moments news

@@ -10,8 +10,7 @@ use Rattle.snap_laws.specs.{Told.AreTold, Laws.SessionUpTo}
 module _ {S : Type 0} (gives : S → Request → Reply → S → Type 0) (scanner : S → Known) where
   -- a session from its start, while the service went from one state to another, with other sessions'
   -- requests answered between its own
-  abbrev pub SessionOn : S → S → Option (List ℕ) → Option (List ℕ) → Option (List ℕ) → Option (List ℕ)
-      → Talk → Type 0
+  abbrev pub SessionOn : S → S → Option (List ℕ) → Option (List ℕ) → Option (List ℕ) → Option (List ℕ) → Talk → Type 0
   SessionOn first now r0 r1 w0 w1 talk = Turns (Moves gives) gives first now start r0 r1 w0 w1 talk
 
   -- it is a session of the scanner: with the same requests, replies and bytes

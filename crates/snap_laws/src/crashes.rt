@@ -89,11 +89,9 @@ pub fn two_at_once<D: Disk>(
     requires writers { AreTwo D.Disk first.old second.old }
     requires first { IsJudged first.old one value.now Judgement.Go }
     requires second { IsJudged second.old two other.now Judgement.Go }
-    ensures inside { IsRecoveredAt D.Disk
-        first.old.seat.plan (in_store first.old value.now first.new.segment.device
+    ensures inside { IsRecoveredAt D.Disk first.old.seat.plan (in_store first.old value.now first.new.segment.device
         ∷ in_store second.old other.now second.new.segment.device ∷ []) }
-    ensures beside { IsRecoveredAt D.Disk
-        first.old.seat.plan (in_store first.old value.now first.new.segment.device
+    ensures beside { IsRecoveredAt D.Disk first.old.seat.plan (in_store first.old value.now first.new.segment.device
         ∷ stored_unshown second.old second.new ∷ []) }
     ensures between { IsRecoveredAt D.Disk first.old.seat.plan (stored_unshown first.old first.new
         ∷ stored_unshown second.old second.new ∷ []) }
@@ -187,8 +185,7 @@ pub fn put_between<D: Disk, R: Read, W: Write>(
 pub fn store_between<D: Disk>(segment: &mut Segment<D>, value: &[u8]) -> Result<u64, Refusal>
     requires unfenced { segment.old.begun ≡ None }
     requires rests { D.is_honest segment.old.device → IsAtRest segment.old.index
-        segment.old.count segment.old.number segment.old.value segment.old.spare_open
-        (D.device segment.old.device) }
+        segment.old.count segment.old.number segment.old.value segment.old.spare_open (D.device segment.old.device) }
     ensures { CutOffGoesOn D.Disk value.now segment.old segment.new }
 {
     segment.store(value)
@@ -256,8 +253,7 @@ pub fn migrate_between<O: Disk, N: Disk, W: Write>(
     requires old_headroom { O.failure_count old < 2 ^ 64 - 1 }
     requires new_headroom { N.failure_count new < 2 ^ 64 - 1 }
     ensures { OnOk result.2 (O.is_honest result.0 → N.is_honest result.1 → (k : ℕ) × (v : List ℕ)
-        × OldHolds (O.device old).bytes k v
-        × BeginsAgain N.Disk order.now.count order.now.index k v result.1) }
+        × OldHolds (O.device old).bytes k v × BeginsAgain N.Disk order.now.count order.now.index k v result.1) }
 {
     act_pair(alloc, order, old, new, writer)
 }

@@ -1,15 +1,12 @@
 -- What a scan's looks show of what its seat has seen. A moment is a length of that list.
-use Rattle.std.proofs.Common.{◌≡◌, ℕ, ◌+◌, ◌-◌, ◌*◌, ◌^◌, ◌<◌, ◌≤◌, inl, inr, List, [], ◌∷◌, ◌++◌, length, take, drop}
-use Rattle.std.proofs.Common.{replicate, Some, slice_index, slice_get, slice_set, refl, ap, sym, ◌∙◌, arith}
-use Rattle.std.proofs.Common.{append_assoc}
-use Rattle.std.proofs.Math.Seq.{take-append-add, take-append_seam, take-length}
+use Rattle.std.proofs.{Math.Seq.take-append-add, Math.Seq.take-append_seam, Math.Seq.take-length, lemmas.Bool.cases_eq}
 use Rattle.std.proofs.lemmas.List.{take-append-drop, append-nil, length-set, length_push, length-replicate}
-use Rattle.std.proofs.lemmas.List.{length-append, get_or-set_same, get_or-set_other}
-use Rattle.std.proofs.{lemmas.Bool.cases_eq, lemmas.Option.same_Some}
+use Rattle.std.proofs.lemmas.{List.length-append, List.get_or-set_same, List.get_or-set_other, Option.same_Some}
+use Rattle.std.proofs.Common.{replicate, Some, slice_index, slice_get, slice_set, refl, ap, sym, ◌∙◌, arith, ◌≡◌, ℕ, []}
+use Rattle.std.proofs.Common.{append_assoc, ◌+◌, ◌-◌, ◌*◌, ◌^◌, ◌<◌, ◌≤◌, inl, inr, List, ◌∷◌, ◌++◌, length, take, drop}
 use Rattle.snap_history.specs.History.{Update, Start, IsBeginning, number_after}
 use Rattle.snap_history.proofs.Beginnings.{beginning-self, beginning-trans, take-beginning}
-use Rattle.snap_history.proofs.Lists.{get-set_same, get-set_other, get-replicate}
-use Rattle.snap_history.proofs.Moments.{number-le}
+use Rattle.snap_history.proofs.{Lists.get-set_same, Lists.get-set_other, Lists.get-replicate, Moments.number-le}
 use Rattle.snap_scan.specs.Looks.{most_looks, IsClean, IsBorrow, IsTurn, IsNoFall}
 use Rattle.snap_scan.specs.Sets.{Names, named, size, IsAt}
 use Rattle.snap_scan.proofs.Sets.{at_named, named_at, at_once, at_within, at_is, at_below, names_below}
@@ -25,8 +22,7 @@ pub take-begins : (a h : List Update) (p : ℕ) → IsBeginning a h → length a
 take-begins a h p b l =
     let e : p ≡ length a + (p - length a) = omega arith in (
       take (p - length a) b.0,
-      ap (take p) b.1 ∙ ap (λ n. take n (a ++ b.0)) e
-          ∙ take-append-add a b.0 (p - length a),
+      ap (take p) b.1 ∙ ap (λ n. take n (a ++ b.0)) e ∙ take-append-add a b.0 (p - length a),
     )
 
 pub take-within : (h : List Update) (p : ℕ) → IsBeginning (take p h) h
@@ -64,8 +60,7 @@ begins_fresh a b (x ∷ xs) part l is begins = grind arith
 
 -- a scan's looks are also valid for an earlier begin, and before the first look for any begin
 collects_from : {n : ℕ} {number : Numbers} {entry : Entries (List ℕ)} {f f' e : ℕ} {told : List ℕ}
-    {latest : List (List ℕ)} → (0 < length told → f' ≤ f)
-    → Collects (List ℕ) n number entry f e told latest
+    {latest : List (List ℕ)} → (0 < length told → f' ≤ f) → Collects (List ℕ) n number entry f e told latest
     → Collects (List ℕ) n number entry f' e told latest
 collects_from late c = record {
   moment = c.moment;
@@ -89,8 +84,7 @@ rising set start h p s t l = number-le start h (slice_index (named set) p) s t l
 -- the numbers and values that a scan of the set found since moment `from` of the history
 abbrev pub HasToldFrom : ℕ → Start → List Update → ℕ → List ℕ → List (List ℕ) → Type 0
 HasToldFrom set start h from told latest =
-    Collects (List ℕ) (size set) (number_at set start h) (entry_at set start h) from (length h)
-    told latest
+    Collects (List ℕ) (size set) (number_at set start h) (entry_at set start h) from (length h) told latest
 
 -- a scan of the set in progress: it began when the seat knew a, and the seat now knows b
 pub record Gathers (a b : Known) (set : ℕ) (told numbers : List ℕ) : Type 0 where
@@ -184,8 +178,7 @@ module _ (a b c : Known) (set : ℕ) (told numbers : List ℕ) (j k : ℕ)
       (begins-length b.seen c.seen later.later) turn.0)
 
   module _ (bound : length told < most_looks (size set)) (looks : Looks b c j k)
-      (sighted : c.sights ≡ b.sights ++ c.seen ∷ []) (left : c.left + 1 ≡ b.left)
-      (below : IsBelow c) where
+      (sighted : c.sights ≡ b.sights ++ c.seen ∷ []) (left : c.left + 1 ≡ b.left) (below : IsBelow c) where
     last_looks : (q i v : ℕ) → IsAt set q i → slice_get (slice_set g.latest place (k ∷ [])) q ≡ Some (v ∷ [])
         → (looked c i ≡ Some v) × (slice_index (slice_set numbers j k) i ≡ v)
     last_looks q i v here e = elim (cases_eq q place) [
@@ -197,10 +190,8 @@ module _ (a b c : Known) (set : ℕ) (told numbers : List ℕ) (j k : ℕ)
           let wide : j < length numbers = omega (arith, g.wide, (at_named set place j at).0) in
           rw is_j (looks.here ∙ ap Some is, get_or-set_same numbers j k 0 wide ∙ is))
       | inr other ↦ (
-          let apart : i ≡ j → ⊥ = λ same. other (at_once set q place j
-          (here ∙ ap (λ z. Some z) same) at) in
-          let old = g.last_looks q i v here
-          (sym (get-set_other g.latest place q (k ∷ []) other) ∙ e) in
+          let apart : i ≡ j → ⊥ = λ same. other (at_once set q place j (here ∙ ap (λ z. Some z) same) at) in
+          let old = g.last_looks q i v here (sym (get-set_other g.latest place q (k ∷ []) other) ∙ e) in
           (looks.others i apart ∙ old.0, get_or-set_other numbers j i k 0 apart ∙ old.1))
     ]
 
@@ -255,8 +246,7 @@ module _ (a b : Known) (set : ℕ) (told numbers : List ℕ) (g : Gathers a b se
   from_start : (h : List Update) (i : ℕ) → number_in b h i ≡ number_after (starts a.plan) h i
   from_start h i = ap (λ (p : Plan). number_after (starts p) h i) g.grows.plan
 
-  module _ (clean : IsClean (size set) told)
-      (not_borrow : (j : ℕ) → IsBorrow (size set) told j → ⊥) where
+  module _ (clean : IsClean (size set) told) (not_borrow : (j : ℕ) → IsBorrow (size set) told j → ⊥) where
     moment : (p : ℕ) × IsMoment (size set) seen_at (length first_seen) (length b.seen) told p
         × IsThen (List ℕ) (size set) (entry_at set (starts a.plan) b.seen) p g.latest
     moment = clean_moment _ _ _ _ _ _ _ _ g.collects (rising set (starts a.plan) b.seen)
@@ -266,13 +256,11 @@ module _ (a b : Known) (set : ℕ) (told numbers : List ℕ) (g : Gathers a b se
     begins_first = take-begins first_seen b.seen moment.0 g.within moment.1.after
 
     -- the last look of a named segment found the number that it had at that moment
-    last_at : (i : ℕ) → i < segments b.plan → Names set i
-        → (looked b i ≡ Some (number_in b (take moment.0 b.seen) i))
+    last_at : (i : ℕ) → i < segments b.plan → Names set i → (looked b i ≡ Some (number_in b (take moment.0 b.seen) i))
         × (slice_index numbers i ≡ number_in b (take moment.0 b.seen) i)
     last_at i l named =
         let place = named_at set i (names_below set 16 (omega arith) g.short i named) named in
-        let last = g.last_looks place.0 i _ place.1
-        (moment.2 place.0 (at_within set place.0 i place.1)) in
+        let last = g.last_looks place.0 i _ place.1 (moment.2 place.0 (at_within set place.0 i place.1)) in
         let is : seen_at moment.0 place.0 ≡ number_in b (take moment.0 b.seen) i =
         ap (number_after (starts a.plan) (take moment.0 b.seen)) (at_is set place.0 i place.1)
         ∙ sym (from_start (take moment.0 b.seen) i) in
@@ -321,8 +309,7 @@ module _ (a b : Known) (set : ℕ) (told numbers : List ℕ) (g : Gathers a b se
     inside : (part : List Update) → IsBeginning part b.seen
         → looked b j ≡ Some (number_in b part j + 1) → length first_seen ≤ length part
     inside part within before =
-        let e : last ≡ number_in b part j + 1 =
-        same_Some last (number_in b part j + 1) (sym looked_last ∙ before) in
+        let e : last ≡ number_in b part j + 1 = same_Some last (number_in b part j + 1) (sym looked_last ∙ before) in
         let f : number_in b part j ≡ seen_at (length part) place_of =
         from_start part j ∙ ap (λ h. number_after (starts a.plan) h j)
         (sym (beginning-take part b.seen within)) ∙ sym (of_segment (length part)) in
@@ -330,8 +317,7 @@ module _ (a b : Known) (set : ℕ) (told numbers : List ℕ) (g : Gathers a b se
 
     begins_last : (part : List Update) → IsBeginning part b.seen
         → looked b j ≡ Some (number_in b part j + 1) → IsBeginning first_seen part
-    begins_last part within before =
-        rw (beginning-take part b.seen within)
+    begins_last part within before = rw (beginning-take part b.seen within)
         at (take-begins first_seen b.seen (length part) g.within (inside part within before))
 
     pub borrowed_scan : IsBorrowedScan a b j
@@ -343,6 +329,5 @@ module _ (a b : Known) (set : ℕ) (told numbers : List ℕ) (g : Gathers a b se
         above = rw g.grows.plan (omega (arith, rose, of_segment (length first_seen)));
       };
       begins = λ part within before. begins_all part (begins_last part within before);
-      fresh = λ part within before. is_fresh part (borrow_some place_of borrowed)
-          (begins_last part within before);
+      fresh = λ part within before. is_fresh part (borrow_some place_of borrowed) (begins_last part within before);
     }

@@ -22,8 +22,7 @@ kept_grown a b room g k = λ i x at. (let was = k i x at in (seen_grown a b i _ 
 
 pub fits_grown : (a b : Known) (room : Room) → Grows a b → Fits a room → Fits b room
 fits_grown a b Absent g f = f
-fits_grown a b (Kept room) g f =
-    (f.0 ∙ ap (λ (p : Plan). segments p) (sym g.plan), kept_grown a b room.items g f.1)
+fits_grown a b (Kept room) g f = (f.0 ∙ ap (λ (p : Plan). segments p) (sym g.plan), kept_grown a b room.items g f.1)
 
 -- the cached entry of one segment, and a cache in which one entry is replaced
 kept_at : (seat : Known) (room : List (Option SegmentValue)) (i : ℕ) (kept : Option SegmentValue) → AreKept seat room
@@ -33,8 +32,7 @@ kept_at seat room i kept all at x e = all i x (at ∙ ap (λ v. Some v) e)
 kept_set : (seat : Known) (room : List (Option SegmentValue)) (k : ℕ) (kept : Option SegmentValue) → AreKept seat room
     → k < length room → IsKeptOf seat k kept → AreKept seat (slice_set room k kept)
 kept_set seat room k kept all inside new i x at = elim (cases_eq i k) [
-  | inl is ↦ rw is
-      (new x (same_Some kept (Some x) (sym (get-set_same room k kept inside) ∙ (rw is at at))))
+  | inl is ↦ rw is (new x (same_Some kept (Some x) (sym (get-set_same room k kept inside) ∙ (rw is at at))))
   | inr other ↦ all i x (sym (get-set_other room k i kept other) ∙ at)
 ]
 

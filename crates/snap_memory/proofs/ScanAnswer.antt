@@ -1,9 +1,8 @@
 -- The answer of a scan is the memory of one moment.
 use Rattle.std.proofs.Common.{◌≡◌, ℕ, inl, inr, ◌+◌, ◌-◌, ◌^◌, ◌<◌, ◌≤◌, List, [], length, map, All, Some, slice_get}
 use Rattle.std.proofs.Common.{get_or, ap, sym, ◌∙◌, arith, Result, Ok, Err, OnOk}
-use Rattle.std.proofs.lemmas.Option.{same_Some, slice_get-get_or, slice_get-map}
-use Rattle.std.proofs.lemmas.{List.length-map, Nat.pow_below, Bool.cases_lt}
-use Rattle.std.specs.Option.{option_map}
+use Rattle.std.proofs.lemmas.{Option.same_Some, Option.slice_get-get_or, Option.slice_get-map, List.length-map}
+use Rattle.std.{proofs.lemmas.Nat.pow_below, proofs.lemmas.Bool.cases_lt, specs.Option.option_map}
 use Rattle.snap_history.specs.History.{Update, Start, IsBeginning, number_after, value_after}
 use Rattle.snap_history.{proofs.Beginnings.number-beginning, specs.Limits.IsShort, proofs.Moments.value_same}
 use Rattle.snap_register.specs.declared.view.View.TheVariants.{Collected, Borrowed}
@@ -13,9 +12,8 @@ use Rattle.snap_scan.specs.Sets.{Names, named, size}
 use Rattle.snap_scan.proofs.Sets.{at_named, at_some, at_below, all_at, all_size}
 use Rattle.snap_scan.specs.{Values.pair_of, declared.segment_value.SegmentValue.SegmentValue}
 use Rattle.snap_memory.specs.Scans.{BeginsFresh, IsCleanScan, IsBorrowedScan, IsScan, IsSnapshot, IsPart, HasPart}
-use Rattle.snap_memory.specs.Scans.{AreLooked, IsSetOf, all_of}
-use Rattle.snap_memory.specs.Rooms.{WasSeen, number_of, AreEntries}
-use Rattle.snap_memory.{specs.declared.room.Found.Found, proofs.Collects.beginning-take}
+use Rattle.snap_memory.specs.{Scans.AreLooked, Scans.IsSetOf, Scans.all_of, Rooms.WasSeen, declared.room.Found.Found}
+use Rattle.snap_memory.{specs.Rooms.number_of, specs.Rooms.AreEntries, proofs.Collects.beginning-take}
 
 -- two beginnings of one list in which a segment has the same number have the same value of it
 ordered : (start : Start) (h p q : List Update) (i : ℕ) → IsBeginning p h → IsBeginning q h → length p ≤ length q
@@ -23,9 +21,8 @@ ordered : (start : Start) (h p q : List Update) (i : ℕ) → IsBeginning p h �
 ordered start h p q i bp bq l e =
     let is_p = beginning-take p h bp in
     let is_q = beginning-take q h bq in
-    ap (λ x. value_after start x i) (sym is_p)
-    ∙ value_same start h i (length p) (length q) l (ap (λ x. number_after start x i) is_p ∙ e
-    ∙ ap (λ x. number_after start x i) (sym is_q))
+    ap (λ x. value_after start x i) (sym is_p) ∙ value_same start h i (length p) (length q) l
+    (ap (λ x. number_after start x i) is_p ∙ e ∙ ap (λ x. number_after start x i) (sym is_q))
     ∙ ap (λ x. value_after start x i) is_q
 
 pub same_value : (start : Start) (h p q : List Update) (i : ℕ) → IsBeginning p h → IsBeginning q h
@@ -36,21 +33,18 @@ same_value start h p q i bp bq e =
       | inr ge ↦ sym (ordered start h q p i bq bp ge (sym e))
     ]
 
--- the value that the last look found is that of each beginning in which the segment has the number
--- found
+-- the value that the last look found is that of each beginning in which the segment has the number found
 pub value_told : (b : Known) (i k : ℕ) (value : List ℕ) (part : List Update) → IsValue b i value → looked b i ≡ Some k
     → IsBeginning part b.seen → k ≡ number_in b part i → value ≡ value_in b part i
 value_told b i k value part v told within is =
     let e : number_in b v.part i ≡ k = same_Some _ k (sym v.number ∙ told) in
     v.value_is ∙ same_value (starts b.plan) b.seen v.part part i v.beginning within (e ∙ is)
 
--- if a number and a value were seen together, the value is that of each beginning in which the
--- segment has this number
+-- if a number and a value were seen together, the value is that of each beginning in which the segment has this number
 pub seen_value : (b : Known) (i : ℕ) (x : ℕ × List ℕ) (part : List Update) → WasSeen b i x
     → IsBeginning part b.seen → x.0 ≡ number_in b part i → x.1 ≡ value_in b part i
 seen_value b i x part was within is =
-    was.value_is ∙ same_value (starts b.plan) b.seen was.part part i was.within within
-    (sym was.number_is ∙ is)
+    was.value_is ∙ same_value (starts b.plan) b.seen was.part part i was.within within (sym was.number_is ∙ is)
 
 -- the entry of a named segment in a view, which was seen
 module _ (b : Known) (j set : ℕ) (xs : List (ℕ × List ℕ)) (i : ℕ) (v : IsView b j set xs)
@@ -72,10 +66,8 @@ module _ (set : ℕ) (a b : Known) where
       size = l.size;
       each = λ i li named. (
           let x = l.each i li named in
-          let number : x.0.0 ≡ number_in b s.part i =
-          same_Some x.0.0 _ (sym x.2 ∙ s.each i li named) in
-          let value : x.0.1 ≡ value_in b s.part i =
-          value_told b i x.0.0 x.0.1 s.part x.3 x.2 s.within number in
+          let number : x.0.0 ≡ number_in b s.part i = same_Some x.0.0 _ (sym x.2 ∙ s.each i li named) in
+          let value : x.0.1 ≡ value_in b s.part i = value_told b i x.0.0 x.0.1 s.part x.3 x.2 s.within number in
           x.1 ∙ ap Some (λ t. (number t, value t)));
     };
   }
@@ -94,8 +86,7 @@ module _ (set : ℕ) (a b : Known) where
     each = λ p i at. (
         let x = e.each p i at in
         let low : i < segments b.plan = at_below set (segments b.plan) p i among at in
-        let number : x.0.0 ≡ number_in b part i =
-        x.2.0 ∙ numbers i low (at_named set p i at).1 in
+        let number : x.0.0 ≡ number_in b part i = x.2.0 ∙ numbers i low (at_named set p i at).1 in
         let value : x.0.1 ≡ value_in b part i = seen_value b i x.0 part x.2.1.0 within number in
         x.1 ∙ ap Some (λ t. (number t, value t)));
   }
@@ -113,16 +104,13 @@ module _ (set : ℕ) (a b : Known) where
   pub list_clean : (found : Found) (values : List (ℕ × List ℕ)) → set < 2 ^ segments b.plan → IsCleanScan set a b
       → AreEntries (named set) b found values → ((i : ℕ) → i < segments b.plan → Names set i
       → looked b i ≡ Some (number_of found i)) → IsPart set a b values
-  list_clean found values among s e told =
-      listed found values s.part among e (λ i l named.
-      same_Some (number_of found i) _ (sym (told i l named) ∙ s.each i l named))
-      s.begins s.fresh s.within
+  list_clean found values among s e told = listed found values s.part among e (λ i l named.
+      same_Some (number_of found i) _ (sym (told i l named) ∙ s.each i l named)) s.begins s.fresh s.within
 
   pub list_borrowed : (j : ℕ) (view : List (ℕ × List ℕ)) (found : Found) (values : List (ℕ × List ℕ))
       → set < 2 ^ segments b.plan → IsBorrowedScan a b j → IsView b j set view → AreEntries (named set) b found values
       → ((i : ℕ) → number_of found i ≡ (get_or view i (0, [])).0) → IsPart set a b values
-  list_borrowed j view found values among s v e are =
-      listed found values v.part among e (λ i l named.
+  list_borrowed j view found values among s v e are = listed found values v.part among e (λ i l named.
       are i ∙ ap (λ (x : ℕ × List ℕ). x.0) (view_entry b j set view i v l named))
       (s.begins v.part v.beginning v.before) (s.fresh v.part v.beginning v.before) v.beginning
 
@@ -162,10 +150,8 @@ module _ (a b : Known) (few : segments b.plan ≤ 16) where
   pub snapshot_listed : (values : List (ℕ × List ℕ)) → IsPart (all_of b) a b values → IsSnapshot a b values
   snapshot_listed values s = grind (arith, all_size, all_at)
 
--- a writer's own segment has no further update than those its seat had seen, so the answer of its
--- scan has them all
-module _ (a b : Known) (g : Grows a b) (alone : a.high ≡ a.low + 1)
-    (few : segments b.plan ≤ 16) where
+-- a writer's own segment has no further update than those its seat had seen, so the answer of its scan has them all
+module _ (a b : Known) (g : Grows a b) (alone : a.high ≡ a.low + 1) (few : segments b.plan ≤ 16) where
   has_all : (part : List Update) → IsBeginning a.seen part → IsBeginning part b.seen
       → number_in b part (own_of b) ≡ number_in b b.seen (own_of b)
   has_all part begins within =

@@ -21,8 +21,7 @@ IsAnswerable seat i x = WasSeen seat i x × IsShort x.1
 
 -- each cached entry may be returned
 abbrev pub AreKept : Known → List (Option SegmentValue) → Type 0
-AreKept seat room = (i : ℕ) (x : SegmentValue) → slice_get room i ≡ Some (Some x)
-    → IsAnswerable seat i (pair_of x)
+AreKept seat room = (i : ℕ) (x : SegmentValue) → slice_get room i ≡ Some (Some x) → IsAnswerable seat i (pair_of x)
 
 -- the cache has the seat's size, and its entries were seen
 abbrev pub Fits : Known → Room → Type 0
@@ -46,8 +45,7 @@ IsFoundAt seat (Viewed view) i = WasSeen seat i (get_or view.now i (0, []))
 
 -- what was found for all named segments
 abbrev pub IsFound : ℕ → Known → Found → Type 0
-IsFound set seat found = (i : ℕ) → i < segments seat.plan → Names set i
-    → HasPlace found i × IsFoundAt seat found i
+IsFound set seat found = (i : ℕ) → i < segments seat.plan → Names set i → HasPlace found i × IsFoundAt seat found i
 
 -- the cached entry of segment i may be returned
 abbrev pub IsKeptOf : Known → ℕ → Option SegmentValue → Type 0

@@ -27,8 +27,7 @@ pub record IsCleanScan (set : ℕ) (before after : Known) : Type 0 where
   pub begins : IsBeginning before.seen part
   pub fresh : BeginsFresh before after part
   pub within : IsBeginning part after.seen
-  pub each : (i : ℕ) → i < segments after.plan → Names set i
-      → looked after i ≡ Some (number_in after part i)
+  pub each : (i : ℕ) → i < segments after.plan → Names set i → looked after i ≡ Some (number_in after part i)
 
 -- the last look at j found an update. Each beginning of what the seat has seen afterwards that lacks only that update
 -- of j begins with what the seat had seen before and at the scan's first look
@@ -61,8 +60,7 @@ pub record IsPart (set : ℕ) (before after : Known) (values : List (ℕ × List
   pub fresh : BeginsFresh before after part
   pub within : IsBeginning part after.seen
   pub size : length values ≡ size set
-  pub each : (p i : ℕ) → IsAt set p i
-      → slice_get values p ≡ Some (number_in after part i, value_in after part i)
+  pub each : (p i : ℕ) → IsAt set p i → slice_get values p ≡ Some (number_in after part i, value_in after part i)
 
 -- `memory`, which has a place for every segment, has the numbers and values of the named ones after
 -- a list as in IsSnapshot
@@ -110,5 +108,4 @@ MayRefuse count before why after =
 pub record AreLooked (set : ℕ) (seat : Known) (memory : List (ℕ × List ℕ)) : Type 0 where
   pub size : length memory ≡ segments seat.plan
   pub each : (i : ℕ) → i < segments seat.plan → Names set i
-      → (x : ℕ × List ℕ) × (slice_get memory i ≡ Some x) × (looked seat i ≡ Some x.0)
-      × IsValue seat i x.1
+      → (x : ℕ × List ℕ) × (slice_get memory i ≡ Some x) × (looked seat i ≡ Some x.0) × IsValue seat i x.1

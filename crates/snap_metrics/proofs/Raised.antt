@@ -17,8 +17,7 @@ index-raised_each (x ∷ xs) (y ∷ ys) (suc k) same low = index-raised_each xs 
 
 -- a list that has at each index the sum of the two
 pub raised_each_is : (xs ys zs : List ℕ) → length ys ≡ length xs → length zs ≡ length xs
-    → ((k : ℕ) → k < length xs → get_or zs k 0 ≡ raised (get_or xs k 0) (get_or ys k 0))
-    → zs ≡ raised_each xs ys
+    → ((k : ℕ) → k < length xs → get_or zs k 0 ≡ raised (get_or xs k 0) (get_or ys k 0)) → zs ≡ raised_each xs ys
 raised_each_is xs ys zs same long each =
     ext_get_or 0 zs (raised_each xs ys) (long ∙ sym (length-raised_each xs ys)) (λ k low.
     each k (omega arith) ∙ sym (index-raised_each xs ys k same (omega arith)))

@@ -20,8 +20,7 @@ GoesBySync (Gate began synced) new = new ≡ Resting
 
 -- the time between two moments, in nanoseconds, if both were read
 abbrev pub Took : Option Instant → Option Instant → Option Duration → Type 0
-Took (Some from) (Some until) (Some took) =
-    as_nanos took ≡ instant_nanos until - instant_nanos from
+Took (Some from) (Some until) (Some took) = as_nanos took ≡ instant_nanos until - instant_nanos from
 Took (Some from) (Some until) None = ⊥
 Took (Some from) None took = took ≡ None
 Took None until took = took ≡ None

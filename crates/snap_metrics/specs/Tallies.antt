@@ -36,8 +36,7 @@ with_reply t (Stored number) = t
 with_reply t (Snapshot values) = t
 with_reply t (reply.Status statuses) = t
 with_reply t (reply.Part values) = t
-with_reply t (Refused why detail) =
-    record t { refusals = raised_at t.refusals (code_of why - 1) }
+with_reply t (Refused why detail) = record t { refusals = raised_at t.refusals (code_of why - 1) }
 
 -- the looks that the request took, and the bytes of both frames
 abbrev pub with_sizes : RequestCounts → Request → Reply → ℕ → RequestCounts

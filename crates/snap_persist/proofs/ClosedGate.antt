@@ -1,18 +1,18 @@
 -- A store before it opens the gate: the spare gate is being closed, and the body is written while
 -- the gate of its slot is closed.
-use Rattle.std.proofs.Common.{Bool, true, false, ◌≡◌, ◌≢◌, ◌⊎◌, inl, inr, ⊎_elim, ℕ, ◌+◌, ◌-◌, ◌<◌, ◌≤◌, List, [], ◌∷◌}
-use Rattle.std.proofs.Common.{length, slice_index, sym, ◌∙◌, ap, subst, arith}
-use Rattle.std.proofs.lemmas.Bool.{cases_eq}
-use Rattle.snap_disk.specs.Device.{Device, in_range, part, opened, MayLeave, IsTouched, IsSynced, IsWritten}
-use Rattle.snap_disk.specs.Laws.{out_apart, opened_leaves, touched_leaves, touched_twice_leaves}
-use Rattle.snap_slot.specs.declared.layout.TheConstants.{BLOCK_LEN, SLOT_COUNT, OPEN_GATE, CLOSED_GATE}
+use Rattle.std.proofs.Common.{rules, Bool, true, false, ◌≡◌, ◌≢◌, inl, inr, ⊎_elim, ℕ, ◌+◌, ◌-◌, ◌<◌, ◌≤◌, List, []}
 use Rattle.snap_slot.specs.Layout.{slot_of, next_slot, spare_slot, gate_block, body_block, gate_at, body_at, Open}
-use Rattle.snap_slot.specs.Layout.{IsClosed, Head, IsFileOf}
-use Rattle.snap_slot.{proofs.Blocks.length-body_block, specs.States.IsAtRest}
-use Rattle.snap_history.specs.Limits.{IsShort}
-use Rattle.snap_persist.specs.Device.{IsBodyStored, IsJustWritten}
 use Rattle.snap_persist.proofs.Kept.{apart, kept, kept_twice, inner_opened_leaves, head_kept, open_kept, closed_kept}
+use Rattle.std.proofs.Common.{◌∷◌, length, slice_index, ◌∙◌, ap, subst, arith}
+use Rattle.std.proofs.lemmas.Bool.{cases_eq}
+use Rattle.snap_slot.specs.declared.layout.TheConstants.{BLOCK_LEN, OPEN_GATE, CLOSED_GATE}
+use Rattle.snap_slot.{specs.Layout.IsClosed, specs.Layout.Head, specs.Layout.IsFileOf, proofs.Blocks.length-body_block}
+use Rattle.snap_slot.specs.States.{IsAtRest}
+use Rattle.snap_persist.specs.Device.{IsBodyStored, IsJustWritten}
 use Rattle.snap_persist.proofs.Kept.{gate_changed, byte_stands}
+use Rattle.snap_disk.specs.Laws.{out_apart, opened_leaves, touched_leaves, touched_twice_leaves}
+use Rattle.snap_disk.specs.Device.{Device, in_range, part, opened, MayLeave, IsSynced}
+use Rattle.snap_history.specs.Limits.{IsShort}
 
 module _ (i n k : ℕ) (u : List ℕ) where
   abbrev s : ℕ
@@ -27,8 +27,7 @@ module _ (i n k : ℕ) (u : List ℕ) where
   spare_is : spare_slot (slot_of k) ≡ t
   spare_is = omega arith
 
-  pub next_closed : (spare_open : Bool) (d : Device) → IsAtRest i n k u spare_open d
-      → IsClosed d.bytes s
+  pub next_closed : (spare_open : Bool) (d : Device) → IsAtRest i n k u spare_open d → IsClosed d.bytes s
   next_closed spare_open d ready = subst (λ (x : ℕ). IsClosed d.bytes x) next_is ready.next
 
   -- a crash may leave any bytes in the spare gate and in the body
@@ -39,57 +38,33 @@ module _ (i n k : ℕ) (u : List ℕ) where
     keeps lo m = kept_twice d ready.settled b (gate_at t) 1 (body_at s) BLOCK_LEN left lo m
 
     pub still_head : Head b i n
-    still_head = head_kept d.bytes b i n (keeps 0 BLOCK_LEN (λ h. omega (arith, h)) (λ h.
-        omega (arith, h))) ready.head
+    still_head = head_kept d.bytes b i n (keeps 0 BLOCK_LEN (λ h. omega (arith, h)) (λ h. omega (arith, h))) ready.head
 
     pub still_here : Open b (slot_of k) k u
-    still_here = open_kept d.bytes b (slot_of k) k u
-        (keeps (gate_at (slot_of k)) BLOCK_LEN (λ h. omega (arith, h)) (λ h. omega (arith, h)))
-        (keeps (body_at (slot_of k)) BLOCK_LEN (λ h. omega (arith, h)) (λ h. omega (arith, h)))
-        ready.here
+    still_here = search (rules, open_kept, keeps)
 
     pub still_next : IsClosed b (next_slot (slot_of k))
-    still_next = closed_kept d.bytes b (next_slot (slot_of k))
-        (keeps (gate_at (next_slot (slot_of k))) BLOCK_LEN (λ h. omega (arith, h)) (λ h.
-        omega (arith, h))) ready.next
+    still_next = search (rules, closed_kept, keeps)
 
   -- If the spare gate is open at the start:
   module _ (d : Device) (ready : IsAtRest i n k u true d) (b : List ℕ)
       (left : MayLeave (opened (body_at s) BLOCK_LEN (opened (gate_at t) 1 d)) b) where
     spare_gate : part (gate_at t) BLOCK_LEN d.bytes ≡ gate_block OPEN_GATE
-    spare_gate = subst (λ (x : ℕ). part (gate_at x) BLOCK_LEN d.bytes
-        ≡ gate_block OPEN_GATE) spare_is ready.spare.1.gate_open
+    spare_gate = search (rules, spare_is)
 
     pub changed : part (gate_at t) BLOCK_LEN b ≡ gate_block (slice_index b (gate_at t))
-    changed = gate_changed d.bytes b (gate_at t) left.size (omega (arith, ready.size))
-        (keeps true d ready b left (gate_at t + 1) (BLOCK_LEN - 1) (λ h. omega (arith, h)) (λ h.
-        omega (arith, h))) OPEN_GATE spare_gate
+    changed = gate_changed d.bytes b (gate_at t) left.size (omega (arith, ready.size)) (keeps true d ready b left
+        (gate_at t + 1) (BLOCK_LEN - 1) (λ h. omega (arith, h)) (λ h. omega (arith, h))) OPEN_GATE spare_gate
 
     spare_body : part (body_at t) BLOCK_LEN b ≡ body_block (k - 1) ready.spare.0
-    spare_body = keeps true d ready b left (body_at t) BLOCK_LEN (λ h. omega (arith, h)) (λ h.
-        omega (arith, h))
-        ∙ subst (λ (x : ℕ). part (body_at x) BLOCK_LEN d.bytes
-        ≡ body_block (k - 1) ready.spare.0) spare_is ready.spare.1.holds
+    spare_body = keeps true d ready b left (body_at t) BLOCK_LEN (λ h. omega (arith, h)) (λ h. omega (arith, h)) ∙ subst
+        (λ (x : ℕ). part (body_at x) BLOCK_LEN d.bytes ≡ body_block (k - 1) ready.spare.0) spare_is ready.spare.1.holds
 
-    still_open : slice_index b (gate_at t) ≡ OPEN_GATE
-        → Open b (spare_slot (slot_of k)) (k - 1) ready.spare.0
-    still_open opens = record {
-      gate_open = subst (λ (x : ℕ). part (gate_at x) BLOCK_LEN b ≡ gate_block OPEN_GATE)
-          (sym spare_is) (changed ∙ ap gate_block opens);
-      holds = subst (λ (x : ℕ). part (body_at x) BLOCK_LEN b ≡ body_block (k - 1) ready.spare.0)
-          (sym spare_is) spare_body;
-      number = ready.spare.1.number;
-      slot = ready.spare.1.slot;
-      fits = ready.spare.1.fits;
-    }
+    still_open : slice_index b (gate_at t) ≡ OPEN_GATE → Open b (spare_slot (slot_of k)) (k - 1) ready.spare.0
+    still_open opens = search (rules, spare_is, changed, spare_body)
 
     now_closed : slice_index b (gate_at t) ≢ OPEN_GATE → IsClosed b (spare_slot (slot_of k))
-    now_closed closes = subst (λ (x : ℕ). IsClosed b x) (sym spare_is) (record {
-      gate =
-          slice_index b (gate_at t);
-      closed = closes;
-      is = changed;
-    })
+    now_closed closes = search (rules, spare_is, changed)
 
     -- whatever bytes the spare gate and the body get, the file holds its old value
     pub waiting_leaves : IsFileOf i n k u b
@@ -117,9 +92,8 @@ module _ (i n k : ℕ) (u : List ℕ) where
     wider = inner_opened_leaves (body_at s) BLOCK_LEN (gate_at t) 1 d b left
 
     pub still_spare : IsClosed b (spare_slot (slot_of k))
-    still_spare = closed_kept d.bytes b (spare_slot (slot_of k))
-        (kept d ready.settled b (body_at s) BLOCK_LEN left (gate_at (spare_slot (slot_of k)))
-        BLOCK_LEN (λ h. omega (arith, h))) ready.spare
+    still_spare = closed_kept d.bytes b (spare_slot (slot_of k)) (kept d ready.settled b (body_at s) BLOCK_LEN left
+        (gate_at (spare_slot (slot_of k))) BLOCK_LEN (λ h. omega (arith, h))) ready.spare
 
     pub body_leaves : IsFileOf i n k u b
     body_leaves = record {
@@ -143,20 +117,15 @@ module _ (i n k : ℕ) (u : List ℕ) where
     module _ (mid new e : Device) (written : IsJustWritten (body_at s) block mid new)
         (synced : IsSynced new e) where
       there : MayLeave new e.bytes
-      there = record {
-        size = ap (λ (l : List ℕ). length l) synced.same;
-        elsewhere = λ p closed. ap (λ (l : List ℕ). slice_index l p) synced.same;
-      }
+      there = search rules
 
       stands : part (body_at s) BLOCK_LEN e.bytes ≡ block
-      stands = ap (λ (l : List ℕ). part (body_at s) BLOCK_LEN l) synced.same
-          ∙ ap (λ (m : ℕ). part (body_at s) m new.bytes) (sym long) ∙ written.stands
+      stands = search (rules, long)
 
       pub written_behind : IsAtRest i n k u false mid → IsBodyStored i n k u v e
       written_behind ready =
-          let left : MayLeave (opened (body_at s) BLOCK_LEN mid) e.bytes =
-          subst (λ (m : ℕ). MayLeave (opened (body_at s) m mid) e.bytes) long
-          (touched_leaves written.touched e.bytes there) in
+          let left : MayLeave (opened (body_at s) BLOCK_LEN mid) e.bytes = subst (λ (m : ℕ). MayLeave
+          (opened (body_at s) m mid) e.bytes) long (touched_leaves written.touched e.bytes there) in
           let file = wider mid ready e.bytes left in
           record {
             rest = record {
@@ -177,12 +146,10 @@ module _ (i n k : ℕ) (u : List ℕ) where
           subst (λ (m : ℕ). MayLeave (opened (body_at s) m (opened (gate_at t) 1 d)) e.bytes) long
           (touched_twice_leaves closing.touched written.touched e.bytes there) in
           let out : in_range (body_at s) (length block) (gate_at t) ≡ false =
-          out_apart (gate_at t) 1 (body_at s) (length block)
-          (apart (gate_at t) 1 (body_at s) (length block) (λ h. omega (arith, h, long))) (gate_at t)
-          (omega arith) (omega arith) in
-          let zero_gate : slice_index e.bytes (gate_at t) ≡ CLOSED_GATE =
-          ap (λ (l : List ℕ). slice_index l (gate_at t)) synced.same
-          ∙ written.touched.bytes_elsewhere.elsewhere (gate_at t) out
+          out_apart (gate_at t) 1 (body_at s) (length block) (apart (gate_at t) 1
+          (body_at s) (length block) (λ h. omega (arith, h, long))) (gate_at t) (omega arith) (omega arith) in
+          let zero_gate : slice_index e.bytes (gate_at t) ≡ CLOSED_GATE = ap (λ (l : List ℕ). slice_index l
+          (gate_at t)) synced.same ∙ written.touched.bytes_elsewhere.elsewhere (gate_at t) out
           ∙ byte_stands (gate_at t) CLOSED_GATE mid.bytes closing.stands in
           record {
             rest = record {

@@ -1,15 +1,13 @@
 -- A store that opens the gate of its new body.
-use Rattle.std.proofs.Common.{true, false, ◌≡◌, ◌≢◌, inl, inr, ⊎_elim, ℕ, ◌+◌, ◌-◌, ◌<◌, ◌≤◌, List, [], ◌∷◌, length}
-use Rattle.std.proofs.Common.{slice_index, sym, ◌∙◌, ap, subst, arith}
-use Rattle.std.proofs.lemmas.Bool.{cases_eq, or_parts}
-use Rattle.snap_disk.specs.Device.{Device, in_range, part, opened, MayLeave, IsWritten}
-use Rattle.snap_slot.specs.declared.layout.TheConstants.{BLOCK_LEN, SLOT_COUNT, OPEN_GATE}
-use Rattle.snap_slot.specs.Layout.{slot_of, next_slot, spare_slot, gate_block, body_block, gate_at, body_at, Open}
-use Rattle.snap_slot.specs.Layout.{IsClosed, Head, IsFileOf}
+use Rattle.std.proofs.Common.{rules, true, ◌≡◌, ◌≢◌, ⊎_elim, ℕ, ◌+◌, ◌-◌, ◌<◌, ◌≤◌, List, [], ◌∷◌, slice_index, ◌∙◌}
+use Rattle.std.proofs.{lemmas.Bool.cases_eq, lemmas.Bool.or_parts, Common.subst, Common.arith}
+use Rattle.snap_slot.specs.Layout.{slot_of, next_slot, spare_slot, gate_block, gate_at, Open, IsClosed, Head, IsFileOf}
+use Rattle.snap_slot.specs.declared.layout.TheConstants.{BLOCK_LEN, OPEN_GATE}
 use Rattle.snap_slot.specs.States.{IsEither, IsAtRest}
+use Rattle.snap_disk.specs.Device.{Device, in_range, part, opened, MayLeave, IsWritten}
 use Rattle.snap_history.specs.Limits.{IsNumber, IsShort}
-use Rattle.snap_persist.specs.Device.{IsBodyStored}
 use Rattle.snap_persist.proofs.Kept.{kept, head_kept, open_kept, closed_kept, gate_changed, byte_stands}
+use Rattle.snap_persist.specs.Device.{IsBodyStored}
 
 module _ (i n k : ℕ) (u v : List ℕ) (small : IsNumber (k + 1)) (fits : IsShort v) (d : Device)
     (ready : IsBodyStored i n k u v d) where
@@ -31,83 +29,49 @@ module _ (i n k : ℕ) (u v : List ℕ) (small : IsNumber (k + 1)) (fits : IsSho
 
   -- a crash may leave any byte in the gate
   module _ (b : List ℕ) (left : MayLeave (opened (gate_at s) 1 d) b) where
-    keeps : (lo m : ℕ) → (gate_at s < lo + m → gate_at s + 1 ≤ lo)
-        → part lo m b ≡ part lo m d.bytes
+    keeps : (lo m : ℕ) → (gate_at s < lo + m → gate_at s + 1 ≤ lo) → part lo m b ≡ part lo m d.bytes
     keeps lo m = kept d ready.rest.settled b (gate_at s) 1 left lo m
 
     still_head : Head b i n
-    still_head =
-        head_kept d.bytes b i n (keeps 0 BLOCK_LEN (λ h. omega (arith, h))) ready.rest.head
+    still_head = head_kept d.bytes b i n (keeps 0 BLOCK_LEN (λ h. omega (arith, h))) ready.rest.head
 
     old_here : Open b (slot_of k) k u
-    old_here = open_kept d.bytes b (slot_of k) k u
-        (keeps (gate_at (slot_of k)) BLOCK_LEN (λ h. omega (arith, h)))
-        (keeps (body_at (slot_of k)) BLOCK_LEN (λ h. omega (arith, h))) ready.rest.here
+    old_here = search (rules, open_kept, keeps)
 
     still_spare : IsClosed b (spare_slot (slot_of k))
-    still_spare = closed_kept d.bytes b (spare_slot (slot_of k))
-        (keeps (gate_at (spare_slot (slot_of k))) BLOCK_LEN (λ h. omega (arith, h)))
-        ready.rest.spare
+    still_spare = search (rules, closed_kept, keeps)
 
     gate_now : part (gate_at s) BLOCK_LEN b ≡ gate_block (slice_index b (gate_at s))
     gate_now = gate_changed d.bytes b (gate_at s) left.size (omega (arith, ready.rest.size))
-        (keeps (gate_at s + 1) (BLOCK_LEN - 1) (λ h. omega (arith, h))) gate_closed.gate
-        gate_closed.is
+        (keeps (gate_at s + 1) (BLOCK_LEN - 1) (λ h. omega (arith, h))) gate_closed.gate gate_closed.is
 
     new_here : slice_index b (gate_at s) ≡ OPEN_GATE → Open b s (k + 1) v
-    new_here opens = record {
-      gate_open = gate_now ∙ ap gate_block opens;
-      holds = keeps (body_at s) BLOCK_LEN (λ h. omega (arith, h)) ∙ ready.body;
-      number = small;
-      slot = omega arith;
-      fits = fits;
-    }
+    new_here opens = search (rules, gate_now, keeps)
 
     new_next : IsClosed b (next_slot s)
     new_next = subst (λ (x : ℕ). IsClosed b x) after_is still_spare
 
     new_spare : Open b (spare_slot s) (k + 1 - 1) u
-    new_spare = subst (λ (m : ℕ). Open b (spare_slot s) m u) (omega arith)
-        (subst (λ (x : ℕ). Open b x k u) before_is old_here)
+    new_spare = search (rules, before_is, old_here)
 
     gate_opened : slice_index b (gate_at s) ≡ OPEN_GATE → IsFileOf i n (k + 1) v b
-    gate_opened opens = record {
-      size = left.size ∙ ready.rest.size;
-      head = still_head;
-      holds = record { here = new_here opens; next = new_next; spare = inr (u, new_spare) };
-    }
+    gate_opened opens = search (rules, still_head, new_here, new_next, new_spare)
 
     still_closed : slice_index b (gate_at s) ≢ OPEN_GATE → IsFileOf i n k u b
-    still_closed closes = record {
-      size = left.size ∙ ready.rest.size;
-      head = still_head;
-      holds = record {
-        here = old_here;
-        next = subst (λ (x : ℕ). IsClosed b x) (sym next_is) (record {
-          gate = slice_index b (gate_at s);
-          closed = closes;
-          is = gate_now;
-        });
-        spare = inl still_spare;
-      };
-    }
+    still_closed closes = search (rules, still_head, old_here, next_is, gate_now, still_spare)
 
     -- so the file holds the old value or the new one
     pub gate_leaves : IsEither i n k u v b
-    gate_leaves = ⊎_elim (λ opens. inr (gate_opened opens)) (λ closes.
-        inl (still_closed closes)) (cases_eq (slice_index b (gate_at s)) OPEN_GATE)
+    gate_leaves = search (rules, ⊎_elim, gate_opened, still_closed, cases_eq)
 
   -- after the second sync the device is at rest with the new value
-  pub stored : (e : Device) → IsWritten (gate_at s) (OPEN_GATE ∷ []) d e
-      → IsAtRest i n (k + 1) v true e
+  pub stored : (e : Device) → IsWritten (gate_at s) (OPEN_GATE ∷ []) d e → IsAtRest i n (k + 1) v true e
   stored e done =
       let left : MayLeave (opened (gate_at s) 1 d) e.bytes = record {
         size = done.elsewhere.size;
-        elsewhere = λ p closed. done.elsewhere.elsewhere p
-            (or_parts (in_range (gate_at s) 1 p) (d.is_open p) closed).0;
+        elsewhere = λ p closed. done.elsewhere.elsewhere p (or_parts (in_range (gate_at s) 1 p) (d.is_open p) closed).0;
       } in
-      let opens : slice_index e.bytes (gate_at s) ≡ OPEN_GATE =
-      byte_stands (gate_at s) OPEN_GATE e.bytes done.stands in
+      let opens : slice_index e.bytes (gate_at s) ≡ OPEN_GATE = byte_stands (gate_at s) OPEN_GATE e.bytes done.stands in
       record {
         settled = done.settled;
         size = left.size ∙ ready.rest.size;

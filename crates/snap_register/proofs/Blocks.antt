@@ -21,8 +21,7 @@ piece_length ws at (suc k) =
 
 pub piece_get : (ws : List ℕ) (at k q : ℕ) → q < k → get_or (piece ws at k) q 0 ≡ get_or ws (at + q) 0
 piece_get ws at zero q lt = absurd (omega arith)
-piece_get ws at (suc k) q lt =
-    grind (arith, get_or_push, get_or_append_left, piece_length ws at k, piece_get ws at k q)
+piece_get ws at (suc k) q lt = grind (arith, get_or_push, get_or_append_left, piece_length ws at k, piece_get ws at k q)
 
 pub bytes_more : (ws : List ℕ) (at k : ℕ) → bytes_at ws at (k + 1) ≡ bytes_at ws at k
     ++ to_le_bytes w64 (get_or ws (at + k) 0)

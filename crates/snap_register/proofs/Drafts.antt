@@ -18,12 +18,10 @@ pub draft_is : (m n : Mine) (l : List ℕ) → DraftedBy m l n → n.0.pool.draf
 draft_is m n l e = ap (λ (x : Mine). x.0.pool.draft) e
 
 pub drafted : (m n : Mine) (l : List ℕ) → DraftedBy m l n → Drafted m n
-drafted m n l e = e
-    ∙ ap (λ (x : Mine). (record m.0 { pool = record m.0.pool { draft = x.0.pool.draft } }, m.1)) (sym e)
+drafted m n l e = e ∙ ap (λ (x : Mine). (record m.0 { pool = record m.0.pool { draft = x.0.pool.draft } }, m.1)) (sym e)
 
 pub drafted_then : (a m n : Mine) (l : List ℕ) → Drafted a m → DraftedBy m l n → DraftedBy a l n
-drafted_then a m n l d e =
-    e ∙ ap (λ (x : Mine). (record x.0 { pool = record x.0.pool { draft = l } }, x.1)) d
+drafted_then a m n l d e = e ∙ ap (λ (x : Mine). (record x.0 { pool = record x.0.pool { draft = l } }, x.1)) d
 
 pub held_drafted : (m n : Mine) (j : ℕ) → Drafted m n → held n.0 j ≡ held m.0 j
 held_drafted m n j d = ap (λ (x : Mine). held x.0 j) d

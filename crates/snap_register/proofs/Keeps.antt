@@ -35,8 +35,7 @@ turn_else f j y i e = grind (arith, nat_tests)
 pub record SameWords (p : Plan) (ws ws' : List ℕ) (i : ℕ) : Type 0 where
   pub word : get_or ws' i 0 ≡ get_or ws i 0
   pub givens : (b : ℕ) → b < buffers p → get_or ws' (given p i b) 0 ≡ get_or ws (given p i b) 0
-  pub cells : (b q : ℕ) → b < buffers p → q < width p
-      → get_or ws' (cell p i b q) 0 ≡ get_or ws (cell p i b q) 0
+  pub cells : (b q : ℕ) → b < buffers p → q < width p → get_or ws' (cell p i b q) 0 ≡ get_or ws (cell p i b q) 0
 
 pub words_same : (p : Plan) (ws : List ℕ) (i : ℕ) → SameWords p ws ws i
 words_same p ws i = record { word = refl; givens = λ b lb. refl; cells = λ b q lb lq. refl }
@@ -55,8 +54,7 @@ over_pins f i vs = total (λ v. f (get_or v.pins i 0)) vs
 
 -- a register whose words and pins don't change
 pub register_stays : {p : Plan} {h h' : List Entry} {ws ws' : List ℕ} {vs vs' : List SeatView}
-    {i : ℕ} {d : Pool} {x : ℕ} → SameWords p ws ws' i
-    → ((f : ℕ → ℕ) → f 0 ≡ 0 → over_pins f i vs' ≡ over_pins f i vs)
+    {i : ℕ} {d : Pool} {x : ℕ} → SameWords p ws ws' i → ((f : ℕ → ℕ) → f 0 ≡ 0 → over_pins f i vs' ≡ over_pins f i vs)
     → total (λ v. v.left) vs' ≤ total (λ v. v.left) vs → only i h' ≡ only i h
     → Register p h ws vs i d x → Register p h' ws' vs' i d x
 register_stays {p} {h} {h'} {ws} {ws'} {vs} {vs'} {i} {d} {x} words pins lefts line r =
@@ -117,12 +115,10 @@ module _ (S : Type 0) where
   seats_stay K vs me w mine others j v e = grind (arith, nat_tests, at_set)
 
   -- a step may be taken if it keeps the rule of the seat's own plan, which is the table's
-  pub allowed : (p : Plan) (slots id : ℕ) (m : M) (c : ℕ) (f : ℕ → ℕ) (tells : ℕ → M → Type 0)
-      → m.0.spent ≡ false
+  pub allowed : (p : Plan) (slots id : ℕ) (m : M) (c : ℕ) (f : ℕ → ℕ) (tells : ℕ → M → Type 0) → m.0.spent ≡ false
       → ((s : St) (k : Kept m.0.plan s) → get_elem? s.views id ≡ some m.0
       → (w : SeatView) × Kept m.0.plan (stepped s c (f (get_or s.words c 0)) id m.1 w keeps)
-      × tells (get_or s.words c 0) (w, m.1))
-      → Allows (Kept p) slots id m c f tells
+      × tells (get_or s.words c 0) (w, m.1)) → Allows (Kept p) slots id m c f tells
   allowed p slots id m c f tells here go s k _ at _ = grind (arith, nat_tests, keeps)
 
   -- a load leaves the words unchanged
@@ -159,8 +155,7 @@ module _ (S : Type 0) where
         → Knows p h ws k.writer pools j u) → Kept p (after s ws id w)
     step_keeps i ws h pools x left wide legal others words pins lines own =
         kept_after ws h pools (turn k.pinned i x) wide legal (λ a la. dite (ℕ_discrete a i)
-        (λ e. rw (turn_here k.pinned i x a e, e) own)
-        (λ ne. rw (turn_else k.pinned i x a ne, others a ne)
+        (λ e. rw (turn_here k.pinned i x a e, e) own) (λ ne. rw (turn_else k.pinned i x a ne, others a ne)
         (register_beside id v w at (pins a ne) left (words a la ne) (lines a ne) (k.registers a la))))
 
     -- a step on register j that changes no buffer, no pool and not the history
@@ -170,8 +165,7 @@ module _ (S : Type 0) where
         → Knows p k.history (set s.words c y) k.writer k.pools id w → Kept p (after s (set s.words c y) id w)
     pin_step j c y x left apart cells pins own mine =
         step_keeps j (set s.words c y) k.history k.pools x left (length-set s.words c y) k.legal
-        (λ a ne. refl) (λ a la ne. words_beside s.words c y a (apart a la ne)) pins (λ a ne. refl)
-        own mine
+        (λ a ne. refl) (λ a la ne. words_beside s.words c y a (apart a la ne)) pins (λ a ne. refl) own mine
         (λ i u _ there. knows_stays (prefix_self k.history)
         (λ a b q la lb pin lq. get_or-set_other s.words c (cell p a b q) y 0 (cells a b q))
         (λ a has. (refl, refl, refl)) (k.each_seat i u there))
@@ -179,11 +173,9 @@ module _ (S : Type 0) where
     -- a load that changes no pin and no pool
     unmoved : (c : ℕ) (cs : List (ℕ × S)) → w.left ≤ v.left → w.pins ≡ v.pins
         → Knows p k.history s.words k.writer k.pools id w → Kept p (stepped s c (get_or s.words c 0) id cs w keeps)
-    unmoved c cs left pins mine = loaded s c id cs w
-        (kept_after s.words k.history k.pools k.pinned refl k.legal
+    unmoved c cs left pins mine = loaded s c id cs w (kept_after s.words k.history k.pools k.pinned refl k.legal
         (λ i li. register_beside id v w at (ap (λ (l : List ℕ). get_or l i 0) (sym pins))
-        left (words_same p s.words i) refl (k.registers i li)) mine
-        (λ j u _. k.each_seat j u))
+        left (words_same p s.words i) refl (k.registers i li)) mine (λ j u _. k.each_seat j u))
 
   pub reads : (p : Plan) (slots id : ℕ) (m : M) (c : ℕ) → m.0.spent ≡ false
       → Allows (Kept p) slots id m c (λ n. n) (read (step slots c 0 0 maybe.none) m)

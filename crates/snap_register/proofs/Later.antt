@@ -42,13 +42,11 @@ module _ {S : Type 0} {words left : ℕ} {pins : List ℕ} {m : Me S SeatView}
   -- only the pins, the records, the looks, the pool and what was seen have changed
   seated_with : {words' left' l : ℕ} {pins' : List ℕ} {m' : Me S SeatView} (seen : List Entry)
       (ps ms : List ℕ) (ss : List Sight) (d : Pool) → words' ≡ words → left' ≡ l
-      → m' ≡ changed m seen l ps ms ss d → length ps ≡ length m.0.pins
-      → length ms ≡ length m.0.records
+      → m' ≡ changed m seen l ps ms ss d → length ps ≡ length m.0.pins → length ms ≡ length m.0.records
       → ((i : ℕ) → i < segments m.0.plan → get_or pins' i 0 ≡ get_or ps i 0)
       → ((i : ℕ) → i < segments m.0.plan → get_or ps i 0 ≤ buffers m.0.plan)
       → ((i : ℕ) → i < segments m.0.plan → get_or ms i 0 ≤ count i seen)
-      → ((i : ℕ) → i < segments m.0.plan → Readable m.0.plan seen i (get_or ms i 0))
-      → IsSeated words' pins' left' m'
+      → ((i : ℕ) → i < segments m.0.plan → Readable m.0.plan seen i (get_or ms i 0)) → IsSeated words' pins' left' m'
   seated_with seen ps ms ss d same lefts is wide_ps wide_ms pins_are inside records read =
       rw is (search (arith, seated))
 
@@ -73,8 +71,7 @@ module _ {S : Type 0} {words left : ℕ} {pins : List ℕ} {m : Me S SeatView}
       → IsSized n s block_words whole m.0.plan → j < segments m.0.plan → words' ≡ words → left' + 1 ≡ left
       → IsPrefix m.0.seen m'.0.seen → IsLegal m.0.plan m'.0.seen
       → m' ≡ changed m m'.0.seen (m.0.left - 1) m.0.pins (set m.0.records j (count j m'.0.seen))
-      (m.0.sights ++ sight m'.0.seen ∷ []) m.0.pool
-      → IsSeated words' pins left' m'
+      (m.0.sights ++ sight m'.0.seen ∷ []) m.0.pool → IsSeated words' pins left' m'
   seated_revisited {m' = m'} j sized lj same less later legal is =
       let h : List Entry = m'.0.seen in
       let ms : List ℕ = set m.0.records j (count j h) in
@@ -86,8 +83,7 @@ module _ {S : Type 0} {words left : ℕ} {pins : List ℕ} {m : Me S SeatView}
   pub seated_pinned : {n s block_words whole words' left' : ℕ} {m' : Me S SeatView} (j x : ℕ)
       → IsSized n s block_words whole m.0.plan → j < segments m.0.plan → j < length pins
       → x < buffers m.0.plan → words' ≡ words → left' + 1 ≡ left → IsPrefix m.0.seen m'.0.seen
-      → IsLegal m.0.plan m'.0.seen
-      → m' ≡ changed m m'.0.seen (m.0.left - 1) (set m.0.pins j (x + 1))
+      → IsLegal m.0.plan m'.0.seen → m' ≡ changed m m'.0.seen (m.0.left - 1) (set m.0.pins j (x + 1))
       (set m.0.records j (count j m'.0.seen)) (m.0.sights ++ sight m'.0.seen ∷ []) m.0.pool
       → IsSeated words' (set pins j (x + 1)) left' m'
   seated_pinned {m' = m'} j x sized lj wide few same less later legal is =

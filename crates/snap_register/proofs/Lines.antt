@@ -14,8 +14,7 @@ pub prefix_self : {A : Type 0} (xs : List A) → IsPrefix xs xs
 prefix_self xs = ([], append-nil xs)
 
 pub prefix_trans : {A : Type 0} (xs ys zs : List A) → IsPrefix xs ys → IsPrefix ys zs → IsPrefix xs zs
-prefix_trans xs ys zs p q =
-    (p.0 ++ q.0, sym (append_assoc xs p.0 q.0) ∙ (ap (λ w. w ++ q.0) p.1 ∙ q.1))
+prefix_trans xs ys zs p q = (p.0 ++ q.0, sym (append_assoc xs p.0 q.0) ∙ (ap (λ w. w ++ q.0) p.1 ∙ q.1))
 
 pub only-append : (i : ℕ) (a b : List Entry) → only i (a ++ b) ≡ only i a ++ only i b
 only-append i [] b = refl
@@ -52,8 +51,7 @@ count_prefix i a h p = omega (arith, count_rest i a h p)
 -- a record of a beginning's line is a record of the whole history's line
 pub record_prefix : (p : Plan) (a h : List Entry) (i r : ℕ) → IsPrefix a h → r ≤ count i a
     → record_words p h i r ≡ record_words p a i r
-record_prefix p a h i r pre le =
-    grind (arith, only-append i a pre.0, pre.1, get_or_append_left)
+record_prefix p a h i r pre le = grind (arith, only-append i a pre.0, pre.1, get_or_append_left)
 
 -- the record of the last update
 pub record_last : (p : Plan) (h : List Entry) (i : ℕ) (ws : List ℕ)
@@ -130,12 +128,8 @@ found_next i r x h same f =
 
 pub find : (i r : ℕ) (h : List Entry) → r < count i h → Found i r h
 find i r [] lt = absurd (omega arith)
-find i zero (x ∷ h) lt = dite (ℕ_discrete x.segment i)
-    (λ same. found_first i x h same)
-    (λ other. found_more i zero x h other
-    (find i zero h (omega (arith, ap length (only_behind i x h other)))))
-find i (suc r) (x ∷ h) lt = dite (ℕ_discrete x.segment i)
-    (λ same. found_next i r x h same
-    (find i r h (omega (arith, ap length (only_first i x h same)))))
-    (λ other. found_more i (suc r) x h other
+find i zero (x ∷ h) lt = dite (ℕ_discrete x.segment i) (λ same. found_first i x h same)
+    (λ other. found_more i zero x h other (find i zero h (omega (arith, ap length (only_behind i x h other)))))
+find i (suc r) (x ∷ h) lt = dite (ℕ_discrete x.segment i) (λ same. found_next i r x h same
+    (find i r h (omega (arith, ap length (only_first i x h same))))) (λ other. found_more i (suc r) x h other
     (find i (suc r) h (omega (arith, ap length (only_behind i x h other)))))

@@ -108,8 +108,7 @@ module _ (p : Plan) (ready : IsReady p) where
   zero_at i li = grind (arith, nat_tests, get_or_append_left, count_zeros, get_or-replicate)
 
   zero_given : (i b : ℕ) → i < segments p → b < buffers p → get_or (opening_words p) (given p i b) 0 ≡ 0
-  zero_given i b li lb =
-      zero_at (given p i b) (omega (arith, below_product i (segments p) (buffers p) b li lb))
+  zero_given i b li lb = zero_at (given p i b) (omega (arith, below_product i (segments p) (buffers p) b li lb))
 
   record_at : (i q : ℕ) → i < segments p → q < width p
       → get_or (opening_words p) (cell p i 0 q) 0 ≡ get_or (start_at p i).words q 0
@@ -166,8 +165,7 @@ module _ (p : Plan) (ready : IsReady p) where
     each_seat = seated;
   }
 
-pieces_of : (k : ℕ) (xs : List Opening)
-    → flat_map (λ (x : Opening). x.words.items ++ replicate k 0) xs
+pieces_of : (k : ℕ) (xs : List Opening) → flat_map (λ (x : Opening). x.words.items ++ replicate k 0) xs
     ≡ flat_map (λ (s : Start). s.words ++ replicate k 0) (map start_of xs)
 pieces_of k [] = refl
 pieces_of k (x ∷ xs) = λ i. (x.words.items ++ replicate k 0) ++ pieces_of k xs i
@@ -176,8 +174,7 @@ pub count_of : (xs : List Opening) → length xs ≡ length (map start_of xs)
 count_of xs = sym (length-map xs start_of)
 
 pub opening_words_are : (n scanners looks block_words : ℕ) (xs : List Opening) → n ≡ length xs
-    → replicate (n + n * (n + scanners + 2)) 0
-    ++ flat_map (λ (x : Opening). x.words.items
+    → replicate (n + n * (n + scanners + 2)) 0 ++ flat_map (λ (x : Opening). x.words.items
     ++ replicate (n * block_words + (n + scanners + 1) * ((n + 1) * block_words)) 0) xs
     ≡ opening_words (plan_with scanners looks block_words xs)
 opening_words_are n scanners looks block_words xs e =

@@ -73,5 +73,4 @@ pins_else d x b e = grind (arith, nat_tests)
 -- the pins on each buffer, after the current word's were added and buffer f became current
 pub pins_moved : (d : Pool) (x c f : ℕ) → d.current < length d.counted → get_or d.counted d.current 0 + x ≡ c → (b : ℕ)
     → get_or (set d.counted d.current c) b 0 + cond (f == b) 0 0 ≡ pins_of d x b
-pins_moved d x c f inside sum b =
-    grind (arith, nat_tests, get_or-set_same {A = ℕ}, get_or-set_other {A = ℕ})
+pins_moved d x c f inside sum b = grind (arith, nat_tests, get_or-set_same {A = ℕ}, get_or-set_other {A = ℕ})

@@ -14,10 +14,8 @@ pub record Viewed (p : Plan) (h : List Entry) (j r : ℕ) : Type 0 where
   pub part : List Entry
   pub beginning : IsPrefix part h
   pub before : number p part j + 1 ≡ (start_at p j).number + r
-  pub own : IsBlock (record_words p h j r) 0 ((start_at p j).number + r)
-      (value_at (record_words p h j r) 0)
-  pub view : AreBlocks (record_words p h j r) (size_at (record_words p h j r) 0) (segments p)
-      (memory p part)
+  pub own : IsBlock (record_words p h j r) 0 ((start_at p j).number + r) (value_at (record_words p h j r) 0)
+  pub view : AreBlocks (record_words p h j r) (size_at (record_words p h j r) 0) (segments p) (memory p part)
 
 pub viewed : (p : Plan) (h : List Entry) (j r : ℕ) → IsLegal p h → 0 < r → r ≤ count j h → Viewed p h j r
 viewed p h j zero legal pos le = absurd (omega arith)
@@ -83,5 +81,4 @@ ends_small a j at n w lj same whole size = omega (arith, held_small a j lj, ap l
 
 -- a writer's seat has room for all buffers
 pub few_buffers : {n s block_words words : ℕ} {p : Plan} → IsSized n s block_words words p → buffers p ≤ 34
-few_buffers sized =
-    omega (arith, sized.few, sized.few_scanners, sized.segments_are, sized.scanners_are)
+few_buffers sized = omega (arith, sized.few, sized.few_scanners, sized.segments_are, sized.scanners_are)

@@ -13,8 +13,7 @@ held v j = record_words v.plan v.seen j (slice_index v.records j)
 
 -- the record fits a buffer, and has its number and a value
 pub record Readable (p : Plan) (h : List Entry) (j r : ℕ) : Type 0 where
-  pub own : IsBlock (record_words p h j r) 0 ((start_at p j).number + r)
-      (value_at (record_words p h j r) 0)
+  pub own : IsBlock (record_words p h j r) 0 ((start_at p j).number + r) (value_at (record_words p h j r) 0)
   pub fits : length (record_words p h j r) ≤ width p
 
 -- the entry of segment i in the view of that record
@@ -29,16 +28,14 @@ taken v (Borrowed j) = view_in (held v j)
 -- the buffers are pinned from which that memory is taken
 abbrev pub CanTake : SeatView → View → Type 0
 CanTake v Collected = (i : ℕ) → i < segments v.plan → 0 < slice_index v.pins i
-CanTake v (Borrowed j) = (j < segments v.plan) × (0 < slice_index v.pins j)
-    × (0 < slice_index v.records j)
+CanTake v (Borrowed j) = (j < segments v.plan) × (0 < slice_index v.pins j) × (0 < slice_index v.records j)
 
 -- it is the memory after a beginning of what was seen that has all updates of segment i
 abbrev pub MayTake : SeatView → ℕ → View → Type 0
 MayTake v i Collected = (part : List Entry) × IsPrefix part v.seen × (count i part ≡ count i v.seen)
     × ((k : ℕ) → k < segments v.plan → block_at (held v k) 0 ≡ memory v.plan part k)
 MayTake v i (Borrowed j) = (part : List Entry) → IsPrefix part v.seen
-    → number v.plan part j + 1 ≡ (start_at v.plan j).number + slice_index v.records j
-    → count i part ≡ count i v.seen
+    → number v.plan part j + 1 ≡ (start_at v.plan j).number + slice_index v.records j → count i part ≡ count i v.seen
 
 -- the pin on j is of its last record, and the pins on other registers stay
 pub record IsPinned (v w : SeatView) (j : ℕ) : Type 0 where

@@ -82,8 +82,7 @@ pins_of d x b = slice_index d.counted b + cond (d.current == b) x 0
 
 -- buffer b of register i holds the words l, as far as it reaches
 abbrev pub Holds : Plan → List ℕ → ℕ → ℕ → List ℕ → Type 0
-Holds p words i b l = (q : ℕ) → q < width p → q < length l
-    → slice_index words (cell p i b q) ≡ slice_index l q
+Holds p words i b l = (q : ℕ) → q < width p → q < length l → slice_index words (cell p i b q) ≡ slice_index l q
 
 -- Register i, whose current word counts x pins. The pins counted for a buffer are those returned and those held. The
 -- buffer found free has no pins. The buffers found pinned, plus the pins on buffers other than these and the current
@@ -93,13 +92,11 @@ module _ (p : Plan) (h : List Entry) (words : List ℕ) (views : List SeatView) 
     pub word : slice_index words i ≡ d.current * 2 ^ 56 + x
     pub current : d.current < buffers p
     pub number : IsNumber (number p h i)
-    pub balance : (b : ℕ) → b < buffers p
-        → pins_of d x b ≡ slice_index words (given p i b) + total (on i b) views
+    pub balance : (b : ℕ) → b < buffers p → pins_of d x b ≡ slice_index words (given p i b) + total (on i b) views
     pub wears : (b : ℕ) → b < buffers p → pins_of d x b + total (λ v. v.left) views < 2 ^ 56
     pub free_buffer : d.free_buffer < buffers p → (d.free_buffer ≡ d.current → ⊥)
         × (total (on i d.free_buffer) views ≡ 0)
-    pub found_pinned : d.found_pinned
-        + total (beyond i (other d.current d.found_pinned) d.current) views ≤ seats p
+    pub found_pinned : d.found_pinned + total (beyond i (other d.current d.found_pinned) d.current) views ≤ seats p
     pub counts : length d.counted ≡ buffers p
     pub short : length d.draft ≤ width p
     pub draft : (q : ℕ) → d.free_buffer < buffers p → q < length d.draft
@@ -141,10 +138,8 @@ pub record Kept {S : Type 0} (p : Plan) (s : State S SeatView) : Type 0 where
   pub shares : total (λ v. v.pin_quota) s.views ≤ seats p
   pub few : buffers p ≤ 128
   pub legal : IsLegal p history
-  pub registers : (i : ℕ) → i < segments p
-      → Register p history s.words s.views i (pools i) (pinned i)
-  pub each_seat : (j : ℕ) (v : SeatView) → get_elem? s.views j ≡ some v
-      → Knows p history s.words writer pools j v
+  pub registers : (i : ℕ) → i < segments p → Register p history s.words s.views i (pools i) (pinned i)
+  pub each_seat : (j : ℕ) (v : SeatView) → get_elem? s.views j ≡ some v → Knows p history s.words writer pools j v
 
 -- what a seat learns from a step by which it sees the whole history
 pub record Learns (v w : SeatView) : Type 0 where
@@ -325,8 +320,7 @@ module _ {S : Type 0} where
 
   -- a load of the next word of the free buffer, which becomes a part of the draft
   abbrev pub reused : Step S → Me S SeatView → ℕ → Me S SeatView → Type 0
-  reused st m found m' = m'
-      ≡ (record m.0 { pool = record m.0.pool { draft = m.0.pool.draft ++ found ∷ [] } }, m.1)
+  reused st m found m' = m' ≡ (record m.0 { pool = record m.0.pool { draft = m.0.pool.draft ++ found ∷ [] } }, m.1)
 
   -- a store in place of the last drafted word
   abbrev pub redrafted : Step S → Me S SeatView → ℕ → Me S SeatView → Type 0

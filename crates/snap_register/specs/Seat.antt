@@ -38,8 +38,7 @@ known z v = record {
 
 -- the number that the last look at segment j found
 abbrev pub looked : Known → ℕ → Option ℕ
-looked a j = cond (slice_index a.pins j == 0) None
-    (Some ((start_at a.plan j).number + slice_index a.records j))
+looked a j = cond (slice_index a.pins j == 0) None (Some ((start_at a.plan j).number + slice_index a.records j))
 
 -- the segment that a writer's seat writes
 abbrev pub own_of : Known → ℕ
@@ -103,14 +102,12 @@ pub record IsValue (a : Known) (j : ℕ) (value : List ℕ) : Type 0 where
 -- the list has each segment's number and value after the updates `part`
 pub record IsMemory (a : Known) (part : List Update) (xs : List (ℕ × List ℕ)) : Type 0 where
   pub size : length xs ≡ segments a.plan
-  pub each : (i : ℕ) → i < segments a.plan
-      → slice_get xs i ≡ Some (number_in a part i, value_in a part i)
+  pub each : (i : ℕ) → i < segments a.plan → slice_get xs i ≡ Some (number_in a part i, value_in a part i)
 
 -- the list has the number and value of each named segment after the updates `part`
 pub record IsMemoryOf (a : Known) (set : ℕ) (part : List Update) (xs : List (ℕ × List ℕ)) : Type 0 where
   pub size : length xs ≡ segments a.plan
-  pub each : (i : ℕ) → i < segments a.plan → Names set i
-      → slice_get xs i ≡ Some (number_in a part i, value_in a part i)
+  pub each : (i : ℕ) → i < segments a.plan → Names set i → slice_get xs i ≡ Some (number_in a part i, value_in a part i)
 
 -- the list has the memory of the named segments after a beginning of what was seen in which j's
 -- number is one below that of the last look
@@ -132,8 +129,7 @@ pub record IsCollected (a : Known) : Type 0 where
 pub record IsBorrowed (a : Known) (j : ℕ) : Type 0 where
   pub inside : j < segments a.plan
   pub found : HasFoundUpdate a j
-  pub whole : (part : List Update) → IsBeginning part a.seen
-      → looked a j ≡ Some (number_in a part j + 1)
+  pub whole : (part : List Update) → IsBeginning part a.seen → looked a j ≡ Some (number_in a part j + 1)
       → number_in a part (own_of a) ≡ number_in a a.seen (own_of a)
 
 -- an update of this seat may carry this view

@@ -89,8 +89,7 @@ pub record IsSeated {S : Type 0} (words : ℕ) (pins : List ℕ) (left : ℕ)
   pub pins_are : (i : ℕ) → i < segments m.0.plan → slice_index pins i ≡ slice_index m.0.pins i
   pub pins_inside : (i : ℕ) → i < segments m.0.plan → slice_index m.0.pins i ≤ buffers m.0.plan
   pub records_are : (i : ℕ) → i < segments m.0.plan → slice_index m.0.records i ≤ count i m.0.seen
-  pub readable : (i : ℕ) → i < segments m.0.plan
-      → Readable m.0.plan m.0.seen i (slice_index m.0.records i)
+  pub readable : (i : ℕ) → i < segments m.0.plan → Readable m.0.plan m.0.seen i (slice_index m.0.records i)
 
 -- the seat writes segment i alone, at number k, and knows its current buffer and the pins counted for each buffer
 pub record IsPool {S : Type 0} (i k current : ℕ) (counted : List ℕ)
@@ -102,8 +101,7 @@ pub record IsPool {S : Type 0} (i k current : ℕ) (counted : List ℕ)
   pub current_inside : current < buffers m.0.plan
   pub found_pinned_is : m.0.pool.found_pinned ≡ 0
   pub counts : length m.0.pool.counted ≡ buffers m.0.plan
-  pub counted_are : (b : ℕ) → b < buffers m.0.plan
-      → slice_index counted b ≡ slice_index m.0.pool.counted b
+  pub counted_are : (b : ℕ) → b < buffers m.0.plan → slice_index counted b ≡ slice_index m.0.pool.counted b
 
 -- the words of a segment's buffers after the first words of its first record
 abbrev pub unused : Plan → ℕ
@@ -134,8 +132,7 @@ pub record IsFirst {S : Type 0} (words left : ℕ) (m : Me S SeatView) : Type 0 
   pub pool_is : m.0.pool ≡ first_pool m.0.plan
   pub pin_quota_is : m.0.pin_quota ≡ left
   pub left_is : m.0.left ≡ left * m.0.plan.looks
-  pub readable : (i : ℕ) → i < segments m.0.plan
-      → Readable m.0.plan m.0.seen i (slice_index m.0.records i)
+  pub readable : (i : ℕ) → i < segments m.0.plan → Readable m.0.plan m.0.seen i (slice_index m.0.records i)
   pub pins_are : m.0.pins ≡ replicate (segments m.0.plan) 0
   pub records_are : m.0.records ≡ replicate (segments m.0.plan) 0
 
@@ -150,7 +147,6 @@ pub record IsFresh {S : Type 0} (words : ℕ) (m : Me S SeatView) : Type 0 where
   pub pool_is : m.0.pool ≡ first_pool m.0.plan
   pub pin_quota_is : m.0.pin_quota ≡ 1
   pub left_is : m.0.left ≡ m.0.plan.looks
-  pub readable : (i : ℕ) → i < segments m.0.plan
-      → Readable m.0.plan m.0.seen i (slice_index m.0.records i)
+  pub readable : (i : ℕ) → i < segments m.0.plan → Readable m.0.plan m.0.seen i (slice_index m.0.records i)
   pub pins_are : m.0.pins ≡ replicate (segments m.0.plan) 0
   pub records_are : m.0.records ≡ replicate (segments m.0.plan) 0

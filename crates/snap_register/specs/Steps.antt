@@ -74,8 +74,7 @@ HasSeat s = (pins : List ℕ) × (left : ℕ) × IsSeated s.table_id.words pins 
 
 -- the same seat, with the same knowledge and looks
 abbrev pub IsSame : Access → Access → Type 0
-IsSame a b = (b.seat.table_id ≡ a.seat.table_id) × (b.seat.id ≡ a.seat.id) × (b.seat.me ≡ a.seat.me)
-    × (b.left ≡ a.left)
+IsSame a b = (b.seat.table_id ≡ a.seat.table_id) × (b.seat.id ≡ a.seat.id) × (b.seat.me ≡ a.seat.me) × (b.left ≡ a.left)
 
 -- only the pool has changed, to d
 abbrev pub HasPool : Access → Access → Pool → Type 0

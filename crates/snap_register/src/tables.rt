@@ -107,15 +107,12 @@ fn seat_writers(
 ) -> Result<Vec<WriteSeat>, AllocError>
     requires own { first_seat.old.table_id ≡ (arc_value table.now).shared.table_id }
     requires sized { HasSizes sizes (view_at first_seat.old).plan }
-    requires first { IsFirst first_seat.old.table_id.words
-        (seats (view_at first_seat.old).plan) first_seat.old.me
+    requires first { IsFirst first_seat.old.table_id.words (seats (view_at first_seat.old).plan) first_seat.old.me
         × ((view_at first_seat.old).low ≡ 0) × ((view_at first_seat.old).high ≡ sizes.segments) }
     requires numbers { (length values.now.items ≡ sizes.segments) × ((i : ℕ)
-        → i < segments (view_at first_seat.old).plan
-        → slice_index (map (λ x. x.number) values.now.items) i
+        → i < segments (view_at first_seat.old).plan → slice_index (map (λ x. x.number) values.now.items) i
         ≡ (start_at (view_at first_seat.old).plan i).number) }
-    ensures first_seat { IfOk result (λ _.
-        IsFirst first_seat.new.table_id.words sizes.scanners first_seat.new.me
+    ensures first_seat { IfOk result (λ _. IsFirst first_seat.new.table_id.words sizes.scanners first_seat.new.me
         × (first_seat.new.table_id ≡ first_seat.old.table_id)
         × ((view_at first_seat.new).plan ≡ (view_at first_seat.old).plan)) }
     ensures seats { IfOk result (λ v. (length v.items ≡ sizes.segments)

@@ -10,9 +10,8 @@ use Rattle.snap_segment.specs.{Layout.IsFileOf, States.IsEither}
 use Rattle.snap_slot.proofs.Readings.{holds_same}
 use Rattle.snap_history.specs.History.{Update, Start, updates_of, last_value, number_after, value_after}
 use Rattle.snap_history.proofs.Moments.{updates-append, last-append, last_none, number-push, number-push_other}
-use Rattle.snap_history.proofs.Moments.{value-push, value-push_other}
-use Rattle.snap_history.proofs.Lists.{get-set_same, get-set_other, get-append_left}
-use Rattle.snap_history.{specs.Pairs.Pairs, proofs.Pairs.element, proofs.Pairs.partner}
+use Rattle.snap_history.proofs.{Moments.value-push, Lists.get-set_same, Lists.get-set_other, Lists.get-append_left}
+use Rattle.snap_history.{proofs.Moments.value-push_other, specs.Pairs.Pairs, proofs.Pairs.element, proofs.Pairs.partner}
 use Rattle.snap_register.specs.Registers.{no_registers}
 use Rattle.snap_writer.{specs.Life.Place, specs.Life.in_store, proofs.Shown.number_kept, proofs.Shown.value_kept}
 use Rattle.snap_restart.specs.LifeCrash.{Begun, IsRecovered, KeepMemory}
@@ -34,17 +33,7 @@ record LastOf (v : List ℕ) (j : ℕ) (xs : List Update) : Type 0 where
 
 last_here : (v : List ℕ) (j : ℕ) (x : Update) (xs : List Update) → updates_of j xs ≡ 0
     → (updates_of j (x ∷ xs) ≡ 0) ⊎ LastOf v j (x ∷ xs)
-last_here v j x xs none = ⊎_elim
-    (λ same. inr (record {
-      place = 0;
-      is = x;
-      at = refl;
-      segment_is = same;
-      value_is = grind (arith, nat_tests, last_none);
-      some = grind (arith, nat_tests);
-    }))
-    (λ other. inl (grind (arith, nat_tests)))
-    (cases_eq x.segment j)
+last_here v j x xs none = grind (arith, nat_tests, last_none, cases_eq)
 
 last_of : (v : List ℕ) (j : ℕ) (xs : List Update) → (updates_of j xs ≡ 0) ⊎ LastOf v j xs
 last_of v j [] = inl refl
@@ -85,11 +74,9 @@ without_count : (i j : ℕ) (h : List Update) → j ≢ i → updates_of j (with
 without_count i j [] ne = refl
 without_count i j (u ∷ h) ne = grind (arith, nat_tests, without_count i j h ne)
 
-without_value : (i j : ℕ) (v : List ℕ) (h : List Update) → j ≢ i
-    → last_value v j (without i h) ≡ last_value v j h
+without_value : (i j : ℕ) (v : List ℕ) (h : List Update) → j ≢ i → last_value v j (without i h) ≡ last_value v j h
 without_value i j v [] ne = refl
-without_value i j v (u ∷ h) ne =
-    grind (arith, nat_tests, without_value i j v h ne, without_value i j u.value h ne)
+without_value i j v (u ∷ h) ne = grind (arith, nat_tests, without_value i j v h ne, without_value i j u.value h ne)
 
 pub without-append : (i : ℕ) (a b : List Update) → without i (a ++ b) ≡ without i a ++ without i b
 without-append i [] b = refl
@@ -162,9 +149,8 @@ begun_on d v = in_store (record {
   };
 }) v d
 
-module _ {D : Type 0} (disk : Disk.Ghosts D) (n : ℕ) (start : Start) (h : List Update)
-    (crashed : List (Place D)) (devices nexts : List D)
-    (kept : KeepMemory disk n start h (Begun crashed) devices) (i : ℕ) where
+module _ {D : Type 0} (disk : Disk.Ghosts D) (n : ℕ) (start : Start) (h : List Update) (crashed : List (Place D))
+    (devices nexts : List D) (kept : KeepMemory disk n start h (Begun crashed) devices) (i : ℕ) where
   module _ (leaves : List ℕ → Type 0) (works : Works disk i leaves devices nexts) where
     abbrev own : (d : D) × (slice_get devices i ≡ Some d)
     own = element devices i works.there
@@ -195,8 +181,7 @@ module _ {D : Type 0} (disk : Disk.Ghosts D) (n : ℕ) (start : Start) (h : List
           rw (← is, ← bytes) (record { size = refl; elsewhere = λ p _. refl }))
           (λ other.
           let e = partner _ devices nexts j d works.others ed in
-          e.2 other b (left.each j e.0 b e.1 (sym (get-set_other files i j now other) ∙ eb)))
-          (cases_eq j i);
+          e.2 other b (left.each j e.0 b e.1 (sym (get-set_other files i j now other) ∙ eb))) (cases_eq j i);
     }
 
     -- from a history that has the same of the other segments, and a start, the memory is kept
@@ -221,8 +206,7 @@ module _ {D : Type 0} (disk : Disk.Ghosts D) (n : ℕ) (start : Start) (h : List
         let to = same j other in ⊎_elim
         (λ is. inl (λ b at. same_file refl refl to.0 to.1 (is b (was ∙ at))))
         (λ is. inr (is.0, begun j is.0 other is.1, λ b at. rw to.0 at (is.2 b (was ∙ at))))
-        (found n start h (Begun crashed) before r j))
-        (cases_eq j i))
+        (found n start h (Begun crashed) before r j)) (cases_eq j i))
 
     -- ---- the update that had been begun, if the file holds it
 
@@ -307,8 +291,7 @@ module _ {D : Type 0} (disk : Disk.Ghosts D) (n : ℕ) (start : Start) (h : List
           more = m.more;
           once = m.once;
           begun = put_at i p crashed;
-          keeps = goes_on leaves works start (h ++ m.more)
-              (Begun (put_at i p crashed)) m.others
+          keeps = goes_on leaves works start (h ++ m.more) (Begun (put_at i p crashed)) m.others
               (λ j w ne was. (was.0, put_other i j p was.0 crashed ne was.1, was.2))
               (λ b. ⊎_elim (λ is. inl (rw (m.number_is, m.value_is) is))
               (λ is. inr (v, (p, put_here i p crashed, inl refl), rw m.number_is is)));

@@ -1,16 +1,13 @@
 -- A crash at any moment from an opening on, and at any cut once all writers and scanners are back.
-use Rattle.std.proofs.Common.{◌≡◌, ℕ, zero, suc, inl, List, [], ◌∷◌, ◌++◌, length, map, Some, slice_get, refl, sym}
-use Rattle.std.proofs.Common.{◌∙◌, arith}
-use Rattle.std.proofs.lemmas.{List.length-map, Option.same_Some}
+use Rattle.std.proofs.Common.{◌≡◌, ℕ, zero, suc, inl, List, [], ◌∷◌, ◌++◌, length, map, Some, slice_get, refl, sym, ◌∙◌}
+use Rattle.std.proofs.{Common.arith, lemmas.List.length-map, lemmas.Option.same_Some}
 use Rattle.snap_disk.specs.declared.refusal.Refusal.{Refusal}
 use Rattle.snap_slot.proofs.{Readings.holds_same, Rest.at_rest_leaves}
 use Rattle.snap_segment.specs.Segment.{SegmentState}
-use Rattle.snap_history.specs.History.{Update, Start, number_after, value_after}
-use Rattle.snap_history.proofs.Pairs.{element, partner, Pairs-map}
-use Rattle.snap_history.{specs.Pairs.Pairs, proofs.Beginnings.beginning-trans}
+use Rattle.snap_history.specs.{History.Update, History.Start, History.number_after, History.value_after, Pairs.Pairs}
+use Rattle.snap_history.proofs.{Pairs.element, Pairs.partner, Pairs.Pairs-map, Beginnings.beginning-trans}
 use Rattle.snap_register.specs.{declared.plan.Plan.Plan, History.starts, History.updates, Seat.Known}
-use Rattle.snap_writer.specs.Writer.{WriterState, number_of, value_of, IsPaired}
-use Rattle.snap_writer.specs.Life.{IsWriterOf}
+use Rattle.snap_writer.specs.{Writer.WriterState, Writer.number_of, Writer.value_of, Writer.IsPaired, Life.IsWriterOf}
 use Rattle.snap_restart.specs.Opened.{IsBack, IsOpened, IsStopped, AreFresh}
 use Rattle.snap_restart.specs.Crash.{AnyMoment, AllHonest, AreOpened, StayKept, AnyCut}
 use Rattle.snap_restart.specs.{LifeCrash.Begun, LifeCrash.IsRecovered, Closed.AreBack, Closed.IsHistory}
@@ -31,13 +28,10 @@ abbrev pub its_device : {D : Type 0} → WriterState D → D
 its_device w = w.segment.device
 
 -- the registers start with what the writers have, which is the memory after the base
-pub starts_after : {D : Type 0} (writers : List (WriterState D)) (plan : Plan) (start : Start)
-    (base : List Update)
-    → ((i : ℕ) (w : WriterState D) → slice_get writers i ≡ Some w
-    → (w.segment.number ≡ (starts plan i).0) × (w.segment.value ≡ (starts plan i).1))
-    → ((i : ℕ) (w : WriterState D) → slice_get writers i ≡ Some w
-    → (w.segment.number ≡ number_after start base i)
-    × (w.segment.value ≡ value_after start base i))
+pub starts_after : {D : Type 0} (writers : List (WriterState D)) (plan : Plan) (start : Start) (base : List Update)
+    → ((i : ℕ) (w : WriterState D) → slice_get writers i ≡ Some w → (w.segment.number ≡ (starts plan i).0)
+    × (w.segment.value ≡ (starts plan i).1)) → ((i : ℕ) (w : WriterState D) → slice_get writers i ≡ Some w
+    → (w.segment.number ≡ number_after start base i) × (w.segment.value ≡ value_after start base i))
     → StartsAfter (length writers) start base (starts plan)
 starts_after writers plan start base firsts bases i low =
     let w = element writers i low in
@@ -57,10 +51,9 @@ module _ {D : Type 0} (disk : Disk.Ghosts D) where
 
   -- the writer starts with what the files hold
   starts_with : (devices : List D) (writers : List (WriterState D))
-      → Pairs (IsOpened disk (length devices)) devices (map its_segment writers)
-      → (start : Start) (h : List Update) (begun : ℕ → List ℕ → Type 0)
-      → (r : IsRecovered (length devices) start h begun (map (λ (d : D). (disk.device d).bytes)
-      devices))
+      → Pairs (IsOpened disk (length devices)) devices (map its_segment writers) → (start : Start) (h : List Update)
+      (begun : ℕ → List ℕ → Type 0)
+      → (r : IsRecovered (length devices) start h begun (map (λ (d : D). (disk.device d).bytes) devices))
       → AllHonest disk writers → (i : ℕ) (w : WriterState D) → slice_get writers i ≡ Some w
       → (w.segment.number ≡ number_after start (h ++ r.begun_too) i)
       × (w.segment.value ≡ value_after start (h ++ r.begun_too) i)
@@ -70,11 +63,9 @@ module _ {D : Type 0} (disk : Disk.Ghosts D) where
       holds_same (bytes_of d.0) w.segment.number _ w.segment.value _ (d.2.found (hon i w at)).1
       (r.holds i (bytes_of d.0) (get_map bytes_of devices i d.0 d.1)).holds
 
-  pub opened : (devices : List D) (writers : List (WriterState D))
-      (scanners : List Known) → AreFresh writers scanners
+  pub opened : (devices : List D) (writers : List (WriterState D)) (scanners : List Known) → AreFresh writers scanners
       → Pairs (IsOpened disk (length devices)) devices (map its_segment writers)
-      → ((i : ℕ) (w : WriterState D) → slice_get writers i ≡ Some w → IsPaired w)
-      → AreBack writers scanners
+      → ((i : ℕ) (w : WriterState D) → slice_get writers i ≡ Some w → IsPaired w) → AreBack writers scanners
       → AreOpened disk devices writers
   opened devices writers scanners fresh were paired back =
       let size : length devices ≡ length writers = were.size ∙ length-map writers its_segment in
@@ -110,8 +101,7 @@ module _ {D : Type 0} (disk : Disk.Ghosts D) where
       moment_recovers disk back.plan (length writers) s kept places files count (λ i p at.
       let e = each i p at in
       let x = e.0 in
-      ((life_fits disk back.plan (length writers) i x.0 x.1 x.2 p (all_are i x.0 x.3) x.4 x.5).0, e.1))
-      left in
+      ((life_fits disk back.plan (length writers) i x.0 x.1 x.2 p (all_are i x.0 x.3) x.4 x.5).0, e.1)) left in
       record {
         plan = back.plan;
         all = back.all;
@@ -128,17 +118,14 @@ module _ {D : Type 0} (disk : Disk.Ghosts D) where
               once = r.once;
               starts_are = with;
               any_moment = λ s kept places files count each left.
-                  recovered_on (length writers) start (h ++ r.begun_too) (starts back.plan) after
-                  (updates kept.history) (Begun places) files
-                  (any_moment s kept places files count each left).1;
+                  recovered_on (length writers) start (h ++ r.begun_too) (starts back.plan) after (updates kept.history)
+                  (Begun places) files (any_moment s kept places files count each left).1;
             };
       }
 
   -- ---- a crash during an opening
 
-  pub stay_kept : (olds news : List D)
-      → Pairs (λ _. IsBack disk) olds news
-      → StayKept disk olds news
+  pub stay_kept : (olds news : List D) → Pairs (λ _. IsBack disk) olds news → StayKept disk olds news
   stay_kept olds news back n start h crashed files kept size left = kept files (record {
     size = size;
     each = λ i d b ed eb.
@@ -159,21 +146,17 @@ module _ {D : Type 0} (disk : Disk.Ghosts D) where
 
   pub backs_stopped : (olds news : List D) (why : Refusal) (k : ℕ)
       → IsStopped disk olds news why k → Pairs (λ _. IsBack disk) olds news
-  backs_stopped olds news why k is =
-      Pairs-map _ _ olds news (λ i d e returned. returned.back) is.returned
+  backs_stopped olds news why k is = Pairs-map _ _ olds news (λ i d e returned. returned.back) is.returned
 
   -- ---- all writers and scanners are back
 
-  pub any_cut : (h : List Update) (writers : List (WriterState D)) (scanners : List Known)
-      → AreBack writers scanners → IsHistory h writers scanners
-      → AnyCut disk h writers scanners
+  pub any_cut : (h : List Update) (writers : List (WriterState D)) (scanners : List Known) → AreBack writers scanners
+      → IsHistory h writers scanners → AnyCut disk h writers scanners
   any_cut h writers scanners back history plan places saw files size lived seen consistent left =
-      cut_recovers disk plan h places saw files
-      (omega (arith, back.some, size))
+      cut_recovers disk plan h places saw files (omega (arith, back.some, size))
       (λ i p e.
       let x = lived i p e in
       (x.0, x.1, x.2, rw size x.4, x.5, x.6, (history.writers_saw i x.1 x.3).0))
       (λ k l e.
       let x = seen k l e in
-      beginning-trans l x.1.seen h x.3 (history.scanners_saw x.0 x.1 x.2))
-      consistent left
+      beginning-trans l x.1.seen h x.3 (history.scanners_saw x.0 x.1 x.2)) consistent left

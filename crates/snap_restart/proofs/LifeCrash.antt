@@ -2,11 +2,11 @@
 use Rattle.std.proofs.Common.{◌≡◌, ◌⊎◌, ⊎_elim, ℕ, zero, suc, ◌+◌, ◌<◌, ◌≤◌, inl, inr, List, [], ◌∷◌, length, Some}
 use Rattle.std.proofs.Common.{slice_get, refl, ap, sym, ◌∙◌, arith}
 use Rattle.std.proofs.lemmas.{List.length-append, List.length-map, Option.same_Some}
-use Rattle.snap_register.specs.History.{starts, updates, only}
+use Rattle.snap_register.specs.History.{starts, updates}
 use Rattle.snap_register.proofs.Updates.{updates_count, beginning_is}
 use Rattle.snap_register.specs.{Registers.Moment, declared.plan.Plan.Plan, declared.plan.SeatView.SeatView, Rule.Kept}
 use Rattle.snap_slot.specs.Layout.{IsFileOf}
-use Rattle.snap_history.specs.History.{Update, IsBeginning, updates_of, number_after, value_after}
+use Rattle.snap_history.specs.History.{Update, IsBeginning, number_after, value_after}
 use Rattle.snap_history.proofs.Beginnings.{beginning-self, beginning-trans, number-beginning}
 use Rattle.snap_history.{specs.Pairs.Pairs, proofs.Pairs.element, proofs.Pairs.partner}
 use Rattle.snap_memory.proofs.ScanAnswer.{same_value}
@@ -24,21 +24,18 @@ use Rattle.snap_disk.specs.declared.disk.Disk as Disk
 
 module _ {D : Type 0} where
   seen_there : (writers : List (Place D)) (scanners : List (List Update)) (i : ℕ) (p : Place D)
-      → slice_get writers i ≡ Some p
-      → slice_get (all_seen writers scanners) i ≡ Some (seen_at p)
+      → slice_get writers i ≡ Some p → slice_get (all_seen writers scanners) i ≡ Some (seen_at p)
   seen_there [] scanners i p e = absurd (cc e)
   seen_there (w ∷ ws) scanners zero p e = ap (λ (q : Place D). Some (seen_at q)) (same_Some w p e)
   seen_there (w ∷ ws) scanners (suc i) p e = seen_there ws scanners i p e
 
   -- a property of all that writers have seen, and of all that scanners have seen, holds of each
-  pub each_seen : (P : List Update → Type 0) (writers : List (Place D))
-      (scanners : List (List Update))
+  pub each_seen : (P : List Update → Type 0) (writers : List (Place D)) (scanners : List (List Update))
       → ((i : ℕ) (p : Place D) → slice_get writers i ≡ Some p → P (seen_at p))
-      → ((k : ℕ) (x : List Update) → slice_get scanners k ≡ Some x → P x)
-      → (j : ℕ) (x : List Update) → slice_get (all_seen writers scanners) j ≡ Some x → P x
+      → ((k : ℕ) (x : List Update) → slice_get scanners k ≡ Some x → P x) → (j : ℕ) (x : List Update)
+      → slice_get (all_seen writers scanners) j ≡ Some x → P x
   each_seen P [] scanners theirs others j x e = others j x e
-  each_seen P (w ∷ ws) scanners theirs others zero x e =
-      rw (same_Some (seen_at w) x e) at (theirs 0 w refl)
+  each_seen P (w ∷ ws) scanners theirs others zero x e = rw (same_Some (seen_at w) x e) at (theirs 0 w refl)
   each_seen P (w ∷ ws) scanners theirs others (suc j) x e =
       each_seen P ws scanners (λ i p at. theirs (suc i) p at) others j x e
 
@@ -53,19 +50,13 @@ pub seen_saw : (plan : Plan) (s : Moment) (kept : Kept plan s) (seen : List Upda
 seen_saw plan s kept seen (j, v, at, is) = rw is (seat_saw plan s kept j v at)
 
 -- a writer that has shown all its updates in the history
-pub record Agrees {D : Type 0} (plan : Plan) (h : List Update) (i : ℕ) (p : Place D)
-    : Type 0 where
+pub record Agrees {D : Type 0} (plan : Plan) (h : List Update) (i : ℕ) (p : Place D) : Type 0 where
   pub saw : IsBeginning (seen_at p) h
   pub whole : number_after (starts plan) h i ≤ number_after (starts plan) (seen_at p) i
 
 seat_agrees : {D : Type 0} (plan : Plan) (s : Moment) (kept : Kept plan s)
     (i : ℕ) (p : Place D) → IsSeatOf s.views i p → Agrees plan (updates kept.history) i p
-seat_agrees plan s kept i p (j, v, at, writes, is) =
-    let all : only i v.seen ≡ only i kept.history =
-    ((kept.each_seat j v at).role i (omega arith, omega arith)).all (omega arith) in
-    let same : updates_of i (seen_at p) ≡ updates_of i (updates kept.history) =
-    rw (is, updates_count, updates_count, all) in
-    record { saw = seen_saw plan s kept (seen_at p) (j, v, at, is); whole = omega (arith, same) }
+seat_agrees plan s kept i p (j, v, at, writes, is) = grind (arith, updates_count, seen_saw)
 
 pub moment_consistent : {D : Type 0} → ConsistentLaw D
 moment_consistent plan s kept writers scanners seats seen j x e i p at =
@@ -80,11 +71,10 @@ moment_consistent plan s kept writers scanners seats seen j x e i p at =
 module _ {D : Type 0} (disk : Disk.Ghosts D) where
   -- ---- the contents of the devices
 
-  agreed : (plan : Plan) (h : List Update) (n i : ℕ) (p : Place D) (b : List ℕ)
-      → IsPlaceOf disk plan n i p → Agrees plan h i p
-      → CrashLeaves disk p b
-      → (IsFileOf i n (number_after (starts plan) h i) (value_after (starts plan) h i) b)
-      ⊎ ((v : List ℕ) × HasBegun p v × IsFileOf i n (number_after (starts plan) h i + 1) v b)
+  agreed : (plan : Plan) (h : List Update) (n i : ℕ) (p : Place D) (b : List ℕ) → IsPlaceOf disk plan n i p
+      → Agrees plan h i p → CrashLeaves disk p b
+      → (IsFileOf i n (number_after (starts plan) h i) (value_after (starts plan) h i) b) ⊎ ((v : List ℕ) × HasBegun p v
+      × IsFileOf i n (number_after (starts plan) h i + 1) v b)
   agreed plan h n i p b is a left =
       let of = is.writer_is in
       let number : number_of p.writer ≡ number_after (starts plan) (seen_at p) i =
@@ -95,14 +85,11 @@ module _ {D : Type 0} (disk : Disk.Ghosts D) where
       omega (arith, number-beginning (starts plan) (seen_at p) h i a.saw, a.whole) in
       let still = same_value (starts plan) h (seen_at p) h i a.saw (beginning-self h) same in
       ⊎_elim (λ old. inl (same_file refl refl (number ∙ same) (value ∙ still) old))
-      (λ new. inr (new.0, new.1, rw (number ∙ same) at new.2))
-      (crash_leaves disk plan n i p is b left)
+      (λ new. inr (new.0, new.1, rw (number ∙ same) at new.2)) (crash_leaves disk plan n i p is b left)
 
-  recovered : (plan : Plan) (n : ℕ) (h : List Update) (writers : List (Place D))
-      (files : List (List ℕ)) → length writers ≡ n
-      → ((i : ℕ) (p : Place D) → slice_get writers i ≡ Some p
-      → IsPlaceOf disk plan n i p × Agrees plan h i p)
-      → Pairs (λ _. CrashLeaves disk) writers files
+  recovered : (plan : Plan) (n : ℕ) (h : List Update) (writers : List (Place D)) (files : List (List ℕ))
+      → length writers ≡ n → ((i : ℕ) (p : Place D) → slice_get writers i ≡ Some p → IsPlaceOf disk plan n i p
+      × Agrees plan h i p) → Pairs (λ _. CrashLeaves disk) writers files
       → IsRecovered n (starts plan) h (Begun writers) files
   recovered plan n h writers files count each left =
       all_found n (starts plan) h (Begun writers) files (sym left.size ∙ count) (λ i low.
@@ -147,13 +134,11 @@ module _ {D : Type 0} (disk : Disk.Ghosts D) where
 
   -- ---- a moment of the registers
 
-  pub moment_recovers : (plan : Plan) (n : ℕ) (s : Moment) (kept : Kept plan s)
-      (writers : List (Place D)) (files : List (List ℕ)) → length writers ≡ n
-      → ((i : ℕ) (p : Place D) → slice_get writers i ≡ Some p
-      → IsPlaceOf disk plan n i p × IsSeatOf s.views i p)
+  pub moment_recovers : (plan : Plan) (n : ℕ) (s : Moment) (kept : Kept plan s) (writers : List (Place D))
+      (files : List (List ℕ)) → length writers ≡ n
+      → ((i : ℕ) (p : Place D) → slice_get writers i ≡ Some p → IsPlaceOf disk plan n i p × IsSeatOf s.views i p)
       → Pairs (λ _. CrashLeaves disk) writers files
-      → ((j : ℕ) (v : SeatView) → get_elem? s.views j ≡ some v
-      → IsBeginning (updates v.seen) (updates kept.history))
+      → ((j : ℕ) (v : SeatView) → get_elem? s.views j ≡ some v → IsBeginning (updates v.seen) (updates kept.history))
       × IsRecovered n (starts plan) (updates kept.history) (Begun writers) files
   moment_recovers plan n s kept writers files count each left = (
     seat_saw plan s kept,

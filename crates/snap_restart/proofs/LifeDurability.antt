@@ -12,9 +12,7 @@ use Rattle.snap_disk.specs.declared.disk.Disk as Disk
 
 -- the writer of a segment stays its writer throughout its life
 pub lived_is : {D : Type 0} (disk : Disk.Ghosts D) (plan : Plan) (n i : ℕ) (a z : WriterState D)
-    (life : List (WriterState D)) → IsWriterOf disk plan n i a
-    → Lived disk a life z
-    → IsWriterOf disk plan n i z
+    (life : List (WriterState D)) → IsWriterOf disk plan n i a → Lived disk a life z → IsWriterOf disk plan n i z
 lived_is disk plan n i a z [] is lived = rw lived is
 lived_is disk plan n i a z (b ∷ life) is lived =
     lived_is disk plan n i b z life (does_is disk plan n i a b is lived.0) lived.1
@@ -27,12 +25,10 @@ module _ {D : Type 0} (disk : Disk.Ghosts D) where
   honest_before a b (inr (inl stores)) hon = stores.1.honest_then hon
   honest_before a b (inr (inr shows)) hon = rw shows.segment_is at hon
 
-  honest_all : (a z : WriterState D) (life : List (WriterState D))
-      → Lived disk a life z → disk.is_honest z.segment.device
-      → disk.is_honest a.segment.device
+  honest_all : (a z : WriterState D) (life : List (WriterState D)) → Lived disk a life z
+      → disk.is_honest z.segment.device → disk.is_honest a.segment.device
   honest_all a z [] lived hon = rw lived at hon
-  honest_all a z (b ∷ life) lived hon =
-      honest_before a b lived.0 (honest_all b z life lived.1 hon)
+  honest_all a z (b ∷ life) lived hon = honest_before a b lived.0 (honest_all b z life lived.1 hon)
 
 module _ {D : Type 0} (disk : Disk.Ghosts D) (plan : Plan) (n i : ℕ) where
   -- the file of what is stored
@@ -51,22 +47,13 @@ module _ {D : Type 0} (disk : Disk.Ghosts D) (plan : Plan) (n i : ℕ) where
   begun : (a : WriterState D) (life : List (WriterState D)) → IsWriterOf disk plan n i a → (v : List ℕ)
       → Once (a ∷ life) (Gave (a.segment.number + 1) v) → (x : List ℕ)
       → IsFileOf a.segment.index a.segment.count (a.segment.number + 1) v x → Keeps n i a life x
-  begun a life is v gave x file = record {
-    number = a.segment.number + 1;
-    value = v;
-    file = same_file is.index_is is.count_is refl refl file;
-    no_less = omega arith;
-    same_value = λ e. absurd (omega arith);
-    given = gave;
-  }
+  begun a life is v gave x file = grind (arith, same_file)
 
   -- a crash between two stores
   between : (a : WriterState D) (life : List (WriterState D)) → IsWriterOf disk plan n i a
-      → disk.is_honest a.segment.device → (x : List ℕ) → MayLeave (disk.device a.segment.device) x
-      → Keeps n i a life x
+      → disk.is_honest a.segment.device → (x : List ℕ) → MayLeave (disk.device a.segment.device) x → Keeps n i a life x
   between a life is hon x left = ⊎_elim (stored a life is x)
-      (λ failed. begun a life is failed.0 (0, a, refl, inr (refl, failed.1)) x failed.2)
-      (is.rests hon x left)
+      (λ failed. begun a life is failed.0 (0, a, refl, inr (refl, failed.1)) x failed.2) (is.rests hon x left)
 
   gave_next : (a b : WriterState D) (v : List ℕ) → Stores disk v a b → Gave (a.segment.number + 1) v b
   gave_next a b v s = ⊎_elim (λ done. inl (rw done (refl, refl))) (λ failed. inr (rw failed (refl, refl))) s.ends
@@ -83,12 +70,10 @@ module _ {D : Type 0} (disk : Disk.Ghosts D) (plan : Plan) (n i : ℕ) where
       → disk.is_honest a.segment.device → disk.is_honest b.segment.device → Does disk a b
       → LeavesOnly disk a.segment.device b.segment.device (Keeps n i a (b ∷ life))
   step_left a b life only_now is was hon (inl sees) = same_left a b (b ∷ life) only_now is was sees.segment_is
-  step_left a b life only_now is was hon (inr (inl (v, s))) =
-      weaker disk a.segment.device b.segment.device
+  step_left a b life only_now is was hon (inr (inl (v, s))) = weaker disk a.segment.device b.segment.device
       (IsEither a.segment.index a.segment.count a.segment.number a.segment.value v)
       (Keeps n i a (b ∷ life)) (s.any_time hon)
-      (λ x. ⊎_elim (stored a (b ∷ life) is x)
-      (begun a (b ∷ life) is v (1, b, refl, gave_next a b v s) x))
+      (λ x. ⊎_elim (stored a (b ∷ life) is x) (begun a (b ∷ life) is v (1, b, refl, gave_next a b v s) x))
   step_left a b life only_now is was hon (inr (inr shows)) = same_left a b (b ∷ life) only_now is was shows.segment_is
 
   -- b has stored what a has, or more
@@ -115,11 +100,7 @@ module _ {D : Type 0} (disk : Disk.Ghosts D) (plan : Plan) (n i : ℕ) where
 
   pub stays : OnlyNow disk → (a z : WriterState D) (life : List (WriterState D)) → IsWriterOf disk plan n i a
       → Lived disk a life z → disk.is_honest z.segment.device → Stays disk n i a life z
-  stays only_now a z [] is lived hon = let was = rw lived at hon in rw lived (
-      record {
-        any_time = same_left a a [] only_now is was refl;
-        now = between a [] is was;
-      })
+  stays only_now a z [] is lived hon = grind (arith, same_left, between)
   stays only_now a z (b ∷ life) is (does, lived) hon =
       let mid = honest_all disk b z life lived hon in
       let first = step_left a b life only_now is (honest_before disk a b does mid) mid does in

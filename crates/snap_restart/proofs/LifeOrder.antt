@@ -7,8 +7,7 @@ use Rattle.snap_history.proofs.Beginnings.{beginning-self, beginning-trans, take
 use Rattle.snap_memory.proofs.{Collects.beginning-take, ScanAnswer.same_value}
 use Rattle.snap_restart.specs.LifeCrash.{Has}
 
-pub shorter : (a b h : List Update) → IsBeginning a h → IsBeginning b h → length a ≤ length b
-    → IsBeginning a b
+pub shorter : (a b h : List Update) → IsBeginning a h → IsBeginning b h → length a ≤ length b → IsBeginning a b
 shorter a b h pa pb l = (
   drop (length a) b,
   sym (take-append-drop (length a) b) ∙ ap (λ (x : List Update). x ++ drop (length a) b)

@@ -13,17 +13,12 @@ abbrev pub StartsAfter : ℕ → Start → List Update → Start → Type 0
 StartsAfter n start base next = (i : ℕ) → i < n
     → ((next i).0 ≡ number_after start base i) × ((next i).1 ≡ value_after start base i)
 
-module _ (n : ℕ) (start : Start) (base : List Update) (next : Start)
-    (after : StartsAfter n start base next) where
-  pub number_on : (h : List Update) (i : ℕ) → i < n
-      → number_after next h i ≡ number_after start (base ++ h) i
-  number_on h i low =
-      let is = (after i low).0 in let sum = updates-append i base h in omega (arith, is, sum)
+module _ (n : ℕ) (start : Start) (base : List Update) (next : Start) (after : StartsAfter n start base next) where
+  pub number_on : (h : List Update) (i : ℕ) → i < n → number_after next h i ≡ number_after start (base ++ h) i
+  number_on h i low = let is = (after i low).0 in let sum = updates-append i base h in omega (arith, is, sum)
 
-  pub value_on : (h : List Update) (i : ℕ) → i < n
-      → value_after next h i ≡ value_after start (base ++ h) i
-  value_on h i low = ap (λ (v : List ℕ). last_value v i h) (after i low).1
-      ∙ sym (last-append (start i).1 i base h)
+  pub value_on : (h : List Update) (i : ℕ) → i < n → value_after next h i ≡ value_after start (base ++ h) i
+  value_on h i low = ap (λ (v : List ℕ). last_value v i h) (after i low).1 ∙ sym (last-append (start i).1 i base h)
 
   -- what is recovered from there is recovered from the first start, after the base
   pub recovered_on : (h : List Update) (begun : ℕ → List ℕ → Type 0) (files : List (List ℕ))
@@ -44,15 +39,9 @@ module _ (n : ℕ) (start : Start) (base : List Update) (next : Start)
 module _ {D : Type 0} (disk : Disk.Ghosts D) where
   pub bytes_left : (devices : List D) → Pairs (λ _ d b. MayLeave (disk.device d) b) devices
       (map (λ (x : D). (disk.device x).bytes) devices)
-  bytes_left devices = record {
-    size = sym (length-map devices (λ (x : D). (disk.device x).bytes));
-    each = λ i d b ed eb.
-        let at = get_map (λ (x : D). (disk.device x).bytes) devices i d ed in
-        rw (← same_Some (disk.device d).bytes b (sym at ∙ eb)) (record { size = refl; elsewhere = λ p _. refl });
-  }
+  bytes_left devices = grind (arith, length-map, get_map, same_Some)
 
   pub kept_now : (n : ℕ) (start : Start) (h : List Update) (begun : ℕ → List ℕ → Type 0)
       (devices : List D) → KeepMemory disk n start h begun devices
       → IsRecovered n start h begun (map (λ (x : D). (disk.device x).bytes) devices)
-  kept_now n start h begun devices kept =
-      kept (map (λ (x : D). (disk.device x).bytes) devices) (bytes_left devices)
+  kept_now n start h begun devices kept = kept (map (λ (x : D). (disk.device x).bytes) devices) (bytes_left devices)

@@ -4,8 +4,7 @@ use Rattle.std.proofs.lemmas.List.{append_assoc}
 use Rattle.snap_segment.specs.Segment.{SegmentState}
 use Rattle.snap_history.{specs.History.IsBeginning, proofs.Beginnings.beginning-self, proofs.Beginnings.beginning-trans}
 use Rattle.snap_register.specs.{declared.plan.Plan.Plan, Seat.Known, Seat.own_of}
-use Rattle.snap_writer.specs.Writer.{WriterState, number_of, value_of}
-use Rattle.snap_writer.specs.Update.{IsSameSeat, EndsWith}
+use Rattle.snap_writer.specs.{Writer.WriterState, Writer.number_of, Writer.value_of, Update.IsSameSeat, Update.EndsWith}
 use Rattle.snap_writer.proofs.Shown.{same_grown, number_grown, value_grown, number_shown, value_shown}
 use Rattle.snap_writer.specs.Life.{Place, seen_at, Rests, Sees, Stores, Shows, Does, Lived, IsAt, IsInStore, IsIn}
 use Rattle.snap_writer.specs.Life.{IsWriterOf, IsPlaceOf}
@@ -19,8 +18,7 @@ shown_later a b v e = (
 )
 
 module _ {D : Type 0} (disk : Disk.Ghosts D) where
-  step_later : (a b : WriterState D) → Does disk a b
-      → IsBeginning a.seat.seen b.seat.seen
+  step_later : (a b : WriterState D) → Does disk a b → IsBeginning a.seat.seen b.seat.seen
   step_later a b (inl sees) = sees.grows.later
   step_later a b (inr (inl stores)) = rw stores.1.seat_is (beginning-self a.seat.seen)
   step_later a b (inr (inr shows)) = shown_later a.seat b.seat a.segment.value shows.shown
@@ -34,18 +32,9 @@ module _ {D : Type 0} (disk : Disk.Ghosts D) where
     HasStored s k u = ((s.number ≡ k) × (s.value ≡ u)) ⊎ ((s.number ≡ k + 1) × (s.begun ≡ None))
 
     -- its seat and its segment are unchanged
-    same_writer : (a b : WriterState D) (t : SegmentState D) → Is a → IsSameSeat a.seat b.seat
-        → b.segment ≡ t → t.index ≡ i → t.count ≡ n → HasStored t (number_of b) (value_of b)
-        → Rests disk b → Is b
-    same_writer a b t is seat same index count stored rests = record {
-      plan_is = seat.plan ∙ is.plan_is;
-      low_is = seat.low ∙ is.low_is;
-      high_is = seat.high ∙ is.high_is;
-      index_is = rw same index;
-      count_is = rw same count;
-      stored = rw same stored;
-      rests = rests;
-    }
+    same_writer : (a b : WriterState D) (t : SegmentState D) → Is a → IsSameSeat a.seat b.seat → b.segment ≡ t
+        → t.index ≡ i → t.count ≡ n → HasStored t (number_of b) (value_of b) → Rests disk b → Is b
+    same_writer a b t is seat same index count stored rests = grind arith
 
     -- what was shown last stays so while the seat sees more
     seen_still : (P : ℕ → List ℕ → Type 0) (a b : WriterState D) → Is a → Sees disk a b
@@ -55,12 +44,10 @@ module _ {D : Type 0} (disk : Disk.Ghosts D) where
         rw (number_grown a.seat b.seat s.grows alone, value_grown a.seat b.seat s.grows alone) shown
 
     sees_is : (a b : WriterState D) → Is a → Sees disk a b → Is b
-    sees_is a b is s = same_writer a b a.segment is (same_grown a.seat b.seat s.grows) s.segment_is
-        is.index_is is.count_is (seen_still (HasStored a.segment) a b is s is.stored)
-        (rw s.segment_is is.rests)
+    sees_is a b is s = same_writer a b a.segment is (same_grown a.seat b.seat s.grows) s.segment_is is.index_is
+        is.count_is (seen_still (HasStored a.segment) a b is s is.stored) (rw s.segment_is is.rests)
 
-    stores_is : (v : List ℕ) (a b : WriterState D) → Is a
-        → Stores disk v a b → Is b
+    stores_is : (v : List ℕ) (a b : WriterState D) → Is a → Stores disk v a b → Is b
     stores_is v a b is s =
         let seat : IsSameSeat a.seat b.seat =
         rw s.seat_is (record { table = refl; plan = refl; low = refl; high = refl }) in
@@ -68,15 +55,13 @@ module _ {D : Type 0} (disk : Disk.Ghosts D) where
         ⊎_elim
         (λ done. same_writer a b _ is seat done is.index_is is.count_is
         (inr (ap (λ (k : ℕ). k + 1) shown.0, s.unfenced)) s.rests)
-        (λ failed. same_writer a b _ is seat failed is.index_is is.count_is (inl shown) s.rests)
-        s.ends
+        (λ failed. same_writer a b _ is seat failed is.index_is is.count_is (inl shown) s.rests) s.ends
 
     shows_is : (a b : WriterState D) → Is a → Shows disk a b → Is b
-    shows_is a b is s = same_writer a b a.segment is s.same_seat s.segment_is is.index_is is.count_is
-        (inl (
-          s.stored.0 ∙ sym (number_shown a.seat b.seat a.segment.value s.same_seat s.shown),
-          sym (value_shown a.seat b.seat a.segment.value s.same_seat s.shown),
-        ))
+    shows_is a b is s = same_writer a b a.segment is s.same_seat s.segment_is is.index_is is.count_is (inl (
+      s.stored.0 ∙ sym (number_shown a.seat b.seat a.segment.value s.same_seat s.shown),
+      sym (value_shown a.seat b.seat a.segment.value s.same_seat s.shown),
+    ))
         (rw s.segment_is is.rests)
 
     pub does_is : (a b : WriterState D) → Is a → Does disk a b → Is b
@@ -85,19 +70,13 @@ module _ {D : Type 0} (disk : Disk.Ghosts D) where
     does_is a b is (inr (inr shows)) = shows_is a b is shows
 
     abbrev Fits : WriterState D → WriterState D → Place D → Type 0
-    Fits a z p = IsPlaceOf disk plan n i p
-        × IsBeginning a.seat.seen (seen_at p) × IsBeginning (seen_at p) z.seat.seen
+    Fits a z p = IsPlaceOf disk plan n i p × IsBeginning a.seat.seen (seen_at p) × IsBeginning (seen_at p) z.seat.seen
 
-    at_rest : (a z : WriterState D) (p : Place D) → Is a
-        → IsAt disk z a p → Fits a z p
-    at_rest a z p is (m, sees, seen, at) = rw at (
-      record { writer_is = sees_is a m is sees; storing_is = record {} },
-      sees.grows.later,
-      seen,
-    )
+    at_rest : (a z : WriterState D) (p : Place D) → Is a → IsAt disk z a p → Fits a z p
+    at_rest a z p is (m, sees, seen, at) =
+        rw at (record { writer_is = sees_is a m is sees; storing_is = record {} }, sees.grows.later, seen)
 
-    mid_store : (a b z : WriterState D) (p : Place D) → Is a
-        → IsInStore disk z a b p → Fits a z p
+    mid_store : (a b z : WriterState D) (p : Place D) → Is a → IsInStore disk z a b p → Fits a z p
     mid_store a b z p is (m, v, sees, seen, s, at) = rw at (
       record {
         writer_is = sees_is a m is sees;
@@ -110,8 +89,7 @@ module _ {D : Type 0} (disk : Disk.Ghosts D) where
       seen,
     )
 
-    pub life_fits : (a z : WriterState D) (life : List (WriterState D)) (p : Place D) → Is a
-        → Lived disk a life z
+    pub life_fits : (a z : WriterState D) (life : List (WriterState D)) (p : Place D) → Is a → Lived disk a life z
         → IsIn disk z a life p → Fits a z p
     life_fits a z [] p is lived there = at_rest a z p is there
     life_fits a z (b ∷ life) p is lived (inl here) = at_rest a z p is here

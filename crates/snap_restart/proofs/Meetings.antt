@@ -1,34 +1,26 @@
 -- The knowledge of a scanner that has met all writers twice, and the contents of their devices then.
-use Rattle.std.proofs.Common.{◌≡◌, ℕ, ◌+◌, ◌<◌, List, slice_get, slice_set, Some, refl, ap, sym, subst, ◌∙◌, arith}
+use Rattle.std.proofs.Common.{◌≡◌, ℕ, ◌+◌, ◌<◌, List, slice_get, slice_set, Some, refl, ap, sym, ◌∙◌, arith}
 use Rattle.snap_segment.specs.Segment.{SegmentState, IsKept}
 use Rattle.snap_history.proofs.Beginnings.{beginning-self, beginning-trans, number-beginning}
 use Rattle.snap_history.{specs.History.Update, specs.History.IsBeginning, specs.Pairs.Pairs, proofs.Pairs.partner}
-use Rattle.snap_register.specs.History.{starts}
-use Rattle.snap_register.specs.Seat.{Known, Grows, AreTogether, number_in, value_in}
+use Rattle.snap_register.specs.{History.starts, Seat.Known, Seat.Grows, Seat.AreTogether, Seat.number_in, Seat.value_in}
 use Rattle.snap_memory.proofs.{Collects.grows_self, Collects.grows_more, ScanAnswer.same_value}
 use Rattle.snap_writer.specs.Writer.{WriterState, number_of, value_of}
 use Rattle.snap_writer.proofs.Shown.{number_grown, value_grown}
 use Rattle.snap_restart.specs.Closed.{AreBack, IsHistory, HoldsAfter, HasMet, IsTold, Rests}
 use Rattle.snap_restart.proofs.Pairs.{partner_of, pairs_self, pairs_moved}
-use mathlib.Core.Logic.{dite}
-use native.Mathlib.Decide.{ℕ_discrete}
 use Rattle.snap_disk.specs.declared.disk.Disk as Disk
 
 -- a property of all items before place k, and of the item there
 pub one_more : {A : Type 0} (P : A → Type 0) (xs : List A) (k : ℕ) (x : A) → slice_get xs k ≡ Some x
     → ((i : ℕ) (y : A) → slice_get xs i ≡ Some y → i < k → P y) → P x → (i : ℕ) (y : A)
     → slice_get xs i ≡ Some y → i < k + 1 → P y
-one_more P xs k x there before this i y at low = dite (ℕ_discrete i k)
-    (λ e. let same : x ≡ y = cc (at, there, e) in subst P same this)
-    (λ other. before i y at (omega arith))
+one_more P xs k x there before this i y at low = grind arith
 
 -- ---- meetings
 
 pub together_grown : (a b c d : Known) → AreTogether a b → Grows a c → Grows b d → AreTogether c d
-together_grown a b c d t g h = record {
-  table = h.table ∙ t.table ∙ sym g.table;
-  plan = h.plan ∙ t.plan ∙ sym g.plan;
-}
+together_grown a b c d t g h = record { table = h.table ∙ t.table ∙ sym g.table; plan = h.plan ∙ t.plan ∙ sym g.plan }
 
 -- one scanner more was met
 pub heard_step : (olds : List Known) (k : ℕ) (b met seat grown : Known) → slice_get olds k ≡ Some b
@@ -37,8 +29,7 @@ pub heard_step : (olds : List Known) (k : ℕ) (b met seat grown : Known) → sl
     → (i : ℕ) (x : Known) → slice_get olds i ≡ Some x → i < k + 1 → IsBeginning x.seen grown.seen
 heard_step olds k b met seat grown there before g more is =
     one_more (λ (x : Known). IsBeginning x.seen grown.seen) olds k b there
-    (λ i x at low. beginning-trans x.seen seat.seen grown.seen (before i x at low) more.later)
-    (rw is at g.later)
+    (λ i x at low. beginning-trans x.seen seat.seen grown.seen (before i x at low) more.later) (rw is at g.later)
 
 -- the scanner has just met this writer
 pub told_now : (start scanner met a grown : Known) → Grows start scanner → Grows scanner met
@@ -60,17 +51,14 @@ module _ {D : Type 0} where
   met_self w = record { segment_is = refl; grows = grows_self w.seat }
 
   pub met_more : (a b c : WriterState D) → HasMet a b → HasMet b c → HasMet a c
-  met_more a b c f g = record {
-    segment_is = g.segment_is ∙ f.segment_is;
-    grows = grows_more a.seat b.seat c.seat f.grows g.grows;
-  }
+  met_more a b c f g =
+      record { segment_is = g.segment_is ∙ f.segment_is; grows = grows_more a.seat b.seat c.seat f.grows g.grows }
 
-  pub told_step : (olds : List (WriterState D)) (k : ℕ) (w : WriterState D)
-      (start scanner met grown : Known) → slice_get olds k ≡ Some w
-      → ((i : ℕ) (x : WriterState D) → slice_get olds i ≡ Some x → i < k
-      → IsTold x.seat start scanner) → Grows start scanner → Grows scanner met
-      → Grows w.seat grown → met.seen ≡ grown.seen → (i : ℕ) (x : WriterState D)
-      → slice_get olds i ≡ Some x → i < k + 1 → IsTold x.seat start met
+  pub told_step : (olds : List (WriterState D)) (k : ℕ) (w : WriterState D) (start scanner met grown : Known)
+      → slice_get olds k ≡ Some w → ((i : ℕ) (x : WriterState D) → slice_get olds i ≡ Some x → i < k
+      → IsTold x.seat start scanner) → Grows start scanner → Grows scanner met → Grows w.seat grown
+      → met.seen ≡ grown.seen → (i : ℕ) (x : WriterState D) → slice_get olds i ≡ Some x → i < k + 1
+      → IsTold x.seat start met
   told_step olds k w start scanner met grown there before first more g is =
       one_more (λ (x : WriterState D). IsTold x.seat start met) olds k w there
       (λ i x at low. let t = before i x at low in record {
@@ -88,22 +76,18 @@ module _ {D : Type 0} where
       let a = back.writers_are i x.0 x.1 in
       let r = back.scanners_are 0 b at_b in
       together_grown b x.0.seat s w.seat
-      (record { table = a.table_is ∙ sym r.table_is; plan = a.plan_is ∙ sym r.plan_is }) g
-      x.2.grows
+      (record { table = a.table_is ∙ sym r.table_is; plan = a.plan_is ∙ sym r.plan_is }) g x.2.grows
 
   -- only the first writer took part
   pub first_met : (w0 : List (WriterState D)) (x y : WriterState D) → slice_get w0 0 ≡ Some x
       → HasMet x y → Pairs (λ _. HasMet) w0 (slice_set w0 0 y)
-  first_met w0 x y at met =
-      pairs_moved HasMet met_more w0 w0 0 x y at met (pairs_self (λ _. HasMet) (λ _. met_self) w0)
+  first_met w0 x y at met = pairs_moved HasMet met_more w0 w0 0 x y at met (pairs_self (λ _. HasMet) (λ _. met_self) w0)
 
   -- after the first round the scanner has seen everything, as the second round shows
-  pub history_told : (w0 w1 w2 : List (WriterState D)) (scanners : List Known)
-      (first : WriterState D) (s1 s2 s3 : Known) → AreBack w0 scanners
-      → Pairs (λ _. HasMet) w0 w1 → Pairs (λ _. HasMet) w1 w2
+  pub history_told : (w0 w1 w2 : List (WriterState D)) (scanners : List Known) (first : WriterState D)
+      (s1 s2 s3 : Known) → AreBack w0 scanners → Pairs (λ _. HasMet) w0 w1 → Pairs (λ _. HasMet) w1 w2
       → ((i : ℕ) (w : WriterState D) → slice_get w1 i ≡ Some w → IsTold w.seat s1 s2)
-      → ((i : ℕ) (w : WriterState D) → slice_get w2 i ≡ Some w → IsTold w.seat s2 s3)
-      → slice_get w1 0 ≡ Some first
+      → ((i : ℕ) (w : WriterState D) → slice_get w2 i ≡ Some w → IsTold w.seat s2 s3) → slice_get w1 0 ≡ Some first
       → ((k : ℕ) (b : Known) → slice_get scanners k ≡ Some b → IsBeginning b.seen first.seat.seen)
       → (h : List Update) × IsHistory h w0 scanners
   history_told w0 w1 w2 scanners first s1 s2 s3 back p q t u at_first heard = (
@@ -119,16 +103,14 @@ module _ {D : Type 0} where
           let own = met.own i (omega arith) (omega arith) in
           let none = (u i y.0 y.1).no_more i (omega arith) (omega arith) in
           (saw, omega arith);
-      scanners_saw = λ k b at. beginning-trans b.seen first.seat.seen s2.seen (heard k b at)
-          (t 0 first at_first).heard;
+      scanners_saw = λ k b at. beginning-trans b.seen first.seat.seen s2.seen (heard k b at) (t 0 first at_first).heard;
     },
   )
 
   -- the devices returned hold the history's numbers and values
-  pub holds_after : (disk : Disk.Ghosts D) (h : List Update)
-      (writers met : List (WriterState D)) (scanners : List Known) → AreBack writers scanners
-      → IsHistory h writers scanners → Pairs (λ _. HasMet) writers met
-      → ((i : ℕ) (w : WriterState D) → slice_get met i ≡ Some w → Rests disk w)
+  pub holds_after : (disk : Disk.Ghosts D) (h : List Update) (writers met : List (WriterState D))
+      (scanners : List Known) → AreBack writers scanners → IsHistory h writers scanners
+      → Pairs (λ _. HasMet) writers met → ((i : ℕ) (w : WriterState D) → slice_get met i ≡ Some w → Rests disk w)
       → (i : ℕ) (w : WriterState D) → slice_get writers i ≡ Some w → HoldsAfter disk h i w
   holds_after disk h writers met scanners back history p rest i w at =
       let x = partner (λ _. HasMet) writers met i w p at in
@@ -157,8 +139,5 @@ module _ {D : Type 0} (disk : Disk.Ghosts D) where
   -- a writer's device, taken out of its segment
   pub rests_moved : (w : WriterState D) (t : SegmentState D) (d : D) → t ≡ w.segment → d ≡ t.device
       → w.segment.number ≡ number_of w → w.segment.value ≡ value_of w
-      → (disk.is_honest d → IsKept t.index t.count t.number t.value t.begun t.spare_open
-      (disk.device d))
-      → Rests disk w
-  rests_moved w t d same is number value kept =
-      record { number_is = number; value_is = value; kept = rw (is, same) at kept }
+      → (disk.is_honest d → IsKept t.index t.count t.number t.value t.begun t.spare_open (disk.device d)) → Rests disk w
+  rests_moved w t d same is number value kept = grind arith

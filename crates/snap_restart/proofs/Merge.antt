@@ -1,6 +1,6 @@
 -- The begun updates that reached the devices, appended to the history, segment by segment.
 use Rattle.std.proofs.Common.{◌≡◌, ◌≢◌, ◌⊎◌, ⊎_elim, ℕ, zero, suc, ◌+◌, ◌<◌, ◌≤◌, List, [], ◌∷◌, ◌++◌, length, Some}
-use Rattle.std.proofs.Common.{slice_get, refl, arith, below_more}
+use Rattle.std.proofs.Common.{slice_get, arith, below_more}
 use Rattle.std.proofs.lemmas.{Bool.Decides.nat_tests, List.append_assoc, Option.slice_get_within}
 use Rattle.snap_slot.specs.Layout.{IsFileOf}
 use Rattle.snap_history.specs.History.{Update, Start, updates_of, number_after, value_after}
@@ -18,8 +18,7 @@ still_none : (m : ℕ) (v : List ℕ) (more : List Update) → ((i : ℕ) → m 
     → suc m ≤ i → updates_of i (more ++ update m v ∷ []) ≡ 0
 still_none m v more none i low = grind (arith, nat_tests, updates-append)
 
-module _ (start : Start) (h : List Update) (begun : ℕ → List ℕ → Type 0)
-    (Holds : ℕ → ℕ → List ℕ → Type 0) where
+module _ (start : Start) (h : List Update) (begun : ℕ → List ℕ → Type 0) (Holds : ℕ → ℕ → List ℕ → Type 0) where
   -- segment i has its number and value after the updates x
   abbrev HasAfter : List Update → ℕ → Type 0
   HasAfter x i = Holds i (number_after start x i) (value_after start x i)
@@ -31,8 +30,7 @@ module _ (start : Start) (h : List Update) (begun : ℕ → List ℕ → Type 0)
   -- the first m segments
   pub record Merged (m : ℕ) : Type 0 where
     pub more : List Update
-    pub were_begun : (j : ℕ) (u : Update) → slice_get more j ≡ Some u
-        → (u.segment < m) × begun u.segment u.value
+    pub were_begun : (j : ℕ) (u : Update) → slice_get more j ≡ Some u → (u.segment < m) × begun u.segment u.value
     pub once : (i : ℕ) → updates_of i more ≤ 1
     pub none : (i : ℕ) → m ≤ i → updates_of i more ≡ 0
     pub holds : (i : ℕ) → i < m → HasAfter (h ++ more) i
@@ -49,16 +47,14 @@ module _ (start : Start) (h : List Update) (begun : ℕ → List ℕ → Type 0)
             (rw (number_kept start h r.more m none, value_kept start h r.more m none) here) i (omega arith);
       }
 
-  with_begun : (m : ℕ) (v : List ℕ) → Merged m → begun m v → Holds m (number_after start h m + 1) v
-      → Merged (suc m)
+  with_begun : (m : ℕ) (v : List ℕ) → Merged m → begun m v → Holds m (number_after start h m + 1) v → Merged (suc m)
   with_begun m v r was here =
       let u = update m v in
       let before = h ++ r.more in
       record {
         more = r.more ++ u ∷ [];
         were_begun = get-push (λ (x : Update). (x.segment < suc m) × begun x.segment x.value) r.more
-            u (λ j x e. (let b = r.were_begun j x e in let l = b.0 in (omega arith, b.1)))
-            (omega arith, was);
+            u (λ j x e. (let b = r.were_begun j x e in let l = b.0 in (omega arith, b.1))) (omega arith, was);
         once = still_once m v r.more r.once r.none;
         none = still_none m v r.more r.none;
         holds = λ i l. rw (← append_assoc h r.more (u ∷ [])) (below_more (HasAfter (before ++ u ∷ [])) m
@@ -72,13 +68,7 @@ module _ (start : Start) (h : List Update) (begun : ℕ → List ℕ → Type 0)
       }
 
   pub merge : (m : ℕ) → ((i : ℕ) → i < m → Found i) → Merged m
-  merge zero found = record {
-    more = [];
-    were_begun = λ j u e. absurd (cc e);
-    once = λ i. omega arith;
-    none = λ i l. refl;
-    holds = λ i l. absurd (omega arith);
-  }
+  merge zero found = grind arith
   merge (suc m) found =
       let r = merge m (λ i l. found i (omega arith)) in
       ⊎_elim (with_none m r) (λ b. with_begun m b.0 r b.1 b.2) (found m (omega arith))
@@ -88,8 +78,7 @@ abbrev pub FileAt : ℕ → List (List ℕ) → ℕ → ℕ → List ℕ → Typ
 FileAt n files i k v = (b : List ℕ) → slice_get files i ≡ Some b → IsFileOf i n k v b
 
 pub all_found : (n : ℕ) (start : Start) (h : List Update) (begun : ℕ → List ℕ → Type 0) (files : List (List ℕ))
-    → length files ≡ n → ((i : ℕ) → i < n → Found start h begun (FileAt n files) i)
-    → IsRecovered n start h begun files
+    → length files ≡ n → ((i : ℕ) → i < n → Found start h begun (FileAt n files) i) → IsRecovered n start h begun files
 all_found n start h begun files size each =
     let m = merge start h begun (FileAt n files) n each in
     record {

@@ -8,18 +8,14 @@ use Rattle.snap_history.specs.History.{number_after, value_after}
 use Rattle.snap_history.specs.{declared.limits.TheConstants.MAX_COUNT, Pairs.Pairs}
 use Rattle.snap_segment.specs.Segment.{SegmentState}
 use Rattle.snap_writer.specs.Writer.{WriterState, IsPaired}
-use Rattle.snap_restart.specs.Opened.{AreFresh, Starts, contents}
-use Rattle.snap_restart.specs.{declared.store.TheConstants.LOOKS, Closed.IsSeatAt, Closed.AreBack}
-use Rattle.snap_restart.proofs.Removals.{get_map}
+use Rattle.snap_restart.specs.{Opened.AreFresh, Opened.Starts, Opened.contents, declared.store.TheConstants.LOOKS}
+use Rattle.snap_restart.{specs.Closed.IsSeatAt, specs.Closed.AreBack, proofs.Removals.get_map}
 
-seat_at : {z : RegistersId} {p : Plan} {low high : ℕ} {a : Known} → IsNewSeat z p low high a
-    → IsSeatAt z p low high a
-seat_at n =
-    record { table_is = n.table_is; plan_is = n.plan_is; low_is = n.low_is; high_is = n.high_is }
+seat_at : {z : RegistersId} {p : Plan} {low high : ℕ} {a : Known} → IsNewSeat z p low high a → IsSeatAt z p low high a
+seat_at n = grind arith
 
 module _ {D : Type 0} (z : RegistersId) (p : Plan) (ss : List (SegmentState D)) (ws : List Known)
-    (o : IsOpening p LOOKS (map contents ss)) (new : AreWriters z p ws)
-    (long : length ws ≡ length ss) where
+    (o : IsOpening p LOOKS (map contents ss)) (new : AreWriters z p ws) (long : length ws ≡ length ss) where
   pub starts_are : Pairs (λ _. Starts) ss ws
   starts_are = record {
     size = sym long;
@@ -30,27 +26,18 @@ module _ {D : Type 0} (z : RegistersId) (p : Plan) (ss : List (SegmentState D)) 
         λ t. number_after (starts (n.plan_is t)) (n.seen_is t) (n.low_is t) in
         let value : value_in a a.seen (own_of a) ≡ value_after (starts p) [] i =
         λ t. value_after (starts (n.plan_is t)) (n.seen_is t) (n.low_is t) in
-        let start : (starts p i).0 ≡ s.number = ap (λ (y : ℕ × List ℕ). y.0) first in
-        record {
-          number_is = omega arith;
-          value_is = sym (value ∙ ap (λ (y : ℕ × List ℕ). y.1) first);
-        };
+        grind arith;
   }
 
   module _ (rs : List Known) (writers : List (WriterState D))
       (seats : map (λ (w : WriterState D). w.seat) writers ≡ ws) where
-    seat_there : (i : ℕ) (w : WriterState D) → slice_get writers i ≡ Some w
-        → slice_get ws i ≡ Some w.seat
+    seat_there : (i : ℕ) (w : WriterState D) → slice_get writers i ≡ Some w → slice_get ws i ≡ Some w.seat
     seat_there i w at = rw seats at (get_map (λ (w : WriterState D). w.seat) writers i w at)
 
     pub fresh_are : AreReaders z p rs → AreFresh writers rs
-    fresh_are readers = record {
-      writers_are = λ i w at. let n = new i w.seat (seat_there i w at) in (n.seen_is, n.left_is ∙ o.looks_are);
-      scanners_are = λ k b at. let n = readers k b at in (n.seen_is, n.left_is ∙ o.looks_are);
-    }
+    fresh_are readers = grind (arith, seat_there)
 
-    pub back_are : 0 < length ss → length ss ≤ MAX_COUNT → 0 < length rs → AreReaders z p rs
-        → AreBack writers rs
+    pub back_are : 0 < length ss → length ss ≤ MAX_COUNT → 0 < length rs → AreReaders z p rs → AreBack writers rs
     back_are some few some_scanner readers =
         let size : length writers ≡ length ss =
         sym (length-map writers (λ (w : WriterState D). w.seat)) ∙ ap length seats ∙ long in

@@ -14,56 +14,30 @@ use Rattle.snap_disk.specs.declared.disk.Disk as Disk
 module _ {D : Type 0} (disk : Disk.Ghosts D) where
   -- a device that wasn't touched
   pub back_same : OnlyNow disk → (d : D) → IsBack disk d d
-  back_same only_now d = record {
-    honest_then = λ h. h;
-    any_time = λ h. started disk d (MayLeave (disk.device d)) (λ b l. only_now d b h l);
-    now = λ h b m. m;
-  }
+  back_same only_now d = grind (arith, started)
 
   -- what a crash may leave now is among what a crash since the opening began might have left
   pub back_later : CountsNow disk → (d e : D) → (disk.is_honest e → disk.is_honest d)
       → (disk.is_honest e → LeavesOnly disk d e (MayLeave (disk.device d))) → IsBack disk d e
-  back_later counts_now d e then any = record {
-    honest_then = then;
-    any_time = any;
-    now = λ h b m. (any h).each b (counts_now e (disk.clock d) b h (any h).later m);
-  }
+  back_later counts_now d e then any = grind arith
 
   module _ (n k : ℕ) (why : Refusal) where
     pub returned_opened : (i : ℕ) (d : D) (s : SegmentState D) → i < k → IsOpened disk n i d s
         → IsReturned disk n k why i d s.device
-    returned_opened i d s low o = record {
-      back = o.back;
-      before = λ _. (o.failures_same, λ h. ((o.found h).0, (s.number, s.value, (o.found h).1)));
-      here = λ e. absurd (omega arith);
-      behind = λ l. absurd (omega arith);
-    }
+    returned_opened i d s low o = grind arith
 
     pub returned_same : OnlyNow disk → (i : ℕ) (d : D) → k < i → IsReturned disk n k why i d d
-    returned_same only_now i d low = record {
-      back = back_same only_now d;
-      before = λ l. absurd (omega arith);
-      here = λ e. absurd (omega arith);
-      behind = λ _. refl;
-    }
+    returned_same only_now i d low = grind (arith, back_same)
 
-    pub returned_here : (d e : D) → IsBack disk d e
-        → CountsFailed why (disk.failure_count d) (disk.failure_count e) → (disk.is_honest e
-        → IsNoOpening k n (disk.device d).bytes why) → IsReturned disk n k why k d e
-    returned_here d e back counts none = record {
-      back = back;
-      before = λ l. absurd (omega arith);
-      here = λ _. (counts, λ _. none);
-      behind = λ l. absurd (omega arith);
-    }
+    pub returned_here : (d e : D) → IsBack disk d e → CountsFailed why (disk.failure_count d) (disk.failure_count e)
+        → (disk.is_honest e → IsNoOpening k n (disk.device d).bytes why) → IsReturned disk n k why k d e
+    returned_here d e back counts none = grind arith
 
   -- the earlier segments were opened, this one was refused, and the others weren't touched
-  pub stopped_at : OnlyNow disk → (why : Refusal) (olds news : List D) (ss : List (SegmentState D)) (d e : D) (rest :
-      List D)
-      (k : ℕ) → k ≡ length ss → drop k olds ≡ d ∷ rest → k < length olds
-      → Pairs (IsOpened disk (length olds)) (take k olds) ss
-      → IsOpenRefusal why → IsReturned disk (length olds) k why k d e
-      → news ≡ map (λ s. s.device) ss ++ e ∷ rest
+  pub stopped_at : OnlyNow disk → (why : Refusal) (olds news : List D) (ss : List (SegmentState D)) (d e : D)
+      (rest : List D) (k : ℕ) → k ≡ length ss → drop k olds ≡ d ∷ rest → k < length olds
+      → Pairs (IsOpened disk (length olds)) (take k olds) ss → IsOpenRefusal why
+      → IsReturned disk (length olds) k why k d e → news ≡ map (λ s. s.device) ss ++ e ∷ rest
       → IsStopped disk olds news why k
   stopped_at only_now why olds news ss d e rest k count front low p kind here is =
       let R : ℕ → D → D → Type 0 = IsReturned disk (length olds) k why in
@@ -80,9 +54,8 @@ module _ {D : Type 0} (disk : Disk.Ghosts D) where
       }
 
   -- memory ran out after all were opened
-  pub stopped_last : (olds news : List D) (ss : List (SegmentState D))
-      → Pairs (IsOpened disk (length olds)) olds ss → news ≡ map (λ s. s.device) ss
-      → IsStopped disk olds news NoMemory (length olds)
+  pub stopped_last : (olds news : List D) (ss : List (SegmentState D)) → Pairs (IsOpened disk (length olds)) olds ss
+      → news ≡ map (λ s. s.device) ss → IsStopped disk olds news NoMemory (length olds)
   stopped_last olds news ss p is = record {
     kind = tt;
     within = omega arith;

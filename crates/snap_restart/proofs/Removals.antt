@@ -14,15 +14,13 @@ pub one_fewer : {A : Type 0} {x : A} {left rest : List A} {m n : ℕ} → m ≡ 
 one_fewer was next gone = let short = ap length next in omega arith
 
 -- the iterator returns nothing if nothing is left
-pub none_comes : {A : Type 0} (next : Option A) (n : ℕ) → (0 < n → IsSome next)
-    → ((x : A) → next ≡ Some x → ⊥) → n ≡ 0
+pub none_comes : {A : Type 0} (next : Option A) (n : ℕ) → (0 < n → IsSome next) → ((x : A) → next ≡ Some x → ⊥) → n ≡ 0
 none_comes (Some x) n some none = absurd (none x refl)
 none_comes None zero some none = refl
 none_comes None (suc n) some none = absurd (let is = some (omega arith) in cc)
 
 -- nothing is left to be taken
-pub all_yielded : {A : Type 0} {n : ℕ} (xs left all : List A) → xs ++ left ≡ all → n ≡ length left → n ≡ 0
-    → xs ≡ all
+pub all_yielded : {A : Type 0} {n : ℕ} (xs left all : List A) → xs ++ left ≡ all → n ≡ length left → n ≡ 0 → xs ≡ all
 all_yielded xs [] all whole long none = sym (append-nil xs) ∙ whole
 all_yielded xs (x ∷ left) all whole long none = absurd (omega arith)
 

@@ -1,8 +1,7 @@
 -- The lines of a report, one after another.
 use Rattle.std.proofs.Common.{◌≡◌, ℕ, ◌+◌, List, [], ◌∷◌, ◌++◌, length, ◌≤◌, take, slice_get, Some, ap, ◌∙◌, arith}
-use Rattle.std.proofs.Common.{append-nil, append_assoc}
-use Rattle.std.proofs.lemmas.{List.length-take-le, List.take_all, Option.slice_get_within}
-use Rattle.std.specs.{Prelude.codes, Fmt.decimal}
+use Rattle.std.proofs.{Common.append-nil, Common.append_assoc, lemmas.List.length-take-le, lemmas.List.take_all}
+use Rattle.std.{proofs.lemmas.Option.slice_get_within, specs.Prelude.codes, specs.Fmt.decimal}
 use Rattle.snap_register.proofs.Pairs.{take_next}
 use Rattle.snap_restart.specs.Report.{recovered_text, lines_text, report_text}
 use Rattle.snap_restart.specs.declared.report.{Recovered.Recovered, Report.Report}
@@ -18,10 +17,7 @@ lines_push i j (y ∷ xs) x e =
 -- the first k lines and the next one
 pub lines_next : (xs : List Recovered) (k : ℕ) (x : Recovered) → slice_get xs k ≡ Some x
     → lines_text 0 (take (k + 1) xs) ≡ lines_text 0 (take k xs) ++ line (recovered_text k x)
-lines_next xs k x e =
-    let low = slice_get_within xs k x e in
-    let long : length (take k xs) ≡ k = length-take-le k xs (omega arith) in
-    ap (lines_text 0) (take_next k xs x e) ∙ lines_push 0 k (take k xs) x (omega arith)
+lines_next xs k x e = grind (arith, slice_get_within, length-take-le, take_next, lines_push)
 
 -- after all lines follows their count
 pub lines_all : (xs : List Recovered) (report : Report) (k : ℕ) → xs ≡ report.segments.items → length xs ≤ k

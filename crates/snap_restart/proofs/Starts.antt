@@ -14,30 +14,22 @@ use Rattle.snap_disk.specs.declared.disk.Disk as Disk
 
 module _ {D : Type 0} (disk : Disk.Ghosts D) (n : ℕ) (start : Start) where
   -- files that keep the memory after a history are opened
-  module _ (moments : List (List Update)) (devices : List D) (l : Last disk n start moments devices)
-    where
-      now : IsRecovered n start l.history (Begun l.crashed) (map (λ (d : D). (disk.device d).bytes) devices)
-      now = kept_now disk n start l.history (Begun l.crashed) devices l.kept
+  module _ (moments : List (List Update)) (devices : List D) (l : Last disk n start moments devices) where
+    now : IsRecovered n start l.history (Begun l.crashed) (map (λ (d : D). (disk.device d).bytes) devices)
+    now = kept_now disk n start l.history (Begun l.crashed) devices l.kept
 
-      pub all_devices : length devices ≡ n
-      all_devices = sym (length-map devices (λ (d : D). (disk.device d).bytes)) ∙ now.size
+    pub all_devices : length devices ≡ n
+    all_devices = sym (length-map devices (λ (d : D). (disk.device d).bytes)) ∙ now.size
 
-      -- the history continues
-      pub history_on : (writers : List (WriterState D)) (opened : AreOpened disk devices writers)
-          → AllHonest disk writers
-          → GoesOn disk opened.plan start l.history l.crashed writers
-      history_on writers opened hon = opened.again start l.history l.crashed (rw all_devices now) hon
+    -- the history continues
+    pub history_on : (writers : List (WriterState D)) (opened : AreOpened disk devices writers)
+        → AllHonest disk writers → GoesOn disk opened.plan start l.history l.crashed writers
+    history_on writers opened hon = opened.again start l.history l.crashed (rw all_devices now) hon
 
 module _ {D : Type 0} (disk : Disk.Ghosts D) (n : ℕ) where
   unfoldable pub last : (start : Start) (moments : List (List Update)) (devices : List D)
-      → Restarts disk n start moments devices
-      → Last disk n start moments devices
-  last start [] _ (First _ devices kept) = record {
-    history = [];
-    crashed = [];
-    joined = refl;
-    kept = kept;
-  }
+      → Restarts disk n start moments devices → Last disk n start moments devices
+  last start [] _ (First _ devices kept) = record { history = []; crashed = []; joined = refl; kept = kept }
   last start (_ ∷ _) _
       (Crashed _ moments devices nexts writers crashed s past opened hon kept count each follow) =
       let l = last start moments devices past in
@@ -51,8 +43,7 @@ module _ {D : Type 0} (disk : Disk.Ghosts D) (n : ℕ) where
             (opened.one_each ∙ all_devices disk n start moments devices l)
             (on.any_moment s kept crashed files count each (record {
               size = follow.size ∙ left.size;
-              each = λ i p b ep eb.
-                  let d = partner _ crashed nexts i p follow ep in d.2 b (left.each i d.0 b d.1 eb);
+              each = λ i p b ep eb. let d = partner _ crashed nexts i p follow ep in d.2 b (left.each i d.0 b d.1 eb);
             }));
       }
   last start _ _ (Interrupted _ moments devices news nexts past stay follow) =
@@ -73,8 +64,7 @@ module _ {D : Type 0} (disk : Disk.Ghosts D) (n : ℕ) where
         joined = l.joined;
         kept = λ files left. l.kept files (record {
           size = same.size ∙ left.size;
-          each = λ i d b ed eb.
-              let e = partner _ devices nexts i d same ed in e.2 b (left.each i e.0 b e.1 eb);
+          each = λ i d b ed eb. let e = partner _ devices nexts i d same ed in e.2 b (left.each i e.0 b e.1 eb);
         });
       }
   last start (_ ∷ _) _ (Put _ moments devices nexts i k u v past held works) =
@@ -118,14 +108,12 @@ module _ {D : Type 0} (disk : Disk.Ghosts D) where
         same_file refl refl (omega arith) refl (fresh i d.0 b d.1 d.2);
   })
 
-  pub first : (devices : List D) (writers : List (WriterState D))
-      (opened : AreOpened disk devices writers)
+  pub first : (devices : List D) (writers : List (WriterState D)) (opened : AreOpened disk devices writers)
       → GoesOn disk opened.plan (starts opened.plan) [] [] writers
   first devices writers opened = record {
     more = [];
     were_begun = λ j u e. absurd (cc e);
     once = λ i. omega arith;
     starts_are = λ i w at. let is = opened.starts_are i w at in (omega (arith, is.0), is.1);
-    any_moment = λ s kept places files count each left.
-        (opened.any_moment s kept places files count each left).1;
+    any_moment = λ s kept places files count each left. (opened.any_moment s kept places files count each left).1;
   }

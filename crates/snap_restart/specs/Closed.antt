@@ -24,10 +24,8 @@ pub record AreBack {D : Type 0} (writers : List (WriterState D)) (scanners : Lis
   pub some : 0 < length writers
   pub few : length writers ≤ MAX_COUNT
   pub some_scanner : 0 < length scanners
-  pub writers_are : (i : ℕ) (w : WriterState D) → slice_get writers i ≡ Some w
-      → IsSeatAt table plan i (i + 1) w.seat
-  pub scanners_are : (k : ℕ) (b : Known) → slice_get scanners k ≡ Some b
-      → IsSeatAt table plan 0 0 b
+  pub writers_are : (i : ℕ) (w : WriterState D) → slice_get writers i ≡ Some w → IsSeatAt table plan i (i + 1) w.seat
+  pub scanners_are : (k : ℕ) (b : Known) → slice_get scanners k ≡ Some b → IsSeatAt table plan 0 0 b
 
 -- each writer and each scanner has seen a beginning of the history h, whose updates of a segment
 -- are those that its writer showed
@@ -44,8 +42,7 @@ pub record HoldsAfter {D : Type 0} (disk : Disk.Ghosts D) (h : List Update)
   pub number_is : w.segment.number ≡ number_in w.seat h i
   pub value_is : w.segment.value ≡ value_in w.seat h i
   pub file : disk.is_honest w.segment.device → IsKept w.segment.index w.segment.count
-      (number_in w.seat h i) (value_in w.seat h i) w.segment.begun w.segment.spare_open
-      (disk.device w.segment.device)
+      (number_in w.seat h i) (value_in w.seat h i) w.segment.begun w.segment.spare_open (disk.device w.segment.device)
 
 -- the writer took part in a meeting: its file is unchanged, and its seat may have seen more
 pub record HasMet {D : Type 0} (old new : WriterState D) : Type 0 where
@@ -64,6 +61,5 @@ pub record Rests {D : Type 0} (disk : Disk.Ghosts D) (w : WriterState D)
     : Type 0 where
   pub number_is : w.segment.number ≡ number_of w
   pub value_is : w.segment.value ≡ value_of w
-  pub kept : disk.is_honest w.segment.device
-      → IsKept w.segment.index w.segment.count w.segment.number
+  pub kept : disk.is_honest w.segment.device → IsKept w.segment.index w.segment.count w.segment.number
       w.segment.value w.segment.begun w.segment.spare_open (disk.device w.segment.device)

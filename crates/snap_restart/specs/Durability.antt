@@ -8,9 +8,6 @@ module _ {D : Type 0} (disk : Disk.Ghosts D) where
   -- Whatever these writers do from now on: once the writer of segment i has reached a, a crash at any later time leaves
   -- what was stored at a, or something later, whatever the writer has done since.
   abbrev pub AllStays : List (WriterState D) → Type 0
-  AllStays writers = (i : ℕ) (w a z : WriterState D) (before life : List (WriterState D))
-      → slice_get writers i ≡ Some w
-      → Lived disk w before a
-      → Lived disk a life z
-      → disk.is_honest z.segment.device
+  AllStays writers = (i : ℕ) (w a z : WriterState D) (before life : List (WriterState D)) → slice_get writers i ≡ Some w
+      → Lived disk w before a → Lived disk a life z → disk.is_honest z.segment.device
       → Stays disk (length writers) i a life z

@@ -32,17 +32,14 @@ Has start h i k v = (part : List Update) × IsBeginning part h
 pub record IsRecovered (n : ℕ) (start : Start) (h : List Update) (begun : ℕ → List ℕ → Type 0)
     (files : List (List ℕ)) : Type 0 where
   pub begun_too : List Update
-  pub were_begun : (j : ℕ) (u : Update) → slice_get begun_too j ≡ Some u
-      → (u.segment < n) × begun u.segment u.value
+  pub were_begun : (j : ℕ) (u : Update) → slice_get begun_too j ≡ Some u → (u.segment < n) × begun u.segment u.value
   pub once : (i : ℕ) → updates_of i begun_too ≤ 1
   pub size : length files ≡ n
-  pub holds : (i : ℕ) (b : List ℕ) → slice_get files i ≡ Some b
-      → IsFileOf i n (number_after start (h ++ begun_too) i)
+  pub holds : (i : ℕ) (b : List ℕ) → slice_get files i ≡ Some b → IsFileOf i n (number_after start (h ++ begun_too) i)
       (value_after start (h ++ begun_too) i) b
 
 -- whatever a crash leaves of these devices is the memory after the history and then some begun updates
-abbrev pub KeepMemory : {D : Type 0} → Disk.Ghosts D → ℕ → Start → List Update
-    → (ℕ → List ℕ → Type 0) → List D → Type 0
+abbrev pub KeepMemory : {D : Type 0} → Disk.Ghosts D → ℕ → Start → List Update → (ℕ → List ℕ → Type 0) → List D → Type 0
 KeepMemory disk n start h begun devices = (files : List (List ℕ))
     → Pairs (λ _ d b. MayLeave (disk.device d) b) devices files → IsRecovered n start h begun files
 

@@ -30,13 +30,10 @@ module _ {D : Type 0} (disk : Disk.Ghosts D) where
   -- a crash at any time since the writer was at a leaves such a file, and so does a crash now, with the writer at z
   pub record Stays (n i : ℕ) (a : WriterState D) (life : List (WriterState D))
       (z : WriterState D) : Type 0 where
-    pub any_time : LeavesOnly disk a.segment.device z.segment.device
-        (Keeps n i a life)
+    pub any_time : LeavesOnly disk a.segment.device z.segment.device (Keeps n i a life)
     pub now : (b : List ℕ) → MayLeave (disk.device z.segment.device) b → Keeps n i a life b
 
   -- this is true wherever a writer's life has brought it
   abbrev pub StaysLaw : Type 0
-  StaysLaw = (plan : Plan) (n i : ℕ) (a z : WriterState D) (life : List (WriterState D))
-      → IsWriterOf disk plan n i a
-      → Lived disk a life z
-      → disk.is_honest z.segment.device → Stays n i a life z
+  StaysLaw = (plan : Plan) (n i : ℕ) (a z : WriterState D) (life : List (WriterState D)) → IsWriterOf disk plan n i a
+      → Lived disk a life z → disk.is_honest z.segment.device → Stays n i a life z

@@ -17,29 +17,21 @@ module _ {D : Type 0} (disk : Disk.Ghosts D) where
   -- at each place of a writer's life its device and its seat agree
   abbrev pub Lives : Type 0
   Lives = (plan : Plan) (n i : ℕ) (a z : WriterState D) (life : List (WriterState D)) (p : Place D)
-      → IsWriterOf disk plan n i a
-      → Lived disk a life z
-      → IsIn disk z a life p
-      → IsPlaceOf disk plan n i p
+      → IsWriterOf disk plan n i a → Lived disk a life z → IsIn disk z a life p → IsPlaceOf disk plan n i p
       × IsBeginning a.seat.seen (seen_at p) × IsBeginning (seen_at p) z.seat.seen
 
   -- the place is in a life of the writer of segment i of n, which has seen no more than the history h
   abbrev pub IsLivedIn : Plan → ℕ → List Update → ℕ → Place D → Type 0
-  IsLivedIn plan n h i p = (a z : WriterState D) × (life : List (WriterState D))
-      × IsWriterOf disk plan n i a
-      × Lived disk a life z
-      × IsIn disk z a life p × IsBeginning z.seat.seen h
+  IsLivedIn plan n h i p = (a z : WriterState D) × (life : List (WriterState D)) × IsWriterOf disk plan n i a
+      × Lived disk a life z × IsIn disk z a life p × IsBeginning z.seat.seen h
 
   -- a consistent cut through the lives of all writers and scanners is recovered
   abbrev pub CutLaw : Type 0
   CutLaw = (plan : Plan) (h : List Update) (writers : List (Place D))
-      (scanners : List (List Update)) (files : List (List ℕ))
-      → 0 < length writers
-      → ((i : ℕ) (p : Place D) → slice_get writers i ≡ Some p
-      → IsLivedIn plan (length writers) h i p)
+      (scanners : List (List Update)) (files : List (List ℕ)) → 0 < length writers
+      → ((i : ℕ) (p : Place D) → slice_get writers i ≡ Some p → IsLivedIn plan (length writers) h i p)
       → ((k : ℕ) (seen : List Update) → slice_get scanners k ≡ Some seen → IsBeginning seen h)
-      → IsConsistent (starts plan) writers scanners
-      → Pairs (λ _. CrashLeaves disk) writers files
+      → IsConsistent (starts plan) writers scanners → Pairs (λ _. CrashLeaves disk) writers files
       → Recovers (length writers) (starts plan) h writers scanners files
 
 -- a seat of the table writes segment i and has seen what the place says
@@ -49,13 +41,11 @@ IsSeatOf {D} views i p = (j : ℕ) × (v : SeatView) × (get_elem? views j ≡ s
 
 -- a seat of the table has seen these updates
 abbrev pub IsSeenIn : List SeatView → List Update → Type 0
-IsSeenIn views seen = (j : ℕ) × (v : SeatView) × (get_elem? views j ≡ some v)
-    × (seen ≡ updates v.seen)
+IsSeenIn views seen = (j : ℕ) × (v : SeatView) × (get_elem? views j ≡ some v) × (seen ≡ updates v.seen)
 
 -- a moment of the registers is a consistent cut: nobody has seen an update that its writer hasn't shown
 abbrev pub ConsistentLaw : Type 0 → Type 0
-ConsistentLaw D = (plan : Plan) (s : Moment) → Kept plan s
-    → (writers : List (Place D)) (scanners : List (List Update))
+ConsistentLaw D = (plan : Plan) (s : Moment) → Kept plan s → (writers : List (Place D)) (scanners : List (List Update))
     → ((i : ℕ) (p : Place D) → slice_get writers i ≡ Some p → IsSeatOf s.views i p)
     → ((k : ℕ) (seen : List Update) → slice_get scanners k ≡ Some seen → IsSeenIn s.views seen)
     → IsConsistent (starts plan) writers scanners
@@ -70,13 +60,8 @@ module _ {D : Type 0} (disk : Disk.Ghosts D) where
   -- at any moment of the registers a crash is recovered as the memory after the whole history of
   -- that moment, of which each seat has seen a beginning
   abbrev pub MomentLaw : Type 0
-  MomentLaw = (plan : Plan) (s : Moment) (kept : Kept plan s)
-      (writers : List (Place D)) (files : List (List ℕ))
-      → length writers ≡ segments plan
-      → ((i : ℕ) (p : Place D) → slice_get writers i ≡ Some p
-      → IsPlaceOf disk plan (segments plan) i p
-      × IsSeatOf s.views i p)
-      → Pairs (λ _. CrashLeaves disk) writers files
-      → ((j : ℕ) (v : SeatView) → get_elem? s.views j ≡ some v
-      → IsBeginning (updates v.seen) (updates kept.history))
+  MomentLaw = (plan : Plan) (s : Moment) (kept : Kept plan s) (writers : List (Place D)) (files : List (List ℕ))
+      → length writers ≡ segments plan → ((i : ℕ) (p : Place D) → slice_get writers i ≡ Some p
+      → IsPlaceOf disk plan (segments plan) i p × IsSeatOf s.views i p) → Pairs (λ _. CrashLeaves disk) writers files
+      → ((j : ℕ) (v : SeatView) → get_elem? s.views j ≡ some v → IsBeginning (updates v.seen) (updates kept.history))
       × IsRecovered (segments plan) (starts plan) (updates kept.history) (Begun writers) files

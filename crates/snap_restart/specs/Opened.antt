@@ -19,8 +19,7 @@ IsOpenable i n b = Head b i n × ((k : ℕ) × (v : List ℕ) × Holds b k v)
 pub record IsBack {D : Type 0} (disk : Disk.Ghosts D) (d e : D) : Type 0 where
   pub honest_then : disk.is_honest e → disk.is_honest d
   pub any_time : disk.is_honest e → LeavesOnly disk d e (MayLeave (disk.device d))
-  pub now : disk.is_honest e → (b : List ℕ) → MayLeave (disk.device e) b
-      → MayLeave (disk.device d) b
+  pub now : disk.is_honest e → (b : List ℕ) → MayLeave (disk.device e) b → MayLeave (disk.device d) b
 
 -- segment i of n was opened on device d: it isn't fenced, no place is open, and it has the number
 -- and value that the bytes held
@@ -31,10 +30,8 @@ pub record IsOpened {D : Type 0} (disk : Disk.Ghosts D) (n i : ℕ) (d : D)
   pub unfenced : s.begun ≡ None
   pub failures_same : disk.failure_count s.device ≡ disk.failure_count d
   pub calls : disk.clock s.device ≡ disk.clock d + 2
-  pub found : disk.is_honest s.device → Head (disk.device d).bytes i n
-      × Holds (disk.device d).bytes s.number s.value
-  pub rests : disk.is_honest s.device
-      → IsAtRest i n s.number s.value s.spare_open (disk.device s.device)
+  pub found : disk.is_honest s.device → Head (disk.device d).bytes i n × Holds (disk.device d).bytes s.number s.value
+  pub rests : disk.is_honest s.device → IsAtRest i n s.number s.value s.spare_open (disk.device s.device)
   pub back : IsBack disk d s.device
 
 -- device e was returned for device d, of segment i, by an opening of n segments that was refused at segment k
@@ -56,8 +53,7 @@ pub record IsStopped {D : Type 0} (disk : Disk.Ghosts D) (olds news : List D)
   pub kind : IsOpenRefusal why
   pub within : k ≤ length olds
   pub refused : why ≢ NoMemory → k < length olds
-  pub returned : Pairs (IsReturned disk (length olds) k why)
-      olds news
+  pub returned : Pairs (IsReturned disk (length olds) k why) olds news
 
 -- how many looks a seat has between an opening and the next
 abbrev pub all_looks : ℕ

@@ -47,17 +47,13 @@ impl<D: Disk + Drop> Store<D> {
     pub fn close(self) -> Vec<D>
         requires back { AreBack self.writers.items self.scanners.items }
         ensures devices { result.items ≡ map (λ w. w.segment.device) self.writers.items }
-        ensures history { (h : List Update)
-            × IsHistory h self.writers.items self.scanners.items
-            × ((i : ℕ) (w : _) → slice_get self.writers.items i ≡ Some w
-            → HoldsAfter D.Disk h i w) }
+        ensures history { (h : List Update) × IsHistory h self.writers.items self.scanners.items
+            × ((i : ℕ) (w : _) → slice_get self.writers.items i ≡ Some w → HoldsAfter D.Disk h i w) }
 
         // An earlier crash of all devices is recovered as one memory, if it found them so that
         // nobody had seen an update that its writer hadn't shown.
-        ensures crash { (h : List Update)
-            × IsHistory h self.writers.items self.scanners.items
-            × AnyCut D.Disk h self.writers.items
-            self.scanners.items }
+        ensures crash { (h : List Update) × IsHistory h self.writers.items self.scanners.items
+            × AnyCut D.Disk h self.writers.items self.scanners.items }
     {
         let Store {
             mut writers,
@@ -97,8 +93,7 @@ pub fn open_all<D: Disk + Drop>(
     requires headroom { All (λ d. D.failure_count d < 2 ^ 64 - 1) devices.items }
 
     // Each file was opened, and its writer has its number and value.
-    ensures opened { IfOk result (λ r.
-        Pairs (IsOpened D.Disk
+    ensures opened { IfOk result (λ r. Pairs (IsOpened D.Disk
         (length devices.items)) devices.items (map (λ w. w.segment) r.0.writers.items)) }
     ensures starts { IfOk result (λ r. (i : ℕ) (w : _) → slice_get r.0.writers.items i ≡ Some w → IsPaired w) }
 
@@ -180,8 +175,7 @@ fn take_memory<D: Disk + Drop>(
 ) -> Result<Ready<D>, AllocError>
     requires count { (0 < length segments.now.items) × (length segments.now.items ≤ MAX_COUNT) }
     requires scanners { scanners ≤ MAX_SCANNERS }
-    ensures counts { IfOk result (λ r.
-        (length r.parts.writers.items ≡ length segments.now.items)
+    ensures counts { IfOk result (λ r. (length r.parts.writers.items ≡ length segments.now.items)
         × (length r.parts.scanners.items ≡ scanners)) }
     ensures seats { IfOk result (λ r. (z : RegistersId) × (p : Plan)
         × IsOpening p LOOKS (map contents segments.now.items)

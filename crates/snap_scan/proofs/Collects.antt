@@ -12,8 +12,7 @@ use Rattle.snap_scan.proofs.{Places.same_segment, Places.pushed, Verdict.Same-fr
 
 -- a borrow is from the segment of the last look
 pub same_turn : (n : ℕ) (L : List ℕ) (k i j : ℕ) → IsTurn n L j → IsBorrow n (L ++ k ∷ []) i → i ≡ j
-same_turn n L k i j turn borrowed =
-    same_segment n borrowed.last.0 i turn.1.0 j borrowed.segment turn.0
+same_turn n L k i j turn borrowed = same_segment n borrowed.last.0 i turn.1.0 j borrowed.segment turn.0
     (omega (arith, turn.1.1, length_push L k, borrowed.last.1))
 
 -- less than a collect apart are looks at two segments
@@ -123,15 +122,14 @@ module _ (A : Type 0) (n : ℕ) (number : Numbers) (entry : Entries A) (b e : �
         -- so the moment of its view is within the scan
         pub borrow_moment : (p : ℕ) → p ≤ t → number p j + 1 ≡ number t j → (IsClean n (L ++ number t j ∷ []) → ⊥)
             → IsMoment n number b t (L ++ number t j ∷ []) p
-        borrow_moment p pl before not_clean =
-            record {
-              after = grind (arith, rose, rising j p b);
-              until = pl;
-              tells = record {
-                clean = λ cl. absurd (not_clean cl);
-                borrow = λ i br. grind (arith, last_is, same_turn n L (number t j) i j turn br);
-              };
-            }
+        borrow_moment p pl before not_clean = record {
+          after = grind (arith, rose, rising j p b);
+          until = pl;
+          tells = record {
+            clean = λ cl. absurd (not_clean cl);
+            borrow = λ i br. grind (arith, last_is, same_turn n L (number t j) i j turn br);
+          };
+        }
 
       -- two equal collects show the moment between them
       pub clean_moment : IsKept A number entry → 0 < n → IsClean n L → ((j : ℕ) → IsBorrow n L j → ⊥)

@@ -77,22 +77,21 @@ module _ (s : Machine) (L : List ℕ) (j k : ℕ) (st : StandsFor s L) (e : s.ne
 
   pub StandsFor-borrow : s.segments ≤ s.looks → slice_index s.first j + 2 ≤ k
       → StandsFor (record s { looks = s.looks + 1; next = Borrow j }) (L ++ k ∷ [])
-  StandsFor-borrow late far =
+  StandsFor-borrow late far = record {
+    least = st.least;
+    most = st.most;
+    firsts = st.firsts;
+    latests = st.latests;
+    looks = omega (arith, st.looks, length_push L k);
+    says = (
       record {
-        least = st.least;
-        most = st.most;
-        firsts = st.firsts;
-        latests = st.latests;
-        looks = omega (arith, st.looks, length_push L k);
-        says = (
-          record {
-            last = (q.m, omega (arith, q.place, length_push L k));
-            segment = q.within;
-            moved = grind (arith, pushed, q.first j q.within, q.within, st.looks);
-          },
-          undecided_then,
-        );
-      }
+        last = (q.m, omega (arith, q.place, length_push L k));
+        segment = q.within;
+        moved = grind (arith, pushed, q.first j q.within, q.within, st.looks);
+      },
+      undecided_then,
+    );
+  }
 
   module _ (may : MayTell s j k) (near : IsClose s j k) where
     -- in the first collect the segment has no earlier look
@@ -122,8 +121,7 @@ module _ (s : Machine) (L : List ℕ) (j k : ℕ) (st : StandsFor s L) (e : s.ne
         (subst (λ f. IsChanged f s.segments L q.m j) is.0 q.changed)
         (λ p f. sym (q.before p j f (omega arith) q.within) ∙ is.1)
     changed_after true on =
-        changed_push s.segments L q.m j k q.within q.place
-        (elim (flag_on s.changed (slice_index s.latest j) k on) [
+        changed_push s.segments L q.m j k q.within q.place (elim (flag_on s.changed (slice_index s.latest j) k on) [
           | inl is ↦ inl (subst (λ f. IsChanged f s.segments L q.m j) is q.changed)
           | inr other ↦ inr (λ p f g. other (q.before p j f (omega arith) q.within ∙ g))
         ])
@@ -181,20 +179,15 @@ module _ (s : Machine) (L : List ℕ) (j k : ℕ) (st : StandsFor s L) (e : s.ne
         changed = (q.m, refl, λ i l. absurd (omega arith));
         rising = rising_after;
         undecided = undecided_after (λ c f g.
-            let d = same_collect s.segments (q.m + 1) 0 (c + 2) 0 st.least st.least
-            (omega (arith, q.place, last)) in
+            let d = same_collect s.segments (q.m + 1) 0 (c + 2) 0 st.least st.least (omega (arith, q.place, last)) in
             changed_after true on c (omega arith) (λ i l. g i (omega (arith, last))));
       })
       by_flag false off =
           let was = changed_after false off in
           let before = ap (λ x. x * s.segments) was.1 in
-          let len : length (L ++ k ∷ []) ≡ (was.0 + 2) * s.segments =
-          omega (arith, q.place, length_push L k, last) in
+          let len : length (L ++ k ∷ []) ≡ (was.0 + 2) * s.segments = omega (arith, q.place, length_push L k, last) in
           stands (flag_after s j k) Clean (
-            record {
-              rounds = (was.0, len);
-              same = λ i l. grind (arith, was.2 i, last);
-            },
+            record { rounds = (was.0, len); same = λ i l. grind (arith, was.2 i, last) },
             low_push s.segments L q.m j k q.within q.place q.undecided.low small,
             undecided_then,
           )

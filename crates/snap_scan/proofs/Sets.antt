@@ -38,21 +38,15 @@ is_named set (suc k) p j e =
 
 pub has_place : (set k j : ℕ) → j < k → Names set j → (p : ℕ) × (slice_get (named_below set k) p ≡ Some j)
 has_place set zero j l is = absurd (omega arith)
-has_place set (suc k) j l is =
-    more set k (λ xs. (p : ℕ) × (slice_get xs p ≡ Some j))
-    (λ last. elim (cases_eq j k) [
-      | inl same ↦ (length (below set k), get-append_last (below set k) k ∙ ap (λ v. Some v) (sym same))
-      | inr other ↦ (
-          let old = has_place set k j (omega arith) is in (
-            old.0,
-            get-append_left (below set k) (k ∷ []) old.0
-                (slice_get_within (below set k) old.0 j old.1) ∙ old.1,
-          ))
-    ])
-    (λ un. elim (cases_eq j k) [
-      | inl same ↦ absurd (un (subst (Names set) same is))
-      | inr other ↦ has_place set k j (omega arith) is
-    ])
+has_place set (suc k) j l is = more set k (λ xs. (p : ℕ) × (slice_get xs p ≡ Some j)) (λ last. elim (cases_eq j k) [
+  | inl same ↦ (length (below set k), get-append_last (below set k) k ∙ ap (λ v. Some v) (sym same))
+  | inr other ↦ (
+      let old = has_place set k j (omega arith) is in
+      (old.0, get-append_left (below set k) (k ∷ []) old.0 (slice_get_within (below set k) old.0 j old.1) ∙ old.1))
+]) (λ un. elim (cases_eq j k) [
+  | inl same ↦ absurd (un (subst (Names set) same is))
+  | inr other ↦ has_place set k j (omega arith) is
+])
 
 -- a lower place has a smaller segment
 pub ascends : (set k p q i j : ℕ) → slice_get (named_below set k) p ≡ Some i
@@ -60,13 +54,11 @@ pub ascends : (set k p q i j : ℕ) → slice_get (named_below set k) p ≡ Some
 unfolding named_below
 ascends set zero p q i j e f l = absurd (let none : None ≡ Some i = e in cc)
 ascends set (suc k) p q i j e f l =
-    more set k (λ xs. slice_get xs p ≡ Some i → slice_get xs q ≡ Some j → i < j)
-    (λ is e f. (
+    more set k (λ xs. slice_get xs p ≡ Some i → slice_get xs q ≡ Some j → i < j) (λ is e f. (
     let xs = below set k in
     let inside : q < length (xs ++ k ∷ []) = slice_get_within (xs ++ k ∷ []) q j f in
     let long : length (xs ++ k ∷ []) ≡ length xs + 1 = length_push xs k in
-    let first : slice_get xs p ≡ Some i =
-    sym (get-append_left xs (k ∷ []) p (omega arith)) ∙ e in
+    let first : slice_get xs p ≡ Some i = sym (get-append_left xs (k ∷ []) p (omega arith)) ∙ e in
     elim (cases_lt q (length xs)) [
       | inl lt ↦ ascends set k p q i j first (sym (get-append_left xs (k ∷ []) q lt) ∙ f) l
       | inr ge ↦ (
@@ -99,8 +91,7 @@ up_to_push k xs up = record {
 all_below : (n k : ℕ) → k ≤ n → IsUpTo k (named_below (2 ^ n - 1) k)
 unfolding named_below
 all_below n zero l = record { count = refl; each = λ p l. absurd (omega arith) }
-all_below n (suc k) l =
-    rw (with (2 ^ n - 1) k (bit_at_ones n k (omega arith)))
+all_below n (suc k) l = rw (with (2 ^ n - 1) k (bit_at_ones n k (omega arith)))
     (up_to_push k (named_below (2 ^ n - 1) k) (all_below n k (omega arith)))
 
 up : (k : ℕ) → suc k ≡ k + 1
@@ -110,8 +101,7 @@ up k = omega arith
 pub listed_with : (set k n : ℕ) (xs : List ℕ) → take n xs ≡ named_below set k → n < length xs
     → Names set k → take (n + 1) (slice_set xs n k) ≡ named_below set (k + 1)
 listed_with set k n xs e l is =
-    take_more_set xs n k l ∙ ap (λ v. v ++ k ∷ []) e ∙ sym (with set k is)
-    ∙ ap (named_below set) (up k)
+    take_more_set xs n k l ∙ ap (λ v. v ++ k ∷ []) e ∙ sym (with set k is) ∙ ap (named_below set) (up k)
 
 pub listed_without : (set k n : ℕ) (xs : List ℕ) → take n xs ≡ named_below set k
     → (Names set k → ⊥) → take n xs ≡ named_below set (k + 1)
@@ -201,25 +191,22 @@ module _ {A : Type 0} (P : ℕ → A → Type 0) (set k : ℕ) (xs : List A) whe
       × ((p j : ℕ) → slice_get (named_below set n) p ≡ Some j → (x : A) × (slice_get l p ≡ Some x) × P j x)
 
   pub list_named : Names set k → (x : A) → P k x → IsListed k xs → IsListed (k + 1) (xs ++ x ∷ [])
-  list_named is x px listed =
-      rw (sym (up k), with set k is) (
-        omega (arith, listed.0, length_push xs x, length_push (named_below set k) k),
-        λ p j at. (
-            let e = listed.0 in
-            let long = length_push (named_below set k) k in
-            let inside = slice_get_within (named_below set k ++ k ∷ []) p j at in
-            elim (cases_lt p (length (named_below set k))) [
-              | inl lt ↦ (
-                  let old = listed.1 p j (sym (get-append_left (named_below set k) (k ∷ []) p lt) ∙ at) in
-                  (old.0, get-append_left xs (x ∷ []) p (slice_get_within xs p old.0 old.1) ∙ old.1, old.2))
-              | inr ge ↦ (
-                  let last : p ≡ length (named_below set k) = omega arith in
-                  let same : k ≡ j = same_Some k j (sym (get-append_last (named_below set k) k)
-                  ∙ (rw last at at)) in
-                  (x, ap (slice_get (xs ++ x ∷ [])) (last ∙ sym e) ∙ get-append_last xs x, rw same at px))
-            ]),
-      )
+  list_named is x px listed = rw (sym (up k), with set k is) (
+    omega (arith, listed.0, length_push xs x, length_push (named_below set k) k),
+    λ p j at. (
+        let e = listed.0 in
+        let long = length_push (named_below set k) k in
+        let inside = slice_get_within (named_below set k ++ k ∷ []) p j at in
+        elim (cases_lt p (length (named_below set k))) [
+          | inl lt ↦ (
+              let old = listed.1 p j (sym (get-append_left (named_below set k) (k ∷ []) p lt) ∙ at) in
+              (old.0, get-append_left xs (x ∷ []) p (slice_get_within xs p old.0 old.1) ∙ old.1, old.2))
+          | inr ge ↦ (
+              let last : p ≡ length (named_below set k) = omega arith in
+              let same : k ≡ j = same_Some k j (sym (get-append_last (named_below set k) k) ∙ (rw last at at)) in
+              (x, ap (slice_get (xs ++ x ∷ [])) (last ∙ sym e) ∙ get-append_last xs x, rw same at px))
+        ]),
+  )
 
   pub list_unnamed : (Names set k → ⊥) → IsListed k xs → IsListed (k + 1) xs
-  list_unnamed un listed =
-      rw (sym (up k), without set k un) listed
+  list_unnamed un listed = rw (sym (up k), without set k un) listed

@@ -8,8 +8,7 @@ sum_below f (suc k) = f k + sum_below f k
 
 pub sum_cap : (f g : ℕ → ℕ) (d k : ℕ) → ((i : ℕ) → i < k → f i ≤ g i + d) → sum_below f k ≤ sum_below g k + k * d
 sum_cap f g d zero h = omega arith
-sum_cap f g d (suc k) h =
-    omega (arith, h k (omega arith), sum_cap f g d k (λ i l. h i (omega arith)))
+sum_cap f g d (suc k) h = omega (arith, h k (omega arith), sum_cap f g d k (λ i l. h i (omega arith)))
 
 -- if no summand falls, all stay the same or the sum rises
 pub same_or_more : (f g : ℕ → ℕ) (k : ℕ) → ((i : ℕ) → i < k → f i ≤ g i)

@@ -8,8 +8,7 @@ use Rattle.snap_scan.{specs.Looks.IsNoFall, proofs.Places.same_segment, proofs.P
 module _ (n : ℕ) (L : List ℕ) (m j k : ℕ) (within : j < n) (place : length L ≡ m * n + j) where
   pub low_push : AllLow n L (length L) → ((j < length L) → k < slice_index L j + 2)
       → AllLow n (L ++ k ∷ []) (length (L ++ k ∷ []))
-  low_push low small p i hi lt =
-      grind (arith, pushed, low p i hi, same_segment n p i m j hi within)
+  low_push low small p i hi lt = grind (arith, pushed, low p i hi, same_segment n p i m j hi within)
 
   pub rising_push : IsRising n L → IsNoFall n L j k → IsRising n (L ++ k ∷ [])
   rising_push rising fall p i hi lt =

@@ -32,8 +32,7 @@ borrow_not_clean n L j pos b before clean =
     grind (arith, same_segment n m j (c + 1) (n - 1) b.segment within (omega arith), b.moved)
 
 same_borrow : (n : ℕ) (L : List ℕ) (j k : ℕ) → IsBorrow n L j → IsBorrow n L k → j ≡ k
-same_borrow n L j k a b =
-    same_segment n a.last.0 j b.last.0 k a.segment b.segment (omega (arith, a.last.1, b.last.1))
+same_borrow n L j k a b = same_segment n a.last.0 j b.last.0 k a.segment b.segment (omega (arith, a.last.1, b.last.1))
 
 -- the statement about a machine's list that its next step makes
 pub said : (s : Machine) (L : List ℕ) (v : Next) → StandsFor s L → s.next ≡ v → Says s L v
@@ -64,8 +63,7 @@ total-rises n L (suc m) up u h =
 -- at most n collects differ from the one before
 collects-le : (n : ℕ) (L : List ℕ) (m : ℕ) → IsRising n L → IsUndecided n L (length L) → m * n ≤ length L → m ≤ n + 1
 collects-le n L zero up u h = omega arith
-collects-le n L (suc m) up u h =
-    omega (arith, total-rises n L m up u (omega arith), total-cap n L m u (omega arith))
+collects-le n L (suc m) up u h = omega (arith, total-rises n L m up u (omega arith), total-cap n L m u (omega arith))
 
 pub looks-lt : (s : Machine) (L : List ℕ) (j : ℕ) → IsLooking s L j → length L < s.segments * (s.segments + 2)
 looks-lt s L j k =
@@ -124,18 +122,10 @@ module _ (set : ℕ) (s : Machine) (L : List ℕ) (count : s.segments ≡ size s
   says_at : (v : Next) → Says s L v → IsNext set L (next_at set v)
   says_at (Look p) q = record {
     clean = (λ e. cc, λ is. absurd (not_clean s.segments L q.undecided (clean_here is)));
-    borrow = λ j. (
-      λ e. cc,
-      λ b. absurd (not_borrow s.segments L b.0 q.undecided.low (borrow_here b.0 b.2)),
-    );
-    look = λ j e. (
-      p,
-      at_place p j q.within cc,
-      subst (λ n. IsTurn n L p) count (q.within, (q.m, q.place)),
-    );
+    borrow = λ j. (λ e. cc, λ b. absurd (not_borrow s.segments L b.0 q.undecided.low (borrow_here b.0 b.2)));
+    look = λ j e. (p, at_place p j q.within cc, subst (λ n. IsTurn n L p) count (q.within, (q.m, q.place)));
     bound = λ j e. subst (λ n. length L < most_looks n) count (looks-lt s L p q);
-    first = first_here (λ k l.
-        undecided_at s.segments L (length L) k q.undecided (omega arith) (omega arith));
+    first = first_here (λ k l. undecided_at s.segments L (length L) k q.undecided (omega arith) (omega arith));
   }
   says_at Clean q = record {
     clean = (λ e. subst (λ n. IsClean n L) count q.0, λ is. refl);
@@ -145,18 +135,10 @@ module _ (set : ℕ) (s : Machine) (L : List ℕ) (count : s.segments ≡ size s
     first = first_here (first_of s.segments L q.2);
   }
   says_at (Borrow p) q = record {
-    clean = (
-      λ e. cc,
-      λ is. absurd (borrow_not_clean s.segments L p st.least q.0 q.1 (clean_here is)),
-    );
+    clean = (λ e. cc, λ is. absurd (borrow_not_clean s.segments L p st.least q.0 q.1 (clean_here is)));
     borrow = λ j. (
-      λ e. (
-        p,
-        at_place p j q.0.segment cc,
-        rw count at q.0,
-      ),
-      λ b. ap (λ v. Borrow (slice_index (named set) v))
-          (same_borrow s.segments L p b.0 q.0 (borrow_here b.0 b.2))
+      λ e. (p, at_place p j q.0.segment cc, rw count at q.0),
+      λ b. ap (λ v. Borrow (slice_index (named set) v)) (same_borrow s.segments L p b.0 q.0 (borrow_here b.0 b.2))
           ∙ ap (λ v. Borrow v) (at_is set b.0 j b.1),
     );
     look = λ j e. cc;

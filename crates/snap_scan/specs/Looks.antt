@@ -17,8 +17,7 @@ IsNoFall n L j number = (m : ℕ) → length L ≡ (m + 1) * n + j → slice_ind
 -- clean: the list ends with two whole collects, which found the same numbers
 pub record IsClean (n : ℕ) (L : List ℕ) : Type 0 where
   pub rounds : (c : ℕ) × (length L ≡ (c + 2) * n)
-  pub same : (i : ℕ) → i < n
-      → slice_index L (length L - 2 * n + i) ≡ slice_index L (length L - n + i)
+  pub same : (i : ℕ) → i < n → slice_index L (length L - 2 * n + i) ≡ slice_index L (length L - n + i)
 
 -- a borrow: the last look was at j, and found a number at least 2 above that of the first look at j
 pub record IsBorrow (n : ℕ) (L : List ℕ) (j : ℕ) : Type 0 where

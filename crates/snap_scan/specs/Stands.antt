@@ -63,8 +63,7 @@ pub record StandsFor (s : Machine) (L : List ℕ) : Type 0 where
 
 -- the machine may get this number next: it isn't below the last one found for the segment
 abbrev pub MayTell : Machine → ℕ → ℕ → Type 0
-MayTell s segment number =
-    ∥ ((L : List ℕ) × StandsFor s L × IsNoFall s.segments L segment number) ∥₁
+MayTell s segment number = ∥ ((L : List ℕ) × StandsFor s L × IsNoFall s.segments L segment number) ∥₁
 
 -- the next step, with the machine's places as segments of the set
 abbrev pub next_at : ℕ → Next → Next

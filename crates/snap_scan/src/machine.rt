@@ -119,8 +119,7 @@ impl Machine {
     /// Ends a collect: with the answer if it found the same numbers as the one before, else with
     /// one more collect to compare with it.
     fn end_collect(&mut self)
-        ensures { MatchBool self.old.changed
-            (self.new ≡ record self.old { next = Next.Look 0; changed = false })
+        ensures { MatchBool self.old.changed (self.new ≡ record self.old { next = Next.Look 0; changed = false })
             (self.new ≡ record self.old { next = Next.Clean }) }
     {
         if self.changed {

@@ -34,15 +34,13 @@ cut-words : (text word : List ℕ) (o : Option (Bor (List ℕ)))
 cut-words text word None h = h
 cut-words text word (Some rest) h = h
 
-nothing_after : (o : Option (Bor (List ℕ))) → ((x : Bor (List ℕ)) → o ≡ Some x → ⊥)
-    → words_after o ≡ []
+nothing_after : (o : Option (Bor (List ℕ))) → ((x : Bor (List ℕ)) → o ≡ Some x → ⊥) → words_after o ≡ []
 nothing_after None h = refl
 nothing_after (Some x) h = absurd (h x refl)
 
 -- one word on
 module _ {line : List ℕ} {fills : List Fill} {now : Option (Bor (List ℕ))} {text : Bor (List ℕ)}
-    (after : Option (Bor (List ℕ))) (word : List ℕ)
-    (read : IsRead line fills now) (is : now ≡ Some text)
+    (after : Option (Bor (List ℕ))) (word : List ℕ) (read : IsRead line fills now) (is : now ≡ Some text)
     (cut : MatchOption after (words_of text.now ≡ word ∷ []) (λ rest. words_of text.now ≡ word
     ∷ words_of rest.now)) where
   whole_on : words_of line ≡ read.words ++ word ∷ words_after after
@@ -56,15 +54,12 @@ module _ {line : List ℕ} {fills : List Fill} {now : Option (Bor (List ℕ))} {
     are = AllZip-push IsFill read.words fills word fill read.are f;
   }
 
-  pub no_fills : ((f : Fill) → IsFill word f → ⊥) → (all : List Fill)
-      → AllZip IsFill (words_of line) all → ⊥
+  pub no_fills : ((f : Fill) → IsFill word f → ⊥) → (all : List Fill) → AllZip IsFill (words_of line) all → ⊥
   no_fills none all are =
       let some = fill_at read.words (words_after after) word all (rw whole_on at are) in
       none some.0 some.1
 
 -- nothing is left
-pub read_whole : {line : List ℕ} {fills : List Fill} {now : Option (Bor (List ℕ))}
-    → IsRead line fills now → ((x : Bor (List ℕ)) → now ≡ Some x → ⊥)
-    → AllZip IsFill (words_of line) fills
-read_whole {line} {fills} {now} read none =
-    rw (read.whole, nothing_after now none, append-nil read.words) read.are
+pub read_whole : {line : List ℕ} {fills : List Fill} {now : Option (Bor (List ℕ))} → IsRead line fills now
+    → ((x : Bor (List ℕ)) → now ≡ Some x → ⊥) → AllZip IsFill (words_of line) fills
+read_whole {line} {fills} {now} read none = rw (read.whole, nothing_after now none, append-nil read.words) read.are

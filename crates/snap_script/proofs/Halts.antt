@@ -26,8 +26,7 @@ module _ {taken : List ℕ} {old now : Option (List ℕ)} {buffer : LineBuffer}
 
   -- the line ends here
   pub taken_line : (new : Option (List ℕ)) (next : LineBuffer) → next.line.items ≡ []
-      → HasDone (t.done ++ held ∷ []) old new next.interpreter.world
-      → HasTaken (taken ++ 10 ∷ []) old new next
+      → HasDone (t.done ++ held ∷ []) old new next.interpreter.world → HasTaken (taken ++ 10 ∷ []) old new next
   taken_line new next none h = record {
     done = t.done ++ held ∷ [];
     whole = grown (10 ∷ []) ∙ sym (ended-push t.done held) ∙ sym (append-nil (ended (t.done ++ held ∷ [])))
@@ -45,9 +44,8 @@ module _ {taken : List ℕ} {old now : Option (List ℕ)} {buffer : LineBuffer}
       plain = All-push (λ c. c ≢ 10) held b t.is_line.0 no_end;
     }
 
-    pub taken_byte : (next : LineBuffer) → next.line.items ≡ held ++ b ∷ []
-        → next.interpreter ≡ buffer.interpreter → length held < MAX_LINE
-        → HasTaken (taken ++ b ∷ []) old now next
+    pub taken_byte : (next : LineBuffer) → next.line.items ≡ held ++ b ∷ [] → next.interpreter ≡ buffer.interpreter
+        → length held < MAX_LINE → HasTaken (taken ++ b ∷ []) old now next
     taken_byte next is same room = record {
       done = t.done;
       whole = grown (b ∷ []) ∙ ap (λ line. ended t.done ++ line) (sym is);

@@ -24,8 +24,7 @@ module _ (p : ℕ → Bool) (xs : List ℕ) where
 
   -- the first part ends at the index that `position` finds
   pub splits_at_place : (r : Option ℕ) → r ≡ position_from p 0 xs → SplitsAt r
-  splits_at_place r e = rw (e, ← position_from-zero p xs)
-      (splits_by (ltb (position_or_len p xs) (length xs)) refl)
+  splits_at_place r e = rw (e, ← position_from-zero p xs) (splits_by (ltb (position_or_len p xs) (length xs)) refl)
 
 -- there is always a part
 pub parts-ne-nil : (c : ℕ) (text : List ℕ) → parts_at c text ≡ [] → ⊥

@@ -11,16 +11,12 @@ use Rattle.snap_world.specs.declared.{event.Event.Event, event.Reply.Reply, worl
 replies_text-push : (replies : List Reply) (reply : Reply)
     → replies_text (replies ++ reply ∷ []) ≡ replies_text replies ++ line_text (reply_text reply)
 replies_text-push [] reply = append-nil (line_text (reply_text reply))
-replies_text-push (r ∷ replies) reply =
-    ap (λ t. line_text (reply_text r) ++ t) (replies_text-push replies reply)
-    ∙ sym (append_assoc (line_text (reply_text r)) (replies_text replies)
-    (line_text (reply_text reply)))
+replies_text-push (r ∷ replies) reply = ap (λ t. line_text (reply_text r) ++ t) (replies_text-push replies reply)
+    ∙ sym (append_assoc (line_text (reply_text r)) (replies_text replies) (line_text (reply_text reply)))
 
-pub played_on : (old new : World) (lines : List (List ℕ)) (text line : List ℕ) (e : Event)
-    (reply : Reply) (out : List ℕ)
-    → Played lines text (Some old) → IsEventLine line e → IsRun old (e ∷ []) (reply ∷ []) new
-    → out ≡ line_text (reply_text reply)
-    → Played (lines ++ line ∷ []) (text ++ out) (Some new)
+pub played_on : (old new : World) (lines : List (List ℕ)) (text line : List ℕ) (e : Event) (reply : Reply)
+    (out : List ℕ) → Played lines text (Some old) → IsEventLine line e → IsRun old (e ∷ []) (reply ∷ []) new
+    → out ≡ line_text (reply_text reply) → Played (lines ++ line ∷ []) (text ++ out) (Some new)
 played_on old new [] text line e reply out h is run printed = absurd h
 played_on old new (first ∷ lines) text line e reply out (x, stands, plays) is run printed =
     let step = run.run x stands in
@@ -37,17 +33,14 @@ played_on old new (first ∷ lines) text line e reply out (x, stands, plays) is 
         replies = plays.replies ++ reply ∷ [];
         run = Run-append n _ plays.events plays.replies (configuration old x) (e ∷ [])
             (reply ∷ []) (configuration new step.0) plays.run step.1;
-        printed = ap (λ t. t ++ out) plays.printed
-            ∙ append_assoc (line_text (world_text n plays.s)) (replies_text plays.replies) out
-            ∙ ap (λ t. line_text (world_text n plays.s) ++ t)
-            (ap (λ o. replies_text plays.replies ++ o) printed
-            ∙ sym (replies_text-push plays.replies reply));
+        printed = ap (λ t. t ++ out) plays.printed ∙ append_assoc (line_text (world_text n plays.s))
+            (replies_text plays.replies) out ∙ ap (λ t. line_text (world_text n plays.s) ++ t)
+            (ap (λ o. replies_text plays.replies ++ o) printed ∙ sym (replies_text-push plays.replies reply));
       },
     )
 
-pub played_first : (w : World) (line out : List ℕ) (n s : ℕ) → IsWorldLine line n s
-    → segments_of w ≡ n → phases_of w ≡ start_world_phases n s → AreFormatted n (devices_of w)
-    → StandsFor w (start_state n s)
+pub played_first : (w : World) (line out : List ℕ) (n s : ℕ) → IsWorldLine line n s → segments_of w ≡ n
+    → phases_of w ≡ start_world_phases n s → AreFormatted n (devices_of w) → StandsFor w (start_state n s)
     → out ≡ line_text (world_text n s) → Played (line ∷ []) out (Some w)
 played_first w line out n s is segments phases formatted stands printed = (
   start_state n s,

@@ -16,11 +16,7 @@ runs_none read old = (
     done = [];
     line = [];
     after = [];
-    at = record {
-      whole = refl;
-      lines = λ k d l. absurd (omega arith);
-      plain = λ k d l. absurd (omega arith);
-    };
+    at = record { whole = refl; lines = λ k d l. absurd (omega arith); plain = λ k d l. absurd (omega arith) };
     ends = inr refl;
     prints = ([], refl, Appends-nil old);
   },
@@ -44,9 +40,8 @@ module _ {read_old read_new old new : Option (List ℕ)} {buffer : LineBuffer}
   read_on after piece came = Consumes-trans read_old read_new after f.taken piece f.read came
 
   -- the reader has no more bytes
-  pub runs_finish : {after wrote : Option (List ℕ)} {piece : List ℕ} (end : ScriptEnd)
-      → piece ≡ [] → Consumes read_new after piece
-      → Ends f.taken after old wrote end → Runs read_old after old wrote end
+  pub runs_finish : {after wrote : Option (List ℕ)} {piece : List ℕ} (end : ScriptEnd) → piece ≡ []
+      → Consumes read_new after piece → Ends f.taken after old wrote end → Runs read_old after old wrote end
   runs_finish {after} {wrote} {piece} end none came ends =
       (f.taken, rw (none, append-nil f.taken) at (read_on after piece came), ends)
 

@@ -10,20 +10,15 @@ use Rattle.snap_world.specs.declared.world.World.{World}
 
 -- nothing was done
 pub done_none : {old : Option (List ℕ)} {world : Option World} → world ≡ None → HasDone [] old old world
-done_none {old} none = record {
-  lines = λ k d l. absurd (omega arith);
-  text = [];
-  played = rw none refl;
-  wrote = Appends-nil old;
-}
+done_none {old} none =
+    record { lines = λ k d l. absurd (omega arith); text = []; played = rw none refl; wrote = Appends-nil old }
 
 full_lines-push : (lines : List (List ℕ)) (line : List ℕ) → line ≢ []
     → full_lines (lines ++ line ∷ []) ≡ full_lines lines ++ line ∷ []
 full_lines-push [] [] some = absurd (some refl)
 full_lines-push [] (b ∷ line) some = refl
 full_lines-push ([] ∷ lines) line some = full_lines-push lines line some
-full_lines-push ((c ∷ l) ∷ lines) line some =
-    ap (λ ls. (c ∷ l) ∷ ls) (full_lines-push lines line some)
+full_lines-push ((c ∷ l) ∷ lines) line some = ap (λ ls. (c ∷ l) ∷ ls) (full_lines-push lines line some)
 
 full_lines-push_empty : (lines : List (List ℕ)) → full_lines (lines ++ [] ∷ []) ≡ full_lines lines
 full_lines-push_empty [] = refl
@@ -38,9 +33,8 @@ may_print (first ∷ lines) text None h = absurd h
 may_print (first ∷ lines) text (Some w) h = (_, _, h.2)
 
 -- a line that the interpreter can't read
-pub unreadable : (lines : List (List ℕ)) (text : List ℕ) (world : Option World) (line : List ℕ)
-    (fault : LineFault) → Played lines text world → HaltsAt world line (Fault fault)
-    → IsUnreadable lines line
+pub unreadable : (lines : List (List ℕ)) (text : List ℕ) (world : Option World) (line : List ℕ) (fault : LineFault)
+    → Played lines text world → HaltsAt world line (Fault fault) → IsUnreadable lines line
 unreadable [] text None line fault played halts = halts
 unreadable [] text (Some w) line fault played halts = absurd played
 unreadable (first ∷ lines) text None line fault played halts = absurd played
@@ -75,8 +69,7 @@ module _ {done : List (List ℕ)} {old now : Option (List ℕ)} {world : Option 
         (on : (lines : List (List ℕ)) (text : List ℕ) → Played lines text world
         → Played (lines ++ line ∷ []) (text ++ out) new) where
       played : Played (full_lines (done ++ line ∷ [])) (h.text ++ out) new
-      played = rw (full_lines-push done line (some_list line some))
-          (on (full_lines done) h.text h.played)
+      played = rw (full_lines-push done line (some_list line some)) (on (full_lines done) h.text h.played)
 
       pub done_on : (after : Option (List ℕ)) → IsLine line → Appends now after out
           → HasDone (done ++ line ∷ []) old after new
@@ -93,6 +86,5 @@ module _ {done : List (List ℕ)} {old now : Option (List ℕ)} {world : Option 
         h.text ++ out,
         may_print (full_lines (done ++ line ∷ [])) (h.text ++ out) new played,
         length h.text + m,
-        rw (take-append-add h.text out m)
-            (Appends-trans old now after h.text (take m out) h.wrote wrote),
+        rw (take-append-add h.text out m) (Appends-trans old now after h.text (take m out) h.wrote wrote),
       )

@@ -13,8 +13,7 @@ use Rattle.snap_world.specs.declared.event.Event.TheVariants as event
 
 -- `world N S`, both from 1 to 16
 abbrev pub IsWorldLine : List ℕ → ℕ → ℕ → Type 0
-IsWorldLine line n s =
-    (a b : List ℕ) × (words_of line ≡ codes "world" ∷ a ∷ b ∷ []) × IsNumber a n × IsNumber b s
+IsWorldLine line n s = (a b : List ℕ) × (words_of line ≡ codes "world" ∷ a ∷ b ∷ []) × IsNumber a n × IsNumber b s
     × (1 ≤ n) × (n ≤ MAX_COUNT) × (1 ≤ s) × (s ≤ MAX_COUNT)
 
 -- the word by which an event's line begins
@@ -54,25 +53,21 @@ TakesNumber v = ⊥
 
 -- the words after the verb, and the event that they make with it
 abbrev pub HasForm : Verb → List (List ℕ) → Event → Type 0
-HasForm verb.Begin words e =
-    (w hex : List ℕ) × (i : ℕ) × (value : Vec ℕ Global)
+HasForm verb.Begin words e = (w hex : List ℕ) × (i : ℕ) × (value : Vec ℕ Global)
     × (e ≡ event.Begin i value) × (words ≡ w ∷ hex ∷ []) × IsNumber w i × IsHex hex value.items
 HasForm verb.Look words e =
     (word : List ℕ) × (who : Actor) × (e ≡ event.Look who) × (words ≡ word ∷ []) × IsActor word who
 HasForm verb.Call words e = (i : ℕ) × (e ≡ event.Call i) × IsOneNumber words i
-HasForm verb.Fail words e =
-    (w f : List ℕ) × (i : ℕ) × (fill : Fill)
+HasForm verb.Fail words e = (w f : List ℕ) × (i : ℕ) × (fill : Fill)
     × (e ≡ event.Fail i fill) × (words ≡ w ∷ f ∷ []) × IsNumber w i × IsFill f fill
 HasForm verb.Show words e = (i : ℕ) × (e ≡ event.Show i) × IsOneNumber words i
 HasForm verb.Acknowledge words e = (i : ℕ) × (e ≡ event.Acknowledge i) × IsOneNumber words i
 HasForm verb.Scan words e = (i : ℕ) × (e ≡ event.Scan i) × IsOneNumber words i
-HasForm verb.Pick words e =
-    (s mask : List ℕ) × (i : ℕ) × (set : SegmentSet)
+HasForm verb.Pick words e = (s mask : List ℕ) × (i : ℕ) × (set : SegmentSet)
     × (e ≡ event.Pick i set) × (words ≡ s ∷ mask ∷ []) × IsNumber s i × IsMask mask set
 HasForm verb.Answer words e = (i : ℕ) × (e ≡ event.Answer i) × IsOneNumber words i
 -- each word is the fill at its index
-HasForm verb.Crash words e =
-    (fills : Vec Fill Global) × (e ≡ event.Crash fills)
+HasForm verb.Crash words e = (fills : Vec Fill Global) × (e ≡ event.Crash fills)
     × (1 ≤ length words) × AllZip IsFill words fills.items
 HasForm verb.Restart words e = (e ≡ event.Restart) × (words ≡ [])
 HasForm verb.RestartCall words e = (e ≡ event.RestartCall) × (words ≡ [])
@@ -82,5 +77,4 @@ HasForm verb.Serve words e = (e ≡ event.Serve) × (words ≡ [])
 
 -- a line whose words are those of the event
 abbrev pub IsEventLine : List ℕ → Event → Type 0
-IsEventLine line e =
-    (v : Verb) × (words : List (List ℕ)) × (words_of line ≡ name_of v ∷ words) × HasForm v words e
+IsEventLine line e = (v : Verb) × (words : List (List ℕ)) × (words_of line ≡ name_of v ∷ words) × HasForm v words e

@@ -53,8 +53,7 @@ Prints old new lines = (text : List ℕ) × MayPrint lines text × Appends old n
 
 -- or by a beginning of that
 abbrev pub PrintsPart : Option (List ℕ) → Option (List ℕ) → List (List ℕ) → Type 0
-PrintsPart old new lines =
-    (text : List ℕ) × MayPrint lines text × (m : ℕ) × Appends old new (take m text)
+PrintsPart old new lines = (text : List ℕ) × MayPrint lines text × (m : ℕ) × Appends old new (take m text)
 
 -- a line has no LF
 abbrev pub IsPlain : List ℕ → Type 0

@@ -41,5 +41,4 @@ IsFill word (At offset bytes) =
 
 -- four hexadecimal digits, which write the bits of the set
 abbrev pub IsMask : List ℕ → SegmentSet → Type 0
-IsMask word set =
-    (high low : ℕ) × (decode_of word ≡ Ok (high ∷ low ∷ [])) × (set.bits ≡ high * 256 + low)
+IsMask word set = (high low : ℕ) × (decode_of word ≡ Ok (high ∷ low ∷ [])) × (set.bits ≡ high * 256 + low)

@@ -46,8 +46,7 @@ pub fn play<X: Wait, R: Read, W: Write, E: Write>(
     errors: &mut E,
 ) -> Exit
     ensures { (end : ScriptEnd) × (result.status ≡ status_of end)
-        × Runs (R.remaining reader.old) (R.remaining reader.new)
-        (W.contents writer.old) (W.contents writer.new) end }
+        × Runs (R.remaining reader.old) (R.remaining reader.new) (W.contents writer.old) (W.contents writer.new) end }
 {
     script(rt, alloc, reader, writer).report(alloc, errors)
 }

@@ -48,8 +48,7 @@ impl Interpreter {
 
     /// Runs a line that isn't empty.
     pub(crate) fn line(&mut self, line: &[u8]) -> Result<(), InterpreterFault>
-        ensures ok { OnOk result ((lines : List (List ℕ)) (text : List ℕ)
-            → Played lines text self.old.world
+        ensures ok { OnOk result ((lines : List (List ℕ)) (text : List ℕ) → Played lines text self.old.world
             → Played (lines ++ line.now ∷ []) (text ++ self.new.text.items) self.new.world) }
         ensures err { IfErr result (λ halt. HaltsAt self.old.world line.now halt) }
     {
@@ -87,8 +86,7 @@ fn play_event(
     out: &mut Vec<u8>,
 ) -> Result<(), InterpreterFault>
     requires { out.old.items ≡ [] }
-    ensures ok { OnOk result ((lines : List (List ℕ)) (text : List ℕ)
-        → Played lines text (Some world.old)
+    ensures ok { OnOk result ((lines : List (List ℕ)) (text : List ℕ) → Played lines text (Some world.old)
         → Played (lines ++ line.now ∷ []) (text ++ out.new.items) (Some world.new)) }
     ensures err { IfErr result (λ halt. HaltsAt (Some world.old) line.now halt) }
 {

@@ -76,13 +76,10 @@ impl LineBuffer {
     /// Does the buffered line, and empties the buffer. An empty line is only counted.
     fn do_line<W: Write>(&mut self, writer: &mut W) -> Result<(), ScriptEnd>
         ensures empty { OnOk result (self.new.line.items ≡ []) }
-        ensures ok { OnOk result ((done : List (List ℕ)) (old : Option (List ℕ))
-            → IsLine self.old.line.items
+        ensures ok { OnOk result ((done : List (List ℕ)) (old : Option (List ℕ)) → IsLine self.old.line.items
             → HasDone done old (W.contents writer.old) self.old.interpreter.world
-            → HasDone (done ++ self.old.line.items ∷ []) old (W.contents writer.new)
-            self.new.interpreter.world) }
-        ensures err { IfErr result (λ end. (done : List (List ℕ)) (old : Option (List ℕ))
-            → IsLine self.old.line.items
+            → HasDone (done ++ self.old.line.items ∷ []) old (W.contents writer.new) self.new.interpreter.world) }
+        ensures err { IfErr result (λ end. (done : List (List ℕ)) (old : Option (List ℕ)) → IsLine self.old.line.items
             → HasDone done old (W.contents writer.old) self.old.interpreter.world
             → Halts done self.old.line.items old (W.contents writer.new) end) }
     {
@@ -106,8 +103,7 @@ impl LineBuffer {
     /// Does the last line, which no LF ends: the reader has no more bytes.
     pub(crate) fn finish<W: Write>(&mut self, writer: &mut W) -> ScriptEnd
         ensures { (taken : List ℕ) (left old : Option (List ℕ)) → IsAtEnd left
-            → HasTaken taken old (W.contents writer.old) self.old
-            → Ends taken left old (W.contents writer.new) result }
+            → HasTaken taken old (W.contents writer.old) self.old → Ends taken left old (W.contents writer.new) result }
     {
         match self.do_line(writer) {
             Ok(()) => ScriptEnd::Done,

@@ -107,10 +107,8 @@ fn one_byte(word: &[u8]) -> Option<u8>
 
 /// The fill of `OFFSET:HEX`.
 fn fill_at(alloc: Global, text: &[u8]) -> Result<Option<Fill>, AllocError>
-    ensures { IfOk result (λ found. MatchOption found
-        ((o h bs : List ℕ) (p : ℕ) → parts_at 58 text.now ≡ o ∷ h ∷ []
-        → IsNumber o p → IsHex h bs → ⊥)
-        (λ f. (o h : List ℕ) × (parts_at 58 text.now ≡ o ∷ h ∷ []) × IsFillAt o h f)) }
+    ensures { IfOk result (λ found. MatchOption found ((o h bs : List ℕ) (p : ℕ) → parts_at 58 text.now ≡ o ∷ h ∷ []
+        → IsNumber o p → IsHex h bs → ⊥) (λ f. (o h : List ℕ) × (parts_at 58 text.now ≡ o ∷ h ∷ []) × IsFillAt o h f)) }
 {
     let Some((offset, digits)) = two_parts(text, b':') else {
         return Ok(None);

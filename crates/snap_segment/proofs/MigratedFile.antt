@@ -4,10 +4,8 @@ use Rattle.snap_slot.{specs.Findings.value_in, specs.Old.old_slot_of, specs.OldF
 use Rattle.snap_slot.{specs.declared.old_recovery.OldFound.OldFound, proofs.OldSame.old_holds_same}
 use Rattle.snap_segment.specs.Migration.{OfHeld}
 
-pub of_held : {i n : ℕ} {b file value : List ℕ} {found : OldFound} (P : ℕ → List ℕ → Type 0)
-    → IsOldFound i n file found → file ≡ b
-    → value ≡ value_in file (old_slot_of found.number) found.length → P found.number value
-    → OfHeld b P
+pub of_held : {i n : ℕ} {b file value : List ℕ} {found : OldFound} (P : ℕ → List ℕ → Type 0) → IsOldFound i n file found
+    → file ≡ b → value ≡ value_in file (old_slot_of found.number) found.length → P found.number value → OfHeld b P
 of_held {i} {n} {b} {file} {value} {found} P is given copied here k v holds =
     let same = old_holds_same file found.number k
     (value_in file (old_slot_of found.number) found.length) v is.held.holds (rw given holds) in

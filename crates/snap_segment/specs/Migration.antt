@@ -8,10 +8,8 @@ use Rattle.snap_segment.specs.{declared.migration.Which.Which, Open.CountsFailed
 -- only the failure count of the device that failed grows, by one; the counts are of the old file
 -- before and after, then of the new file before and after
 abbrev pub CountsFault : Which → Refusal → (before after new_before new_after : ℕ) → Type 0
-CountsFault Old why before after new_before new_after =
-    CountsFailed why before after × (new_after ≡ new_before)
-CountsFault New why before after new_before new_after =
-    (after ≡ before) × CountsFailed why new_before new_after
+CountsFault Old why before after new_before new_after = CountsFailed why before after × (new_after ≡ new_before)
+CountsFault New why before after new_before new_after = (after ≡ before) × CountsFailed why new_before new_after
 
 -- the old file was read: the refusal came from making the new one
 abbrev pub IsPast : Which → Refusal → Type 0

@@ -14,8 +14,7 @@ pub(crate) fn read_all<D: Disk>(device: &mut D, file: &mut [u8]) -> Result<(), D
     ensures calls { CountsCalls result 2 (D.clock device.old) (D.clock device.new) }
     ensures honest { D.is_honest device.new → D.is_honest device.old }
     ensures kept { D.is_honest device.new → LeavesAsBefore D.Disk device.old device.new }
-    ensures settled { D.is_honest device.new
-        → OnOk result (IsSettled (D.device device.new)
+    ensures settled { D.is_honest device.new → OnOk result (IsSettled (D.device device.new)
         × ((D.device device.new).bytes ≡ (D.device device.old).bytes)) }
     ensures given { D.is_honest device.new → OnOk result (file.new ≡ (D.device device.old).bytes) }
 {

@@ -83,8 +83,7 @@ fn is_unformatted<D: Disk>(device: &mut D) -> Result<bool, DeviceFault>
     ensures honest { D.is_honest device.new → D.is_honest device.old }
     ensures kept { D.is_honest device.new → LeavesAsBefore D.Disk device.old device.new }
     ensures settled { D.is_honest device.new → OnOk result (IsSynced (D.device device.old) (D.device device.new)) }
-    ensures unformatted { D.is_honest device.new
-        → IfOk result (λ unformatted. IsTrue unformatted
+    ensures unformatted { D.is_honest device.new → IfOk result (λ unformatted. IsTrue unformatted
         ↔ IsUnformatted (D.device device.old).bytes) }
 {
     device.sync()?;
@@ -112,8 +111,7 @@ fn write_front<D: Disk>(
     ensures calls { CountsCalls result 3 (D.clock device.old) (D.clock device.new) }
     ensures honest { D.is_honest device.new → D.is_honest device.old }
     ensures leaves { D.is_honest device.new → IsSettled (D.device device.old)
-        → IsUnformatted (D.device device.old).bytes
-        → Leaves D.Disk device.old device.new IsUnformatted }
+        → IsUnformatted (D.device device.old).bytes → Leaves D.Disk device.old device.new IsUnformatted }
     ensures prepared { D.is_honest device.new
         → OnOk result (IsPrepared index count number value.now (D.device device.new)) }
 {

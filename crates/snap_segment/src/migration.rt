@@ -51,8 +51,7 @@ pub fn migrate<O: Disk, N: Disk>(
     // A failure count grows by one exactly if that device failed.
     ensures count_ok { IfOk result (λ _. (O.failure_count old.new ≡ O.failure_count old.old)
         × (N.failure_count new.new ≡ N.failure_count new.old)) }
-    ensures count_err { IfErr result (λ e. CountsFault e.0 e.1
-        (O.failure_count old.old) (O.failure_count old.new)
+    ensures count_err { IfErr result (λ e. CountsFault e.0 e.1 (O.failure_count old.old) (O.failure_count old.new)
         (N.failure_count new.old) (N.failure_count new.new)) }
     ensures size_old { length (O.device old.new).bytes ≡ length (O.device old.old).bytes }
     ensures size_new { length (N.device new.new).bytes ≡ length (N.device new.old).bytes }
@@ -68,17 +67,14 @@ pub fn migrate<O: Disk, N: Disk>(
     ensures wrong_old_length { length (O.device old.old).bytes ≢ OLD_FILE_LEN
         → IsErrOf result (Which.Old, Refusal.WrongFile) × (old.new ≡ old.old) }
     ensures wrong_new_length { IsErrOf result (Which.New, Refusal.WrongFile)
-        ↔ ((length (O.device old.old).bytes ≡ OLD_FILE_LEN)
-        × (length (N.device new.old).bytes ≢ FILE_LEN)) }
+        ↔ ((length (O.device old.old).bytes ≡ OLD_FILE_LEN) × (length (N.device new.old).bytes ≢ FILE_LEN)) }
     ensures wrong_new_same { IsErrOf result (Which.New, Refusal.WrongFile) → (old.new ≡ old.old) × (new.new ≡ new.old) }
     ensures new_untouched { IfErr result (λ e. e.0 ≡ Which.Old → new.new ≡ new.old) }
     ensures old_refused { IfErr result (λ e. O.is_honest old.new → e.0 ≡ Which.Old
         → IsNoOldOpening index count (O.device old.old).bytes e.1) }
-    ensures old_read { O.is_honest old.new → IsRead result
-        → OldHead (O.device old.old).bytes index count
+    ensures old_read { O.is_honest old.new → IsRead result → OldHead (O.device old.old).bytes index count
         × ((k : ℕ) × (v : List ℕ) × OldHolds (O.device old.old).bytes k v) }
-    ensures taken { N.is_honest new.new
-        → IsErrOf result (Which.New, Refusal.AlreadyFormatted)
+    ensures taken { N.is_honest new.new → IsErrOf result (Which.New, Refusal.AlreadyFormatted)
         → IsFormatted (N.device new.old).bytes × IsSynced (N.device new.old) (N.device new.new) }
     ensures unformatted { N.is_honest new.new → OnOk result (IsUnformatted (N.device new.old).bytes) }
 
@@ -87,8 +83,7 @@ pub fn migrate<O: Disk, N: Disk>(
     ensures old_kept { O.is_honest old.new → LeavesOnly O.Disk old.old old.new (MayLeave (O.device old.old)) }
     ensures old_kept_now { O.is_honest old.new → (b : List ℕ)
         → MayLeave (O.device old.new) b → MayLeave (O.device old.old) b }
-    ensures old_same { O.is_honest old.new
-        → (IsErrOf result (Which.Old, Refusal.DeviceFailed) → ⊥)
+    ensures old_same { O.is_honest old.new → (IsErrOf result (Which.Old, Refusal.DeviceFailed) → ⊥)
         → (O.device old.new).bytes ≡ (O.device old.old).bytes }
 
     // Of a new file that was formatted already a crash leaves only what it could have left before.
@@ -111,8 +106,7 @@ pub fn migrate<O: Disk, N: Disk>(
         × IsAtRest index count k v false (N.device new.new))) }
 
     // After Ok these are all bytes of the new file.
-    ensures bytes { O.is_honest old.new → N.is_honest new.new
-        → OfHeld (O.device old.old).bytes
+    ensures bytes { O.is_honest old.new → N.is_honest new.new → OfHeld (O.device old.old).bytes
         (λ k v. OnOk result ((N.device new.new).bytes ≡ new_file index count k v)) }
 {
     if old.len() != OLD_FILE_LEN {

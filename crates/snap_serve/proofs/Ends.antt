@@ -12,15 +12,12 @@ pub ends_opened : {D L : Type 0} (disk : Disk.Ghosts D) (devices : List D) (site
     (connections : Option ℕ) (r : Report) (o n : Option (List ℕ)) (end : End)
     → IsReportOf disk devices r → EndsServing site connections r o n end
     → EndsHost disk devices site connections o n end
-ends_opened disk devices site connections r o n (Err (Refused segment why len)) is ends =
-    absurd ends
+ends_opened disk devices site connections r o n (Err (Refused segment why len)) is ends = absurd ends
 ends_opened disk devices site connections r o n end is ends = (r, is, ends)
 
-pub reported : {D : Type 0} (disk : Disk.Ghosts D) (devices : List D)
-    (writers : List (WriterState D)) (r : Report)
+pub reported : {D : Type 0} (disk : Disk.Ghosts D) (devices : List D) (writers : List (WriterState D)) (r : Report)
     → Pairs (IsOpened disk (length devices)) devices (map (λ w. w.segment) writers)
-    → r.segments.items ≡ map (λ w. recovered w.segment) writers
-    → AreOpened disk devices writers
+    → r.segments.items ≡ map (λ w. recovered w.segment) writers → AreOpened disk devices writers
     → IsReportOf disk devices r
 reported disk devices writers r opened says crash = record {
   segments = map (λ w. w.segment) writers;

@@ -8,10 +8,8 @@ use Rattle.snap_serve.specs.{declared.fault.HostFault.TheVariants.Refused, Serve
 pub remedied : {F : Type 0} (path : F → List ℕ) (files : List F) (segment : ℕ) (why : Refusal)
     (len : ℕ) (more : Option (String Global)) (told : Bool) (old new : Option (List ℕ))
     → IfSome more (λ m. IsRemedy path files segment why (string_bytes m))
-    → ((line : List ℕ) → IfSome more (λ m. string_bytes m ≡ line)
-    → SaysLines (refused_line why ++ line) told old new)
-    → (IsNone more → told ≡ false)
-    → SaysFailure path files (Refused segment why len) told old new
+    → ((line : List ℕ) → IfSome more (λ m. string_bytes m ≡ line) → SaysLines (refused_line why ++ line) told old new)
+    → (IsNone more → told ≡ false) → SaysFailure path files (Refused segment why len) told old new
 remedied path files segment why len (Some m) told old new is says none =
     (string_bytes m, says (string_bytes m) refl, λ yes. is)
 remedied path files segment why len None told old new is says none =

@@ -71,8 +71,7 @@ module _ {L : Type 0} (site : Site L) (connections : Option ℕ) (r : Report) (o
 module _ {L : Type 0} (site : Site L) (l : L) (line : List ℕ) (r : Report) (o m n : Option (List ℕ))
     (came : Appends o m (report_text r)) (named : IsNamed site l line) where
   opened : Appends m n line → Appends o n (opening_text r named.0)
-  opened said =
-      Appends-trans o m n (report_text r) (listening_text named.0) came (rw named.2 at said)
+  opened said = Appends-trans o m n (report_text r) (listening_text named.0) came (rw named.2 at said)
 
   pub listening : Appends m n line → IsListening site l r o n
   listening said = record { places = named.0; is_there = named.1; text = opened said }
@@ -91,8 +90,7 @@ module _ {W L : Type 0} (contents : W → Option (List ℕ)) (site : Site L) (co
     text = text;
   }
 
-  pub ended_early : (why : RunFault)
-      → Announced (λ x y. Appends (contents x) (contents y) line)
+  pub ended_early : (why : RunFault) → Announced (λ x y. Appends (contents x) (contents y) line)
       (λ x y. AppendsBeginning (contents x) (contents y) line) old (Err why) new
       → (why ≡ run.Server faults.AcceptFailed → site.may_fail l)
       → EndsServing site connections r o (contents new) (Err (failure_of why))
@@ -103,10 +101,8 @@ module _ {W L : Type 0} (contents : W → Option (List ℕ)) (site : Site L) (co
     inl (beginning_behind o (contents old) (contents new) (report_text r) (listening_text named.0)
         came (rw named.2 at has)),
   )
-  ended_early (run.Server faults.NoMemory) has is_deaf =
-      inr (inr (l, named.0, named.1, inl (rw has at came)))
+  ended_early (run.Server faults.NoMemory) has is_deaf = inr (inr (l, named.0, named.1, inl (rw has at came)))
   ended_early (run.Server faults.NoPoll) has is_deaf = failed faults.NoPoll is_deaf (rw has at came)
-  ended_early (run.Server faults.NoThread) has is_deaf =
-      failed faults.NoThread is_deaf (rw has at came)
+  ended_early (run.Server faults.NoThread) has is_deaf = failed faults.NoThread is_deaf (rw has at came)
   ended_early (run.Server fault) has is_deaf =
       failed fault is_deaf (opened site l line r o (contents old) (contents new) came named has)

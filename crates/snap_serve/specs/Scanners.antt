@@ -8,8 +8,7 @@ use Rattle.snap_disk.specs.declared.disk.Disk as Disk
 
 -- these are scanners of these registers
 abbrev pub AreScanners : RegistersId → Plan → List Known → Type 0
-AreScanners table plan scanners = (k : ℕ) (b : Known) → slice_get scanners k ≡ Some b
-    → IsOf table plan b
+AreScanners table plan scanners = (k : ℕ) (b : Known) → slice_get scanners k ≡ Some b → IsOf table plan b
 
 -- a listener's connections may be answered from the memory of these scanners
 abbrev pub MayServe : (may_serve : ℕ → Type 0) → List Known → Type 0

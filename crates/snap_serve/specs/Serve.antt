@@ -72,8 +72,7 @@ pub record IsReportOf {D : Type 0} (disk : Disk.Ghosts D) (devices : List D) (re
   pub crash : AreOpened disk devices writers
 
 -- this is the length of this segment's device, if there is one
-abbrev pub IsLengthAt : {D : Type 0} (disk : Disk.Ghosts D) (devices : List D) (segment len : ℕ)
-    → Type 0
+abbrev pub IsLengthAt : {D : Type 0} (disk : Disk.Ghosts D) (devices : List D) (segment len : ℕ) → Type 0
 IsLengthAt {D} disk devices segment len = (d : D) → slice_get devices segment ≡ Some d
     → len ≡ length (disk.device d).bytes
 
@@ -99,8 +98,7 @@ abbrev pub ListensAt : {L : Type 0} (bound : L → Type 0) (is_at : L → List E
 ListensAt bound is_at l places = bound l × is_at l places
 
 -- k connections were accepted from this listener, one after another
-abbrev pub HaveCome : {L : Type 0} → (accepts : L → Result Accepted AcceptFault → L → Type 0) → L
-    → ℕ → Type 0
+abbrev pub HaveCome : {L : Type 0} → (accepts : L → Result Accepted AcceptFault → L → Type 0) → L → ℕ → Type 0
 HaveCome {L} accepts l k = (last : L) × GivesSoMany accepts k l last
 
 -- The site of a server: what is known of the listener that it may get.
@@ -130,11 +128,9 @@ site_at bind locate listen binder addresses = record {
 -- one that was asked for and was accepted from it.
 abbrev pub IsCutShort : {L : Type 0} (site : Site L) (connections : Option ℕ) → Report
     → (out out' : Option (List ℕ)) → Type 0
-IsCutShort {L} site connections report out out' =
-    AppendsBeginning out out' (report_text report)
+IsCutShort {L} site connections report out out' = AppendsBeginning out out' (report_text report)
     ⊎ ((l : L) × (places : List Endpoint) × site.listens_at l places
-    × (AppendsBeginning out out' (opening_text report places)
-    ⊎ ((k : ℕ) × (connections ≡ Some k) × site.gave l k
+    × (AppendsBeginning out out' (opening_text report places) ⊎ ((k : ℕ) × (connections ≡ Some k) × site.gave l k
     × AppendsBeginning out out' (whole_text report places k))))
 
 -- memory ran out before there was a listener
@@ -142,10 +138,8 @@ abbrev pub IsWithoutMemory : {L : Type 0} (site : Site L) → Type 0
 IsWithoutMemory site = (unbound : ListenFault) × (unbound.why ≡ fault_of_bind.NoMemory) × site.refuses unbound
 
 -- if memory runs out no line is truncated, and the last one isn't printed
-abbrev pub IsStarved : {L : Type 0} (site : Site L) → Report → (out out' : Option (List ℕ))
-    → Type 0
-IsStarved {L} site report out out' = Keeps out out'
-    ⊎ ((IsWithoutMemory site × Appends out out' (report_text report))
+abbrev pub IsStarved : {L : Type 0} (site : Site L) → Report → (out out' : Option (List ℕ)) → Type 0
+IsStarved {L} site report out out' = Keeps out out' ⊎ ((IsWithoutMemory site × Appends out out' (report_text report))
     ⊎ ((l : L) × (places : List Endpoint) × site.listens_at l places
     × (Appends out out' (report_text report) ⊎ Appends out out' (opening_text report places))))
 
@@ -190,24 +184,20 @@ pub record HasFailed {L : Type 0} (site : Site L) (report : Report) (out out' : 
 -- after.
 abbrev pub EndsServing : {L : Type 0} (site : Site L) (connections : Option ℕ) → Report
     → (out out' : Option (List ℕ)) → End → Type 0
-EndsServing site connections report out out' (Ok k) =
-    HasServed site connections report out out' k
+EndsServing site connections report out out' (Ok k) = HasServed site connections report out out' k
 EndsServing site connections report out out' (Err (Refused segment why len)) = ⊥
 EndsServing site connections report out out' (Err NoMemory) = IsStarved site report out out'
 EndsServing site connections report out out' (Err (Address unbound)) =
     site.refuses unbound × Appends out out' (report_text report)
-EndsServing site connections report out out' (Err (Output error)) =
-    IsCutShort site connections report out out'
-EndsServing site connections report out out' (Err (Server fault)) =
-    HasFailed site report out out' fault
+EndsServing site connections report out out' (Err (Output error)) = IsCutShort site connections report out out'
+EndsServing site connections report out out' (Err (Server fault)) = HasFailed site report out out' fault
 
 -- The whole server, with the opening of its devices, ended with this result.
 abbrev pub EndsHost : {D L : Type 0} (disk : Disk.Ghosts D) (devices : List D) (site : Site L)
     (connections : Option ℕ) (out out' : Option (List ℕ)) → End → Type 0
 EndsHost disk devices site connections out out' (Err (Refused segment why len)) =
     IsStopOf disk devices segment why len × Keeps out out'
-EndsHost disk devices site connections out out' end =
-    (report : Report) × IsReportOf disk devices report
+EndsHost disk devices site connections out out' end = (report : Report) × IsReportOf disk devices report
     × EndsServing site connections report out out' end
 
 -- ---- the steps
@@ -225,8 +215,7 @@ PrintFails out out' text failure = ⊥
 -- an address was not bound, or memory ran out for that or for the lines with the addresses
 abbrev pub ListenFails : {L : Type 0} (site : Site L) → HostFault → Type 0
 ListenFails site (Address unbound) = site.refuses unbound
-ListenFails {L} site NoMemory = IsWithoutMemory site
-    ⊎ ((l : L) × (places : List Endpoint) × site.listens_at l places)
+ListenFails {L} site NoMemory = IsWithoutMemory site ⊎ ((l : L) × (places : List Endpoint) × site.listens_at l places)
 ListenFails site failure = ⊥
 
 abbrev failure_by : BindFault → ListenFault → HostFault
@@ -246,8 +235,7 @@ failure_of (run.Server fault) = Server fault
 -- ---- standard error
 
 -- the text after the line of a refusal at this segment: a line that names the file, unless memory ran out
-abbrev pub IsRemedy : {F : Type 0} (path : F → List ℕ) (files : List F) (segment : ℕ) → Refusal
-    → List ℕ → Type 0
+abbrev pub IsRemedy : {F : Type 0} (path : F → List ℕ) (files : List F) (segment : ℕ) → Refusal → List ℕ → Type 0
 IsRemedy path files segment why more = (file : _) → slice_get files segment ≡ Some file
     → why ≢ refusal.NoMemory → NamesFile (path file) more
 
@@ -258,8 +246,7 @@ abbrev pub SaysFailure : {F : Type 0} (path : F → List ℕ) (files : List F) �
 SaysFailure path files (Refused segment why len) is_told old new =
     (more : List ℕ) × SaysLines (refused_line why ++ more) is_told old new
     × (is_told ≡ true → IsRemedy path files segment why more)
-SaysFailure path files NoMemory is_told old new =
-    SaysLines (refused_line refusal.NoMemory) is_told old new
+SaysFailure path files NoMemory is_told old new = SaysLines (refused_line refusal.NoMemory) is_told old new
 SaysFailure path files failure is_told old new = Complains None is_told old new
 
 -- the lines on standard error at the end: none if it didn't end early

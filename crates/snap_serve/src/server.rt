@@ -140,8 +140,7 @@ where
     requires note { N.IsAlwaysCallable environment.note.now }
     ensures ends { EndsHost D.Disk devices.items
         (site_at B.Bind B.Listener.LocalAddress B.Listener.Listen environment.entry.bind.now
-        (addresses_of order.now)) order.now.connections
-        (W.contents writer.old) (W.contents writer.new) result }
+        (addresses_of order.now)) order.now.connections (W.contents writer.old) (W.contents writer.new) result }
 {
     match open_all(
         alloc,
@@ -210,8 +209,7 @@ where
     requires memory { MayServe B.Listener.Listen.may_serve store.scanners.items }
     requires metrics { HasFigures environment.observer (length store.scanners.items) environment.metrics.now.workers }
     requires note { N.IsAlwaysCallable environment.note.now }
-    ensures ends { EndsServing
-        (site_at B.Bind B.Listener.LocalAddress B.Listener.Listen environment.entry.bind.now
+    ensures ends { EndsServing (site_at B.Bind B.Listener.LocalAddress B.Listener.Listen environment.entry.bind.now
         (addresses_of order.now)) order.now.connections report.now
         (W.contents writer.old) (W.contents writer.new) result }
 {
@@ -298,12 +296,9 @@ fn listen<B: Bind>(
 ) -> Result<(B::Listener, String), HostFault>
 where
     B::Listener: Drop,
-    ensures bound { IfOk result (λ made. IsNamed
-        (site_at B.Bind B.Listener.LocalAddress B.Listener.Listen bind.now
-        (map (λ a. a.now) addresses.now.items))
-        made.0 (string_bytes made.1)) }
-    ensures failed { IfErr result (ListenFails
-        (site_at B.Bind B.Listener.LocalAddress B.Listener.Listen bind.now
+    ensures bound { IfOk result (λ made. IsNamed (site_at B.Bind B.Listener.LocalAddress B.Listener.Listen bind.now
+        (map (λ a. a.now) addresses.now.items)) made.0 (string_bytes made.1)) }
+    ensures failed { IfErr result (ListenFails (site_at B.Bind B.Listener.LocalAddress B.Listener.Listen bind.now
         (map (λ a. a.now) addresses.now.items))) }
 {
     let listener = match bind.bind(alloc, addresses) {

@@ -1,17 +1,9 @@
 -- The calls of a listener, one after another.
-use Rattle.std.proofs.Common.{◌≡◌, ◌⊎◌, ℕ, zero, suc, nat_lt, if◌then◌else◌, Bool, true, false, List, [], ◌∷◌, length}
+use Rattle.std.proofs.Common.{◌≡◌, ◌⊎◌, ℕ, zero, suc, List, [], ◌∷◌, length}
 use Rattle.std.proofs.Common.{slice_get, ◌+◌, Some, Result, Ok, Err, IfOk, arith, inl, inr, refl, sym, subst}
 use Rattle.snap_server.specs.Deals.{AsksInVain, CallsInVain, Deals, Gives, GivesSoMany, IsDelivered, turn_after}
 use Rattle.snap_server.specs.Deals.{turn_of}
 use Rattle.snap_server.specs.declared.listen.{Accepted.Accepted, AcceptFault.AcceptFault}
-
-either : (b : Bool) (n : ℕ) → (if b then n else n) ≡ n
-either true n = refl
-either false n = refl
-
--- among any number of workers, the first turn is the first one's
-pub turn_first : (many : ℕ) → turn_of 0 many ≡ 0
-turn_first many = either (nat_lt 0 many) 0
 
 -- k connections were delivered and counted, and the next turn is known. `held` are the senders that the dispatcher then
 -- has.
@@ -28,14 +20,13 @@ one_more : (k : ℕ) → k + 1 ≡ suc k
 one_more = grind arith
 
 -- one more connection was accepted, and delivered to the sender whose turn it was
-pub dealt_more : {L H : Type 0} (accepts : L → Result Accepted AcceptFault → L → Type 0)
-    (refuses : L → Type 0) (takes : H → Accepted → Type 0) (busy : H → Type 0) (senders : List H) (k : ℕ) (a b c : L)
-    (held held' : List H) (next next' dealt dealt' : ℕ)
-    → HasDealt accepts refuses takes busy senders k a b held next dealt
+pub dealt_more : {L H : Type 0} (accepts : L → Result Accepted AcceptFault → L → Type 0) (refuses : L → Type 0)
+    (takes : H → Accepted → Type 0) (busy : H → Type 0) (senders : List H) (k : ℕ) (a b c : L) (held held' : List H)
+    (next next' dealt dealt' : ℕ) → HasDealt accepts refuses takes busy senders k a b held next dealt
     → (arrival : Accepted) × (sender : H) × Gives accepts b arrival c
     × (slice_get held (turn_of next (length held)) ≡ Some sender) × IsDelivered takes busy held sender arrival
-    → (refuses c → refuses b) → next' ≡ turn_of next (length held) + 1 → dealt' ≡ dealt + 1
-    → held' ≡ held → HasDealt accepts refuses takes busy senders (k + 1) a c held' next' dealt'
+    → (refuses c → refuses b) → next' ≡ turn_of next (length held) + 1 → dealt' ≡ dealt + 1 → held' ≡ held
+    → HasDealt accepts refuses takes busy senders (k + 1) a c held' next' dealt'
 dealt_more accepts refuses takes busy senders k a b c held held' next next' dealt dealt' before given
     is_same in_turn counted kept = rw (one_more k) record {
       deals = (
@@ -67,14 +58,12 @@ module _ {L : Type 0} (accepts : L → Result Accepted AcceptFault → L → Typ
       let more = calls_behind a b calls.0 earlier before calls.1 in
       (why ∷ more.0, (calls.0, more.1, calls.2))
 
-  pub vain_behind : (a b c : L) → AsksInVain accepts a b → AsksInVain accepts b c
-      → AsksInVain accepts a c
+  pub vain_behind : (a b c : L) → AsksInVain accepts a b → AsksInVain accepts b c → AsksInVain accepts a c
   vain_behind a b c before behind = calls_behind a b c behind.0 before behind.1
 
   pub gives_behind : (a b c : L) (arrival : Accepted) → AsksInVain accepts a b
       → Gives accepts b arrival c → Gives accepts a arrival c
-  gives_behind a b c arrival before gives =
-      (gives.0, vain_behind a b gives.0 before gives.1, gives.2)
+  gives_behind a b c arrival before gives = (gives.0, vain_behind a b gives.0 before gives.1, gives.2)
 
   -- the connections that were delivered were accepted
   pub deals_accepted : {H : Type 0} (takes : H → Accepted → Type 0) (busy : H → Type 0) (senders : List H) (k : ℕ)

@@ -17,12 +17,10 @@ use mathlib.Core.Logic.{∥∥₁_map}
 module _ {S : Type 0} (gives : S → Request → Reply → S → Type 0) where
   -- a poll of a session changes the service by answered requests
   pub moved : (t u : S) (a b : Talk) → IsTurn gives t u a b → Moves gives t u
-  moved t u a b turn =
-      let g = turn.goes in (g.payloads, g.replies ++ g.unsaid, g.run)
+  moved t u a b turn = grind arith
 
   -- other sessions' requests were answered
-  then_moves : (s t u : S) (talk : Talk) → IsSession gives s t talk → Moves gives t u
-      → IsSession gives s u talk
+  then_moves : (s t u : S) (talk : Talk) → IsSession gives s t talk → Moves gives t u → IsSession gives s u talk
   then_moves s t u talk one others =
       let o = one.goes in
       record {
@@ -31,8 +29,7 @@ module _ {S : Type 0} (gives : S → Request → Reply → S → Type 0) where
         read = one.read;
         writes = one.writes;
         goes = by_run (Moves gives) (Moves gives) gives s t u start one.taken one.given talk o
-            (run_then (Moves gives) (moves_joins gives) gives s t u o.payloads
-            (o.replies ++ o.unsaid) o.run others);
+            (run_then (Moves gives) (moves_joins gives) gives s t u o.payloads (o.replies ++ o.unsaid) o.run others);
       }
 
   -- there is no connection
@@ -53,17 +50,15 @@ module _ {S : Type 0} (gives : S → Request → Reply → S → Type 0) where
     first = are.first;
     moves = are.moves;
     each = λ key d at. elim (was key d at) [
-      | inl new_one ↦ subst (IsSession gives are.first t) (sym new_one)
-          (then_moves are.first are.first t start (shares gives are.first start None None)
-          are.moves)
+      | inl new_one ↦ subst (IsSession gives are.first t) (sym new_one) (then_moves are.first are.first t start
+          (shares gives are.first start None None) are.moves)
       | inr p ↦ subst (IsSession gives are.first t) (sym p.2) (are.each key p.0 p.1)
     ];
   }
 
   -- one connection was polled
-  pub turned_are : (t u : S) {key : ℕ} {old new : Slab Connection} {c d : Connection}
-      → IsStep key old new c d → IsTurn gives t u c.session d.session → AreSessions gives t old
-      → AreSessions gives u new
+  pub turned_are : (t u : S) {key : ℕ} {old new : Slab Connection} {c d : Connection} → IsStep key old new c d
+      → IsTurn gives t u c.session d.session → AreSessions gives t old → AreSessions gives u new
   turned_are t u {key} {old} {new} {c} {d} step turn are = record {
     first = are.first;
     moves = moves_joins gives are.first t u are.moves (moved t u c.session d.session turn);
@@ -86,37 +81,27 @@ module _ {S : Type 0} (gives : S → Request → Reply → S → Type 0) where
   -- one connection is removed
   pub removed_are : (t : S) (old new : Slab Connection) (key : ℕ) → Updates old new key None
       → AreSessions gives t old → AreSessions gives t new
-  removed_are t old new key gone are = still_are t old new are (λ k e found. elim (cases_eq k key) [
-    | inl here ↦ absurd (none_there new key gone.changed e (ap (get new) (sym here) ∙ found))
-    | inr other ↦ inr (e, sym (gone.others k other) ∙ found, refl)
-  ])
+  removed_are t old new key gone are = grind (arith, still_are, cases_eq, none_there)
 
   -- one connection is added
-  pub added_are : (t : S) (old new : Slab Connection) (key : ℕ) (d : Connection)
-      → Updates old new key (Some d) → d.session ≡ start → AreSessions gives t old
-      → AreSessions gives t new
-  added_are t old new key d came new_one are =
-      still_are t old new are (λ k e found. elim (cases_eq k key) [
-        | inl here ↦
-            let is = same_value new key d e came.changed (ap (get new) (sym here) ∙ found) in
-            inl (ap (λ (z : Connection). z.session) (sym is) ∙ new_one)
-        | inr other ↦ inr (e, sym (came.others k other) ∙ found, refl)
-      ])
+  pub added_are : (t : S) (old new : Slab Connection) (key : ℕ) (d : Connection) → Updates old new key (Some d)
+      → d.session ≡ start → AreSessions gives t old → AreSessions gives t new
+  added_are t old new key d came new_one are = still_are t old new are (λ k e found. elim (cases_eq k key) [
+    | inl here ↦
+        let is = same_value new key d e came.changed (ap (get new) (sym here) ∙ found) in
+        inl (ap (λ (z : Connection). z.session) (sym is) ∙ new_one)
+    | inr other ↦ inr (e, sym (came.others k other) ∙ found, refl)
+  ])
 
   -- the table has more capacity
-  pub same_are : (t : S) (old new : Slab Connection)
-      → new ≡ record old { capacity = new.capacity } → AreSessions gives t old
-      → AreSessions gives t new
-  same_are t old new same are = still_are t old new are (λ k e found.
-      inr (e, sym (ap (λ (s : Slab Connection). get s k) same) ∙ found, refl))
+  pub same_are : (t : S) (old new : Slab Connection) → new ≡ record old { capacity = new.capacity }
+      → AreSessions gives t old → AreSessions gives t new
+  same_are t old new same are = grind (arith, still_are)
 
 -- one of a worker's connections was polled, and its mark is unchanged: the invariants still hold
-pub still_holds : {S O : Type 0} {service : Ghosts S O} (self : Sessions S O service) (u : S)
-    {key : ℕ} {new : Slab Connection} {was is : Connection}
-    → IsStep key self.connections new was is
-    → IsTurn service.gives self.service u was.session is.session
-    → (is.stage ≡ Listed ↔ was.stage ≡ Listed)
-    → record {
+pub still_holds : {S O : Type 0} {service : Ghosts S O} (self : Sessions S O service) (u : S) {key : ℕ}
+    {new : Slab Connection} {was is : Connection} → IsStep key self.connections new was is
+    → IsTurn service.gives self.service u was.session is.session → (is.stage ≡ Listed ↔ was.stage ≡ Listed) → record {
       are : ∥ AreSessions service.gives u new ∥₁;
       lists : ∥ Lists self.listed.items new ∥₁;
       room : slab_len new ≤ deque_capacity self.listed;

@@ -38,32 +38,20 @@ written old key was is at =
     let filled : IsSome (get_or old.slots key None) = ap is_some at in
     let updates = Updates-with_value old key is filled in
     let within : key < length old.slots = grind (arith, get_or_past) in
-    let one : ◌≡◌ {A = ℕ} (cond (is_some (get_or old.slots key None)) 1 0) 1 =
-    ap (λ b. cond {A = ℕ} b 1 0) filled in
+    let one : ◌≡◌ {A = ℕ} (cond (is_some (get_or old.slots key None)) 1 0) 1 = ap (λ b. cond {A = ℕ} b 1 0) filled in
     record {
       before = at;
       behind = updates.changed;
       others = updates.others;
-      count = omega (
-        arith,
-        one,
-        sum_by-set (λ o. cond (is_some o) 1 0) old.slots key (Some is) None within,
-      );
+      count = omega (arith, one, sum_by-set (λ o. cond (is_some o) 1 0) old.slots key (Some is) None within);
     }
 
 -- the connection was also appended to the list
-pub then_listed : {key : ℕ} {old mid : Slab Connection} {was is : Connection}
-    → IsStep key old mid was is → (new : Slab Connection) → enlisted is.stage ≡ Listed
-    → ((c : Connection) → get mid key ≡ Some c
-    → get new key ≡ Some (record c { stage = enlisted c.stage }))
-    → KeepsOthers key mid new → slab_len new ≡ slab_len mid
-    → IsStep key old new was (record is { stage = Listed })
-then_listed {is = is} step new on listed others count = record {
-  before = step.before;
-  behind = listed is step.behind ∙ ap (λ s. Some (record is { stage = s })) on;
-  others = λ o apart. others o apart ∙ step.others o apart;
-  count = count ∙ step.count;
-}
+pub then_listed : {key : ℕ} {old mid : Slab Connection} {was is : Connection} → IsStep key old mid was is
+    → (new : Slab Connection) → enlisted is.stage ≡ Listed → ((c : Connection) → get mid key ≡ Some c
+    → get new key ≡ Some (record c { stage = enlisted c.stage })) → KeepsOthers key mid new
+    → slab_len new ≡ slab_len mid → IsStep key old new was (record is { stage = Listed })
+then_listed {is = is} step new on listed others count = grind arith
 
 -- the key had a connection
 pub somebody : {key : ℕ} {old new : Slab Connection} {was is : Connection}
@@ -73,19 +61,16 @@ somebody {key} {old} {new} {was} step none = none_there old key none was step.be
 -- A property of `was` is a property of any connection that is found at the key before, and likewise of `is` after.
 pub of_old : (P : Connection → Type 0) {key : ℕ} {old new : Slab Connection} {was is : Connection}
     → IsStep key old new was is → P was → (c : Connection) → get old key ≡ Some c → P c
-of_old P {key} {old} {new} {was} step known c at =
-    subst P (same_value old key was c step.before at) known
+of_old P {key} {old} {new} {was} step known c at = subst P (same_value old key was c step.before at) known
 
 pub of_new : (P : Connection → Type 0) {key : ℕ} {old new : Slab Connection} {was is : Connection}
     → IsStep key old new was is → P is → (d : Connection) → get new key ≡ Some d → P d
-of_new P {key} {old} {new} {was} {is} step known d at =
-    subst P (same_value new key is d step.behind at) known
+of_new P {key} {old} {new} {was} {is} step known d at = subst P (same_value new key is d step.behind at) known
 
 pub of_both : (P : Connection → Connection → Type 0) {key : ℕ} {old new : Slab Connection}
     {was is : Connection} → IsStep key old new was is → P was is → (c : Connection)
     → (d : Connection) → get old key ≡ Some c → get new key ≡ Some d → P c d
-of_both P {was = was} {is = is} step known c d at_c at_d =
-    of_new (P c) step (of_old (λ z. P z is) step known c at_c) d at_d
+of_both P {was = was} {is = is} step known c d at_c at_d = grind (arith, of_new, of_old)
 
 -- its mark hasn't changed
 pub same_stage : {a b : ConnectionState} → b ≡ a → b ≡ Listed ↔ a ≡ Listed

@@ -1,6 +1,6 @@
 -- The list of the connections to poll.
 use Rattle.std.proofs.Common.{◌≡◌, ◌≢◌, ◌↔◌, ◌⊎◌, ℕ, suc, ◌+◌, ◌<◌, ◌≤◌, List, [], ◌∷◌, ◌++◌, length, length-append}
-use Rattle.std.proofs.Common.{get_or, set, Option, Some, None, is_some, IsSome, cond, count_by, refl, sym, ◌∙◌, ap}
+use Rattle.std.proofs.Common.{get_or, set, Option, Some, None, is_some, IsSome, count_by, refl, sym, ◌∙◌, ap}
 use Rattle.std.proofs.Common.{subst, inl, inr, arith, AllPairs, Contains}
 use Rattle.std.proofs.lemmas.List.Elements.{Contains-get_or, Contains-append_left, Contains-push, Contains-push_cases}
 use Rattle.std.{specs.Coded.le_prop, proofs.lemmas.List.get_or-set_other, proofs.lemmas.List.Quantifiers.all_pairs_push}
@@ -21,22 +21,16 @@ head_once : (key : ℕ) (rest : List ℕ) → AllPairs Apart (key ∷ rest) → 
 head_once key rest once at = once 0 (suc at.0) key (omega arith) (omega (arith, at.1)) (sym at.2)
 
 tail_once : (key : ℕ) (rest : List ℕ) → AllPairs Apart (key ∷ rest) → AllPairs Apart rest
-tail_once key rest once i j d before within =
-    once (suc i) (suc j) d (omega (arith, before)) (omega (arith, within))
+tail_once key rest once i j d before within = once (suc i) (suc j) d (omega (arith, before)) (omega (arith, within))
 
 -- emptying a filled slot leaves one filled slot less
 emptied : {T : Type 0} (slots : List (Option T)) (key : ℕ) → IsSome (get_or slots key None)
     → count_by is_some (set slots key None) + 1 ≡ count_by is_some slots
-emptied slots key filled =
-    let within : key < length slots = grind (arith, get_or_past) in
-    let one : ◌≡◌ {A = ℕ} (cond (is_some (get_or slots key None)) 1 0) 1 =
-    ap (λ b. cond {A = ℕ} b 1 0) filled in
-    omega (arith, one, sum_by-set (λ o. cond (is_some o) 1 0) slots key None None within)
+emptied slots key filled = grind (arith, get_or_past, sum_by-set)
 
 -- there are at least as many filled slots as different keys of filled slots
 keys_fit : {T : Type 0} (keys : List ℕ) (slots : List (Option T)) → AllPairs Apart keys
-    → ((key : ℕ) → Contains keys key → IsSome (get_or slots key None))
-    → length keys ≤ count_by is_some slots
+    → ((key : ℕ) → Contains keys key → IsSome (get_or slots key None)) → length keys ≤ count_by is_some slots
 keys_fit [] slots once filled = omega arith
 keys_fit (k ∷ ks) slots once filled =
     let here = filled k (0, omega arith, refl) in
@@ -55,13 +49,8 @@ lists_fit keys connections lists =
 -- so there is capacity for one more connection that is marked as listed
 pub lists_room : (keys : List ℕ) (key : ℕ) (connections : Slab Connection) (room : ℕ)
     → slab_len connections ≤ room → ∥ Lists (keys ++ key ∷ []) connections ∥₁ → length keys < room
-lists_room keys key connections room few lists =
-    ∥∥₁_elim lists le_prop (λ more. omega (
-      arith,
-      few,
-      lists_fit (keys ++ key ∷ []) connections more,
-      length-append keys (key ∷ []),
-    ))
+lists_room keys key connections room few lists = ∥∥₁_elim lists le_prop (λ more.
+    omega (arith, few, lists_fit (keys ++ key ∷ []) connections more, length-append keys (key ∷ [])))
 
 -- a connection that isn't idle keeps its state
 pub enlisted_same : (s : ConnectionState) → (s ≡ Idle → ⊥) → enlisted s ≡ s
@@ -70,8 +59,7 @@ enlisted_same Listed off = refl
 enlisted_same Over off = refl
 
 -- a connection that isn't idle isn't put on the list
-pub behind_same : (s : ConnectionState) (key : ℕ) (keys : List ℕ) → (s ≡ Idle → ⊥)
-    → keys ≡ listed_behind s key keys
+pub behind_same : (s : ConnectionState) (key : ℕ) (keys : List ℕ) → (s ≡ Idle → ⊥) → keys ≡ listed_behind s key keys
 behind_same Idle key keys off = absurd (off refl)
 behind_same Listed key keys off = refl
 behind_same Over key keys off = refl
@@ -83,24 +71,14 @@ enlisted_going Listed off = refl
 enlisted_going Over off = absurd (off refl)
 
 -- no connection is on the list
-pub none_list : (connections : Slab Connection) → ((key : ℕ) → get connections key ≡ None)
-    → Lists [] connections
-none_list connections none = record {
-  once = λ i j d before within. absurd (omega (arith, within));
-  same = λ key. (
-    λ at. absurd (omega (arith, at.1)),
-    λ at. absurd (none_there connections key (none key) at.0 at.1),
-  );
-}
+pub none_list : (connections : Slab Connection) → ((key : ℕ) → get connections key ≡ None) → Lists [] connections
+none_list connections none = grind (arith, none_there)
 
 -- one connection has changed, and its mark is unchanged
 pub lists_kept : (keys : List ℕ) (old new : Slab Connection) (key : ℕ) → KeepsOthers key old new
-    → (IsListed old key → IsListed new key) → (IsListed new key → IsListed old key)
-    → Lists keys old → Lists keys new
-lists_kept keys old new key others on back lists = record {
-  once = lists.once;
-  same = λ k. (λ at. to k ((lists.same k).0 at), λ at. (lists.same k).1 (from k at));
-}
+    → (IsListed old key → IsListed new key) → (IsListed new key → IsListed old key) → Lists keys old → Lists keys new
+lists_kept keys old new key others on back lists =
+    record { once = lists.once; same = λ k. (λ at. to k ((lists.same k).0 at), λ at. (lists.same k).1 (from k at)) }
   where
     to : (k : ℕ) → IsListed old k → IsListed new k
     to k at = elim (cases_eq k key) [
@@ -119,16 +97,13 @@ pub lists_same : (keys : List ℕ) (old new : Slab Connection)
     → new ≡ record old { capacity = new.capacity } → Lists keys old → Lists keys new
 lists_same keys old new same lists = record {
   once = lists.once;
-  same = λ k. let is = ap (λ (s : Slab Connection). get s k) same in (
-    λ at. let p = (lists.same k).0 at in (p.0, is ∙ p.1, p.2),
-    λ at. (lists.same k).1 (at.0, sym is ∙ at.1, at.2),
-  );
+  same = λ k. let is = ap (λ (s : Slab Connection). get s k) same in
+      (λ at. let p = (lists.same k).0 at in (p.0, is ∙ p.1, p.2), λ at. (lists.same k).1 (at.0, sym is ∙ at.1, at.2));
 }
 
 -- an idle connection is put on the list
-pub lists_more : (keys : List ℕ) {key : ℕ} {old new : Slab Connection} {c d : Connection}
-    → IsStep key old new c d → c.stage ≡ Idle → d.stage ≡ Listed → Lists keys old
-    → Lists (keys ++ key ∷ []) new
+pub lists_more : (keys : List ℕ) {key : ℕ} {old new : Slab Connection} {c d : Connection} → IsStep key old new c d
+    → c.stage ≡ Idle → d.stage ≡ Listed → Lists keys old → Lists (keys ++ key ∷ []) new
 lists_more keys {key} {old} {new} {c} {d} step idle listed lists = record {
   once = all_pairs_push Apart keys key lists.once (λ k e within same.
       absent (subst (Contains keys) same (Contains-get_or keys k e within)));
@@ -158,19 +133,13 @@ lists_more keys {key} {old} {new} {c} {d} step idle listed lists = record {
 -- the first connection is taken off the list
 pub lists_rest : (rest : List ℕ) {key : ℕ} {old new : Slab Connection} {c d : Connection}
     → IsStep key old new c d → d.stage ≡ Idle → Lists (key ∷ rest) old → Lists rest new
-lists_rest rest {key} {old} {new} {d = d} step idle lists = record {
-  once = tail_once key rest lists.once;
-  same = λ k. (to k, from k);
-}
+lists_rest rest {key} {old} {new} {d = d} step idle lists =
+    record { once = tail_once key rest lists.once; same = λ k. (to k, from k) }
   where
     to : (k : ℕ) → Contains rest k → IsListed new k
     to k there =
-        let p = (lists.same k).0 (Contains-cons key k rest there) in (
-          p.0,
-          step.others k (λ same. head_once key rest lists.once (subst (Contains rest) same there))
-              ∙ p.1,
-          p.2,
-        )
+        let p = (lists.same k).0 (Contains-cons key k rest there) in
+        (p.0, step.others k (λ same. head_once key rest lists.once (subst (Contains rest) same there)) ∙ p.1, p.2)
 
     from : (k : ℕ) → IsListed new k → Contains rest k
     from k there = elim (cases_eq k key) [
@@ -185,45 +154,27 @@ lists_rest rest {key} {old} {new} {d = d} step idle lists = record {
     ]
 
 -- the connection of a key has changed, and its mark is unchanged
-pub lists_step : (keys : List ℕ) {key : ℕ} {old new : Slab Connection} {c d : Connection}
-    → IsStep key old new c d → (d.stage ≡ Listed ↔ c.stage ≡ Listed) → Lists keys old
-    → Lists keys new
-lists_step keys {key} {old} {new} {c} {d} step says lists =
-    lists_kept keys old new key step.others
-    (λ p. (
-      d,
-      step.behind,
-      says.1 (ap (λ (z : Connection). z.stage)
-          (same_value old key c p.0 step.before p.1) ∙ p.2),
-    ))
-    (λ p. (
-      c,
-      step.before,
-      says.0 (ap (λ (z : Connection). z.stage)
-          (same_value new key d p.0 step.behind p.1) ∙ p.2),
-    ))
+pub lists_step : (keys : List ℕ) {key : ℕ} {old new : Slab Connection} {c d : Connection} → IsStep key old new c d
+    → (d.stage ≡ Listed ↔ c.stage ≡ Listed) → Lists keys old → Lists keys new
+lists_step keys {key} {old} {new} {c} {d} step says lists = lists_kept keys old new key step.others
+    (λ p. (d, step.behind, says.1 (ap (λ (z : Connection). z.stage) (same_value old key c p.0 step.before p.1) ∙ p.2)))
+    (λ p. (c, step.before, says.0 (ap (λ (z : Connection). z.stage) (same_value new key d p.0 step.behind p.1) ∙ p.2)))
     lists
 
 -- a connection that isn't on the list is removed
-pub lists_removed : (keys : List ℕ) (old new : Slab Connection) (key : ℕ) (c : Connection)
-    → get old key ≡ Some c → c.stage ≢ Listed → Updates old new key None → Lists keys old
-    → Lists keys new
-lists_removed keys old new key c at off gone lists =
-    lists_kept keys old new key gone.others
+pub lists_removed : (keys : List ℕ) (old new : Slab Connection) (key : ℕ) (c : Connection) → get old key ≡ Some c
+    → c.stage ≢ Listed → Updates old new key None → Lists keys old → Lists keys new
+lists_removed keys old new key c at off gone lists = lists_kept keys old new key gone.others
     (λ p. absurd (off (ap (λ (z : Connection). z.stage) (same_value old key c p.0 at p.1) ∙ p.2)))
-    (λ p. absurd (none_there new key gone.changed p.0 p.1))
-    lists
+    (λ p. absurd (none_there new key gone.changed p.0 p.1)) lists
 
 -- a connection that isn't on the list is added
-pub lists_added : (keys : List ℕ) (old new : Slab Connection) (key : ℕ) (d : Connection)
-    → get old key ≡ None → d.stage ≡ Idle → Updates old new key (Some d) → Lists keys old
-    → Lists keys new
+pub lists_added : (keys : List ℕ) (old new : Slab Connection) (key : ℕ) (d : Connection) → get old key ≡ None
+    → d.stage ≡ Idle → Updates old new key (Some d) → Lists keys old → Lists keys new
 lists_added keys old new key d vacant idle came lists =
-    lists_kept keys old new key came.others
-    (λ p. absurd (none_there old key vacant p.0 p.1))
-    (λ p. absurd (not_both d.stage idle (ap (λ (z : Connection). z.stage)
-    (same_value new key d p.0 came.changed p.1) ∙ p.2)))
-    lists
+    lists_kept keys old new key came.others (λ p. absurd (none_there old key vacant p.0 p.1))
+    (λ p. absurd (not_both d.stage idle (ap (λ (z : Connection). z.stage) (same_value new key d p.0 came.changed p.1)
+    ∙ p.2))) lists
 
 -- the first key of the list has a connection
 pub none_first : (key : ℕ) (rest : List ℕ) (connections : Slab Connection)

@@ -17,8 +17,7 @@ turn_after many (suc k) = turn_of (turn_after many k + 1) many
 pub data IsDelivered {H : Type 0} (takes : H → Accepted → Type 0) (busy : H → Type 0) (senders : List H) (sender : H)
     (arrival : Accepted) : Type 0 where
   Taken : takes sender arrival → IsDelivered takes busy senders sender arrival
-  Passed : busy sender
-      → (last : H) × (slice_get senders (length senders - 1) ≡ Some last) × takes last arrival
+  Passed : busy sender → (last : H) × (slice_get senders (length senders - 1) ≡ Some last) × takes last arrival
       → IsDelivered takes busy senders sender arrival
 
 -- `accepts` has the possible results of a call of the listener, and the listener after it.
@@ -26,8 +25,7 @@ module _ {L : Type 0} (accepts : L → Result Accepted AcceptFault → L → Typ
   -- Each of these calls accepted no connection, for this reason. The latest is first in the list.
   abbrev pub CallsInVain : List AcceptFault → L → L → Type 0
   CallsInVain [] old new = new ≡ old
-  CallsInVain (why ∷ earlier) old new =
-      (mid : L) × CallsInVain earlier old mid × accepts mid (Err why) new
+  CallsInVain (why ∷ earlier) old new = (mid : L) × CallsInVain earlier old mid × accepts mid (Err why) new
 
   -- no call accepted a connection
   abbrev pub AsksInVain : L → L → Type 0
@@ -40,8 +38,7 @@ module _ {L : Type 0} (accepts : L → Result Accepted AcceptFault → L → Typ
   -- this many connections were accepted, one after another
   abbrev pub GivesSoMany : ℕ → L → L → Type 0
   GivesSoMany zero old new = new ≡ old
-  GivesSoMany (suc k) old new =
-      (mid : L) × (arrival : Accepted) × GivesSoMany k old mid × Gives mid arrival new
+  GivesSoMany (suc k) old new = (mid : L) × (arrival : Accepted) × GivesSoMany k old mid × Gives mid arrival new
 
   -- `GivesSoMany`, and each connection was delivered to the sender whose turn it was, or for that one to the last.
   abbrev pub Deals : {H : Type 0} (takes : H → Accepted → Type 0) (busy : H → Type 0) (senders : List H)

@@ -21,8 +21,7 @@ module _ {S : Type 0} (gives : S → Request → Reply → S → Type 0) where
   pub record AreSessions (t : S) (connections : Slab Connection) : Type 0 where
     pub first : S
     pub moves : Moves gives first t
-    pub each : (key : ℕ) → (c : Connection) → get connections key ≡ Some c
-        → IsSession first t c.session
+    pub each : (key : ℕ) → (c : Connection) → get connections key ≡ Some c → IsSession first t c.session
 
 -- the connections of a worker, as sessions on its service, are sessions on the inner service
 abbrev pub InnerLaw : {S T : Type 0} → (S → T) → (S → Request → Reply → S → Type 0)

@@ -7,8 +7,7 @@ use Rattle.snap_server.specs.declared.connection.{Connection.Connection, Connect
 
 -- the connection of this key is marked as listed
 abbrev pub IsListed : Slab Connection → ℕ → Type 0
-IsListed connections key =
-    (c : Connection) × (get connections key ≡ Some c) × (c.stage ≡ Listed)
+IsListed connections key = (c : Connection) × (get connections key ≡ Some c) × (c.stage ≡ Listed)
 
 -- the list has exactly the keys of the connections that are marked as listed, each once
 pub record Lists (keys : List ℕ) (connections : Slab Connection) : Type 0 where

@@ -28,7 +28,6 @@ pub record HadTurn {S : Type 0} (gives : S → Request → Reply → S → Type 
 abbrev pub HadItsTurn : {S : Type 0} (gives : S → Request → Reply → S → Type 0) (most : ℕ) → ConnectionState
     → S → S → Connection → Connection → Type 0
 HadItsTurn gives most Idle s t c d = d ≡ c
-HadItsTurn {S} gives most Listed s t c d =
-    (a : S) × (b : S) × Moves gives s a
+HadItsTurn {S} gives most Listed s t c d = (a : S) × (b : S) × Moves gives s a
     × HadRounds gives most d.stage (scene a c.session) (scene b d.session) × Moves gives b t
 HadItsTurn gives most Over s t c d = d ≡ c

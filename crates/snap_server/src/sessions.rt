@@ -128,8 +128,7 @@ impl<S: Service + Drop> Sessions<S> {
         ensures first { self.old.listed.items ≡ option_to_list result ++ self.new.listed.items }
         ensures idle { IfSome result (λ key. (c : Connection)
             → get self.new.connections key ≡ Some c → c.stage ≡ ConnectionState.Idle) }
-        ensures sessions { IfSome result (λ key. (c : Connection)
-            → get self.old.connections key ≡ Some c
+        ensures sessions { IfSome result (λ key. (c : Connection) → get self.old.connections key ≡ Some c
             → get self.new.connections key ≡ Some (record c { stage = ConnectionState.Idle })) }
         ensures others { IfSome result (λ key. KeepsOthers key self.old.connections self.new.connections) }
         ensures nobody { IfNone result (self.old.listed.items ≡ []) }
@@ -159,8 +158,7 @@ impl<S: Service + Drop> Sessions<S> {
             → c.session.asked ≡ None → OnSome d.session.asked (S.hands_over_under key) }
         ensures rounds { (c : Connection) → (d : Connection)
             → get self.old.connections key ≡ Some c → get self.new.connections key ≡ Some d
-            → HadRounds S.gives PIECE d.stage
-            (scene self.old.service c.session) (scene self.new.service d.session) }
+            → HadRounds S.gives PIECE d.stage (scene self.old.service c.session) (scene self.new.service d.session) }
         ensures behind { (d : Connection) → get self.new.connections key ≡ Some d
             → self.new.listed.items ≡ again_behind d.stage key self.old.listed.items }
         ensures kept { (c : Connection) → get self.old.connections key ≡ Some c
@@ -188,11 +186,9 @@ impl<S: Service + Drop> Sessions<S> {
         ensures ended { IfSome result (λ ended. (c : Connection)
             × (get self.new.connections key ≡ Some c) × HasEnded c ended) }
         ensures session { (c : Connection) → (d : Connection)
-            → get self.old.connections key ≡ Some c → get self.new.connections key ≡ Some d
-            → d.session ≡ c.session }
+            → get self.old.connections key ≡ Some c → get self.new.connections key ≡ Some d → d.session ≡ c.session }
         ensures stays { IfNone result ((c : Connection) → (d : Connection)
-            → get self.old.connections key ≡ Some c → get self.new.connections key ≡ Some d
-            → d.stage ≡ c.stage) }
+            → get self.old.connections key ≡ Some c → get self.new.connections key ≡ Some d → d.stage ≡ c.stage) }
         ensures order { self.new.listed.items ≡ self.old.listed.items }
         ensures others { KeepsOthers key self.old.connections self.new.connections }
         ensures count { slab_len self.new.connections ≡ slab_len self.old.connections }
@@ -206,11 +202,9 @@ impl<S: Service + Drop> Sessions<S> {
     pub fn let_go(&mut self, key: usize)
         ensures service { self.new.service ≡ self.old.service }
         ensures gone { (c : Connection) → get self.old.connections key ≡ Some c
-            → c.stage ≡ ConnectionState.Over → c.session.asked ≡ None
-            → get self.new.connections key ≡ None }
+            → c.stage ≡ ConnectionState.Over → c.session.asked ≡ None → get self.new.connections key ≡ None }
         ensures kept { (c : Connection) → get self.old.connections key ≡ Some c
-            → (c.stage ≢ ConnectionState.Over) ⊎ (c.session.asked ≢ None)
-            → get self.new.connections key ≡ Some c }
+            → (c.stage ≢ ConnectionState.Over) ⊎ (c.session.asked ≢ None) → get self.new.connections key ≡ Some c }
         ensures same { (c : Connection) → get self.new.connections key ≡ Some c
             → get self.old.connections key ≡ Some c }
         ensures order { self.new.listed.items ≡ self.old.listed.items }

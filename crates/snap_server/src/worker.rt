@@ -231,8 +231,7 @@ where
             → HadTurn S.gives PIECE key self.old.sessions.service self.new.sessions.service
             self.old.sessions.connections self.new.sessions.connections }
         ensures order { (key : ℕ) → (rest : List ℕ) → self.old.sessions.listed.items ≡ key ∷ rest
-            → (self.new.sessions.listed.items ≡ rest)
-            ⊎ (self.new.sessions.listed.items ≡ rest ++ key ∷ []) }
+            → (self.new.sessions.listed.items ≡ rest) ⊎ (self.new.sessions.listed.items ≡ rest ++ key ∷ []) }
         ensures nobody { self.old.sessions.listed.items ≡ []
             → self.new.sessions.connections ≡ self.old.sessions.connections }
         ensures moves { Moves S.gives self.old.sessions.service self.new.sessions.service }
@@ -255,10 +254,8 @@ where
     )
         requires note { N.IsAlwaysCallable note.now }
         requires asked { AllAsked S.asked }
-        ensures turns { (key : ℕ) → (c : Connection) → (d : Connection)
-            → get self.old.sessions.connections key ≡ Some c
-            → get self.new.sessions.connections key ≡ Some d
-            → HadItsTurn S.gives PIECE c.stage
+        ensures turns { (key : ℕ) → (c : Connection) → (d : Connection) → get self.old.sessions.connections key ≡ Some c
+            → get self.new.sessions.connections key ≡ Some d → HadItsTurn S.gives PIECE c.stage
             self.old.sessions.service self.new.sessions.service c d }
         ensures moves { Moves S.gives self.old.sessions.service self.new.sessions.service }
     {

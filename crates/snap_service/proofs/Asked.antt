@@ -1,45 +1,26 @@
 -- An update that was asked for leaves a writer that stores what was asked for.
-use Rattle.std.proofs.Common.{◌≡◌, ◌≢◌, ℕ, ◌+◌, ◌⊎◌, List, [], Result, Ok, Err, OnOk, OnErr, Some, None, inl, inr, ap}
-use Rattle.std.proofs.Common.{sym, subst, ◌∙◌}
-use Rattle.std.proofs.lemmas.Option.{same_Some}
+use Rattle.std.proofs.Common.{sym, subst, ◌∙◌, ◌≡◌, ◌≢◌, ℕ, ◌+◌, List, Result, Ok, Err, OnOk, OnErr, inl}
+use Rattle.std.proofs.{Common.inr, Common.ap, lemmas.Option.same_Some}
 use Rattle.snap_disk.specs.declared.refusal.Refusal.{Refusal}
-use Rattle.snap_history.specs.{History.number_after, History.value_after, Limits.IsNumber}
-use Rattle.snap_register.specs.History.{starts}
+use Rattle.snap_history.specs.{Limits.IsNumber}
 use Rattle.snap_segment.specs.Segment.{SegmentState}
-use Rattle.snap_memory.specs.{plan.Plan.Plan, Seat.own_of}
-use Rattle.snap_writer.specs.Update.{Advances, Fails, IsSameSeat}
-use Rattle.snap_writer.specs.declared.judgement.Judgement.TheVariants.{TooLong, Stored, Conflict, OutOfStep, Exhausted}
-use Rattle.snap_writer.specs.declared.judgement.Judgement.TheVariants.{Fenced, Worn, Go}
-use Rattle.snap_writer.{specs.Writer.WriterState, specs.Writer.number_of, specs.Judge.IsJudged, specs.Updated.IsUpdated}
-use Rattle.snap_writer.{specs.declared.judgement.Judgement.Judgement, proofs.Judgements.some_rule}
-use Rattle.snap_service.specs.{Updated.HasMet, Asked.IsAsOpened, Asked.StoresAsked}
+use Rattle.snap_memory.specs.{Seat.own_of}
+use Rattle.snap_writer.{specs.Update.Advances, specs.Update.Fails, specs.Update.IsSameSeat, proofs.Judgements.some_rule}
+use Rattle.snap_writer.specs.{Writer.WriterState, Writer.number_of, Judge.IsJudged, Updated.IsUpdated}
+use Rattle.snap_writer.specs.declared.judgement.Judgement.{TheVariants.Go, Judgement}
+use Rattle.snap_service.specs.{Asked.IsAsOpened, Asked.StoresAsked}
 use Rattle.snap_disk.specs.declared.disk.Disk as Disk
 
 module _ {D : Type 0} (asked : ℕ → ℕ → List ℕ → Type 0) where
-  -- what a writer of this segment with this file stores was asked for
-  abbrev Stores : Plan → ℕ → SegmentState D → Type 0
-  Stores p i s = (((s.number ≡ number_after (starts p) [] i) × (s.value ≡ value_after (starts p) [] i))
-      ⊎ asked i s.number s.value) × ((v : List ℕ) → s.begun ≡ Some v → asked i (s.number + 1) v)
-
   -- a writer of the same segment with the same file
   same_file : (old new : WriterState D) → new.seat.plan ≡ old.seat.plan → own_of new.seat ≡ own_of old.seat
       → new.segment ≡ old.segment → StoresAsked asked old → StoresAsked asked new
   same_file old new plan own same is =
-      let there = subst (λ p. Stores p (own_of new.seat) new.segment) (sym plan)
-      (subst (λ i. Stores old.seat.plan i new.segment) (sym own)
-      (subst (Stores old.seat.plan (own_of old.seat)) (sym same) (is.stored, is.begun))) in
-      record { stored = there.0; begun = there.1 }
+      record { stored = rw (plan, own, same) is.stored; begun = rw (own, same) is.begun }
 
   -- a writer as it was opened
   pub asked_found : (w : WriterState D) → IsAsOpened w → StoresAsked asked w
-  asked_found w is = record {
-    stored = inl is.found;
-    begun = λ v begun. let both : None ≡ Some v = sym is.unfenced ∙ begun in absurd cc;
-  }
-
-  -- a meeting changes nothing of what is stored
-  pub asked_met : (old new : WriterState D) → HasMet old new → StoresAsked asked old → StoresAsked asked new
-  asked_met old new met = same_file old new met.meets.grows.plan met.meets.grows.low met.segment_is
+  asked_found w is = record { stored = inl is.found; begun = λ v begun. absurd (cc is.unfenced) }
 
   module _ (old new : WriterState D) (k : ℕ) (v : List ℕ) (asks : asked (own_of old.seat) k v)
       (is : StoresAsked asked old) where
@@ -55,7 +36,7 @@ module _ {D : Type 0} (asked : ℕ → ℕ → List ℕ → Type 0) where
         let next : k ≡ old.segment.number + 1 = rule.0.1 ∙ ap (λ n. n + 1) (sym shown) in
         with_file _ seat advances.stored (record {
           stored = inr (subst (λ n. asked (own_of old.seat) n v) next asks);
-          begun = λ u begun. let both : None ≡ Some u = sym rule.2 ∙ begun in absurd cc;
+          begun = λ u begun. absurd (cc rule.2);
         })
     moved (Err why) shown rule seat advances fails =
         let next : k ≡ old.segment.number + 1 = rule.0.1 ∙ ap (λ n. n + 1) (sym shown) in
@@ -69,15 +50,9 @@ module _ {D : Type 0} (asked : ℕ → ℕ → List ℕ → Type 0) where
         → IsJudged old k v rule → (rule ≢ Go → new ≡ old) → IsSameSeat old.seat new.seat
         → (IsJudged old k v Go → OnOk told (Advances old new v))
         → (IsJudged old k v Go → OnErr told (Fails old new v)) → StoresAsked asked new
-    by_rule told shown TooLong judged same seat advances fails = subst (StoresAsked asked) (sym (same (λ e. cc))) is
-    by_rule told shown Stored judged same seat advances fails = subst (StoresAsked asked) (sym (same (λ e. cc))) is
-    by_rule told shown Conflict judged same seat advances fails = subst (StoresAsked asked) (sym (same (λ e. cc))) is
-    by_rule told shown OutOfStep judged same seat advances fails = subst (StoresAsked asked) (sym (same (λ e. cc))) is
-    by_rule told shown Exhausted judged same seat advances fails = subst (StoresAsked asked) (sym (same (λ e. cc))) is
-    by_rule told shown Fenced judged same seat advances fails = subst (StoresAsked asked) (sym (same (λ e. cc))) is
-    by_rule told shown Worn judged same seat advances fails = subst (StoresAsked asked) (sym (same (λ e. cc))) is
     by_rule told shown Go judged same seat advances fails =
         moved told shown judged seat (advances judged) (fails judged)
+    by_rule told shown rule judged same seat advances fails = rw (same (λ e. cc)) is
 
     pub asked_update : (disk : Disk.Ghosts D) (told : Result ℕ Refusal) → IsNumber (number_of old)
         → old.segment.number ≡ number_of old → IsUpdated disk old new k v told → StoresAsked asked new

@@ -13,17 +13,14 @@ use Rattle.snap_frame.specs.declared.request.Request.TheVariants as request
 -- the reply to an update of segment i to number k and value v
 pub data AnswersUpdate (a : Known) (i k : ℕ) (v : List ℕ) (reply : Reply) (b : Known) : Type 0 where
   -- the segment doesn't exist
-  Outside : segments a.plan ≤ i → reply ≡ Refused NoSegment (segments a.plan) → b ≡ a
-      → AnswersUpdate a i k v reply b
+  Outside : segments a.plan ≤ i → reply ≡ Refused NoSegment (segments a.plan) → b ≡ a → AnswersUpdate a i k v reply b
   -- the value is too long
   Long : i < segments a.plan → MAX_VALUE_LEN < length v → reply ≡ Refused TooLong (length v)
       → b ≡ a → AnswersUpdate a i k v reply b
   -- the scanner has no look left
-  Unseen : i < segments a.plan → IsShort v → a.left ≡ 0 → reply ≡ Refused Worn 0 → b ≡ a
-      → AnswersUpdate a i k v reply b
+  Unseen : i < segments a.plan → IsShort v → a.left ≡ 0 → reply ≡ Refused Worn 0 → b ≡ a → AnswersUpdate a i k v reply b
   -- the reply fits what the scanner has seen after
-  Settled : i < segments a.plan → IsShort v → IsSettledAt b i k v reply → Grows a b
-      → AnswersUpdate a i k v reply b
+  Settled : i < segments a.plan → IsShort v → IsSettledAt b i k v reply → Grows a b → AnswersUpdate a i k v reply b
 
 -- the segment of an entry, and its number and value
 abbrev pub segment_of : NamedValue → ℕ

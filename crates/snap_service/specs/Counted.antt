@@ -36,8 +36,7 @@ pub record CountsOne (old new : NodeState) : Type 0 where
 
 -- an update is done once by its writer, under one lock, or not at all if its place is refused
 abbrev pub CountsUpdate : NodeState → ℕ → List ℕ → NodeState → Type 0
-CountsUpdate old i v new =
-    (IsMisplaced old.scanner i v × (new ≡ old))
+CountsUpdate old i v new = (IsMisplaced old.scanner i v × (new ≡ old))
     ⊎ ((i < segments old.scanner.plan) × IsShort v × CountsOne old new)
 
 -- An update is done once by its writer or not at all, as `CountsUpdate` says; no other request changes a writer. A scan

@@ -16,8 +16,7 @@ number_of table = table.views_name
 pub record AreWriters {D : Type 0} (table : RegistersId) (plan : Plan)
     (writers : List (WriterState D)) : Type 0 where
   pub all : length writers ≡ segments plan
-  pub each : (i : ℕ) (w : WriterState D) → slice_get writers i ≡ Some w
-      → IsOf table plan w.seat × (own_of w.seat ≡ i)
+  pub each : (i : ℕ) (w : WriterState D) → slice_get writers i ≡ Some w → IsOf table plan w.seat × (own_of w.seat ≡ i)
 
 -- these are writers of these registers, as many as there are segments, and one isn't at its segment's place
 pub record AreDisplaced {D : Type 0} (table : RegistersId) (plan : Plan)

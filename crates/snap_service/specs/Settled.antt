@@ -44,8 +44,7 @@ IsSettledAt a i k v reply = IsSettled (number_in a a.seen i) (value_in a a.seen 
 -- the next number is refused as fenced.
 pub record IsReplyByLook (a : Known) (i k : ℕ) (v : List ℕ) (reply : Reply) : Type 0 where
   pub settled : IsSettledAt a i k v reply
-  pub fenced : k ≡ number_in a a.seen i + 1 → IsNumber k
-      → reply ≡ Refused refusal.Fenced (number_in a a.seen i)
+  pub fenced : k ≡ number_in a a.seen i + 1 → IsNumber k → reply ≡ Refused refusal.Fenced (number_in a a.seen i)
 
 -- the reply with a writer's result, at number c
 abbrev pub reply_of : ℕ → Result ℕ Refusal → Reply

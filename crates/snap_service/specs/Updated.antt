@@ -28,8 +28,7 @@ pub record RepliesTold {D : Type 0} (answer : Result ℕ Refusal) (old new : Wri
     (before after : Known) (reply : Reply) : Type 0 where
   pub told : reply ≡ reply_of (number_of new) answer
   pub number : number_of new ≡ number_of old
-  pub settled : (k : ℕ) (v : List ℕ) → IsTellable old k v answer
-      → IsSettledAt after (own_of old.seat) k v reply
+  pub settled : (k : ℕ) (v : List ℕ) → IsTellable old k v answer → IsSettledAt after (own_of old.seat) k v reply
   pub limits : (k : ℕ) (v : List ℕ) → IsTellable old k v answer → IsInLimits reply
   pub scanner : Meets before after
   pub writer : HasMet old new

@@ -7,9 +7,8 @@ use Rattle.snap_session.specs.Talk.{Talk, Goes, GoesBy, Stays, Moves, Run, Phase
 use Rattle.snap_session.proofs.Runs.{frames-append, Joins, run_on, stays_joins, loosen as loosen_run}
 
 -- the phase doesn't depend on the bytes taken in, the payloads and the replies
-phase_any : (o : Option Failure) (taken more : List ℕ) (ps qs rs ss us : List (List ℕ))
-    (rest held tail : List ℕ) → Phase None o taken ps rs us rest held tail
-    → Phase None o more qs ss us rest held tail
+phase_any : (o : Option Failure) (taken more : List ℕ) (ps qs rs ss us : List (List ℕ)) (rest held tail : List ℕ)
+    → Phase None o taken ps rs us rest held tail → Phase None o more qs ss us rest held tail
 phase_any None taken more ps qs rs ss us rest held tail p = p
 phase_any (Some TooLarge) taken more ps qs rs ss us rest held tail p = p
 phase_any (Some NoMemory) taken more ps qs rs ss us rest held tail p = p
@@ -25,17 +24,15 @@ phase_over (Some a) w taken ps rs us rest held kept tail p = p
 abbrev WasGoing : Option Failure → List (List ℕ) → List ℕ → List ℕ → List ℕ → Type 0
 WasGoing o us tail held rest = (o ≡ None) × (us ≡ []) × (tail ≡ []) × (held ≡ rest)
 
-was_going : (o : Option Failure) (taken : List ℕ) (ps rs us : List (List ℕ))
-    (rest held tail : List ℕ) → Phase o None taken ps rs us rest held tail
-    → WasGoing o us tail held rest
+was_going : (o : Option Failure) (taken : List ℕ) (ps rs us : List (List ℕ)) (rest held tail : List ℕ)
+    → Phase o None taken ps rs us rest held tail → WasGoing o us tail held rest
 was_going None taken ps rs us rest held tail p = (refl, p.0, p.1, p.2)
 was_going (Some a) taken ps rs us rest held tail p = let wrong : None ≡ Some a = p.0 in absurd cc
 
 module _ {S : Type 0} (between : S → S → Type 0) (joins : Joins between)
     (gives : S → Request → Reply → S → Type 0) (s t u : S) (t0 t1 t2 : Talk)
     (a b g h : List ℕ) where
-  goes_going : t1.over ≡ None → (one : Goes between gives s t t0 a g t1)
-      → (two : Goes between gives t u t1 b h t2)
+  goes_going : t1.over ≡ None → (one : Goes between gives s t t0 a g t1) → (two : Goes between gives t u t1 b h t2)
       → GoesBy (length one.payloads + length two.payloads) between gives s u t0 (a ++ b) (g ++ h) t2
   goes_going going one two =
       let was = was_going t0.over a one.payloads one.replies one.unsaid one.rest
@@ -113,11 +110,9 @@ module _ {S : Type 0} (between : S → S → Type 0) (joins : Joins between)
   goes_on one two = (goes_by t1.over refl one two).0
 
 -- another run of these payloads, with equal replies, gives `Goes` too
-pub by_run : {S : Type 0} (before between : S → S → Type 0) (gives : S → Request → Reply → S
-    → Type 0) (s t u : S) (old : Talk) (taken given : List ℕ) (new : Talk)
-    (one : Goes before gives s t old taken given new)
-    → Run between gives s one.payloads (one.replies ++ one.unsaid) u
-    → Goes between gives s u old taken given new
+pub by_run : {S : Type 0} (before between : S → S → Type 0) (gives : S → Request → Reply → S → Type 0) (s t u : S)
+    (old : Talk) (taken given : List ℕ) (new : Talk) (one : Goes before gives s t old taken given new)
+    → Run between gives s one.payloads (one.replies ++ one.unsaid) u → Goes between gives s u old taken given new
 by_run before between gives s t u old taken given new one run = record {
   payloads = one.payloads;
   replies = one.replies;
@@ -135,13 +130,11 @@ module _ {S : Type 0} (gives : S → Request → Reply → S → Type 0) where
   pub goes_more : (s t u : S) (t0 t1 t2 : Talk) (m n : ℕ) → GoesBy m Stays gives s t t0 [] [] t1
       → GoesBy n Stays gives t u t1 [] [] t2 → GoesBy (m + n) Stays gives s u t0 [] [] t2
   goes_more s t u t0 t1 t2 m n one two =
-      let both =
-      goes_by Stays stays_joins gives s t u t0 t1 t2 [] [] [] [] t1.over refl one.0 two.0 in
+      let both = goes_by Stays stays_joins gives s t u t0 t1 t2 [] [] [] [] t1.over refl one.0 two.0 in
       (both.0, omega (arith, both.1, one.1, two.1))
 
   -- a step without other sessions in between is also one in which there may be some
   pub loosen : (s t : S) (old : Talk) (taken given : List ℕ) (new : Talk)
       → Goes Stays gives s t old taken given new → Goes (Moves gives) gives s t old taken given new
-  loosen s t old taken given new one =
-      by_run Stays (Moves gives) gives s t t old taken given new one
+  loosen s t old taken given new one = by_run Stays (Moves gives) gives s t t old taken given new one
       (loosen_run gives s t one.payloads (one.replies ++ one.unsaid) one.run)

@@ -12,18 +12,14 @@ malformed_apart NoMemory wrong = absurd cc
 malformed_apart TooLarge wrong = absurd cc
 
 -- the session continues after a request, and after a malformed frame
-pub asked_leaves : (bytes : List ℕ) (q : Request) (new : Held)
-    → IsNextRequest bytes (Ok (Some q)) new → IsBytes bytes
+pub asked_leaves : (bytes : List ℕ) (q : Request) (new : Held) → IsNextRequest bytes (Ok (Some q)) new → IsBytes bytes
     → (new.failure ≡ None) × IsBytes new.bytes
 asked_leaves bytes q new next are = (next.3, bytes_behind bytes next.0 new.bytes are next.1)
 
 pub malformed_leaves : (bytes : List ℕ) (why : Refusal) (new : Held) → why ≡ refusals.Malformed
-    → IsNextRequest bytes (Err why) new → IsBytes bytes
-    → (new.failure ≡ None) × IsBytes new.bytes
-malformed_leaves bytes why new is (inl next) are =
-    (next.4, bytes_behind bytes next.1 new.bytes are next.2)
-malformed_leaves bytes why new is (inr fails) are =
-    absurd (malformed_apart fails.0 (sym is ∙ fails.1))
+    → IsNextRequest bytes (Err why) new → IsBytes bytes → (new.failure ≡ None) × IsBytes new.bytes
+malformed_leaves bytes why new is (inl next) are = (next.4, bytes_behind bytes next.1 new.bytes are next.2)
+malformed_leaves bytes why new is (inr fails) are = absurd (malformed_apart fails.0 (sym is ∙ fails.1))
 
 too_large_by : (bytes : List ℕ) (f : Failure) (new : Held) → refusals.TooLarge ≡ refusal_of f
     → Fails bytes f new → HasLongLength bytes × (new.bytes ≡ bytes)
@@ -35,5 +31,4 @@ pub too_large_leaves : (bytes : List ℕ) (why : Refusal) (new : Held) → why �
     → IsNextRequest bytes (Err why) new → HasLongLength bytes × (new.bytes ≡ bytes)
 too_large_leaves bytes why new is (inl next) =
     let wrong : refusals.TooLarge ≡ refusals.Malformed = sym is ∙ next.0 in absurd cc
-too_large_leaves bytes why new is (inr fails) =
-    too_large_by bytes fails.0 new (sym is ∙ fails.1) fails.2
+too_large_leaves bytes why new is (inr fails) = too_large_by bytes fails.0 new (sym is ∙ fails.1) fails.2

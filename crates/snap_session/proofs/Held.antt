@@ -3,7 +3,6 @@ use Rattle.std.proofs.Common.{◌≡◌, ℕ, ◌+◌, ◌<◌, ◌≤◌, List,
 use Rattle.std.proofs.Common.{is_some, inl, inr, refl, sym, ◌∙◌, ap, arith, length-append}
 use Rattle.std.proofs.lemmas.List.{get_or-append-add}
 use Rattle.snap_frame.specs.{Messages.frame, Stream.HasFrame, Stream.IsBytes, declared.frame_buffer.Failure.Failure}
-use Rattle.snap_frame.specs.declared.frame_buffer.Failure.TheVariants.{NoMemory}
 use Rattle.snap_session.specs.Talk.{Talk, HasTaken, longest_frame, HoldsFrameAnd}
 use Rattle.snap_session.specs.Turns.{Sends}
 
@@ -15,22 +14,18 @@ bytes_behind xs x rest bytes has i =
 -- no more bytes are held after bytes were written and frames answered
 pub holds_sent : (more : ℕ) (old mid : Talk) (w0 w1 : _) → Sends old mid w0 w1
     → HoldsFrameAnd more old → HoldsFrameAnd more mid
-holds_sent more old mid w0 w1 sent holds going =
-    rw sent.held (holds (sym sent.over ∙ going))
+holds_sent more old mid w0 w1 sent holds going = rw sent.held (holds (sym sent.over ∙ going))
 
 pub holds_answered : (more : ℕ) (old new : Talk) → old.over ≡ None
-    → (new.over ≡ None → length new.held ≤ length old.held) → HoldsFrameAnd more old
-    → HoldsFrameAnd more new
+    → (new.over ≡ None → length new.held ≤ length old.held) → HoldsFrameAnd more old → HoldsFrameAnd more new
 holds_answered more old new going fewer holds still = omega (arith, fewer still, holds going)
 
 -- a read is taken in while less than a frame is held
-pub holds_taken : (more : ℕ) (old : Talk) (piece : List ℕ) (new : Talk)
-    → length old.held < longest_frame → length piece ≤ more → HasTaken old piece new
-    → HoldsFrameAnd more new
+pub holds_taken : (more : ℕ) (old : Talk) (piece : List ℕ) (new : Talk) → length old.held < longest_frame
+    → length piece ≤ more → HasTaken old piece new → HoldsFrameAnd more new
 holds_taken more old piece new short few (inl is) going =
     omega (arith, short, few, ap (λ (z : Talk). length z.held) is, length-append old.held piece)
-holds_taken more old piece new short few (inr none) going =
-    let wrong : Some NoMemory ≡ None = sym (ap (λ (z : Talk). z.over) none) ∙ going in absurd cc
+holds_taken more old piece new short few (inr none) going = grind arith
 
 still_is : (o : Option Failure) → is_some o ≡ false → o ≡ None
 still_is None is = refl

@@ -30,9 +30,8 @@ module _ {S : Type 0} (gives : S → Request → Reply → S → Type 0) (most :
       (by_more gives s s new [] [] new 0 most_answers (omega arith) (rests gives s new)) (Consumes-nil r)
 
   -- something new is owed, or the session is over
-  pub answers_some : (s t : S) (old mid new : Talk) (r w0 w1 : Option (List ℕ))
-      → Sends old mid w0 w1 → GoesBy most_answers Stays gives s t mid [] [] new → mid.owed ≡ []
-      → (new.over ≡ None → new.owed ≡ [] → ⊥)
+  pub answers_some : (s t : S) (old mid new : Talk) (r w0 w1 : Option (List ℕ)) → Sends old mid w0 w1
+      → GoesBy most_answers Stays gives s t mid [] [] new → mid.owed ≡ [] → (new.over ≡ None → new.owed ≡ [] → ⊥)
       → WholeRound gives most (scene s old r w0) (scene t new r w1)
   unfolding reads_nothing
   answers_some s t old mid new r w0 w1 sends answers all some = record {
@@ -42,25 +41,23 @@ module _ {S : Type 0} (gives : S → Request → Reply → S → Type 0) (most :
   }
 
   -- bytes are read
-  pub reads_some : (s t : S) (old mid answered new : Talk) (piece : List ℕ)
-      (r0 r1 w0 w1 : Option (List ℕ)) → Sends old mid w0 w1
-      → GoesBy most_answers Stays gives s t mid [] [] answered → mid.owed ≡ []
-      → Consumes r0 r1 piece → 0 < length piece → length piece ≤ most → answered.over ≡ None
-      → answered.owed ≡ [] → answered.asked ≡ None → HasTaken answered piece new
+  pub reads_some : (s t : S) (old mid answered new : Talk) (piece : List ℕ) (r0 r1 w0 w1 : Option (List ℕ))
+      → Sends old mid w0 w1 → GoesBy most_answers Stays gives s t mid [] [] answered → mid.owed ≡ []
+      → Consumes r0 r1 piece → 0 < length piece → length piece ≤ most → answered.over ≡ None → answered.owed ≡ []
+      → answered.asked ≡ None → HasTaken answered piece new
       → WholeRound gives most (scene s old r0 w0) (scene t new r1 w1)
-  reads_some s t old mid answered new piece r0 r1 w0 w1 sends answers all read some few going none
-      free taken = record {
-        round = record {
-          sent = mid;
-          answered = answered;
-          piece = piece;
-          sends = sends;
-          answers = answers;
-          reads = (read, inr (few, going, none, free, taken));
-        };
-        all = all;
-        gets_on = λ _ _ empty. absurd (omega (arith, some, ap length empty));
-      }
+  reads_some s t old mid answered new piece r0 r1 w0 w1 sends answers all read some few going none free taken = record {
+    round = record {
+      sent = mid;
+      answered = answered;
+      piece = piece;
+      sends = sends;
+      answers = answers;
+      reads = (read, inr (few, going, none, free, taken));
+    };
+    all = all;
+    gets_on = λ _ _ empty. absurd (omega (arith, some, ap length empty));
+  }
 
   pub one_more : (n : ℕ) (a b c : Scene S) → WholeRounds gives most n a b
       → WholeRound gives most b c → WholeRounds gives most (n + 1) a c

@@ -17,35 +17,15 @@ over_of t = t.over
 abbrev pub asked_of : Talk → Option Request
 asked_of t = t.asked
 
-pub phase_going : (a b : Option Failure) (taken : List ℕ) (ps rs : List (List ℕ))
-    (rest held : List ℕ) → a ≡ None → b ≡ None → held ≡ rest → Phase a b taken ps rs [] rest held []
-phase_going a b taken ps rs rest held one two same = rw (one, two) (refl, refl, same)
-
-pub phase_no_memory : (a b : Option Failure) (taken : List ℕ) (ps rs us : List (List ℕ))
-    (rest held : List ℕ) → a ≡ None → b ≡ Some NoMemory → length us ≤ 1
-    → Phase a b taken ps rs us rest held []
-phase_no_memory a b taken ps rs us rest held one two few = rw (one, two) (few, refl)
-
-pub phase_too_large : (a b : Option Failure) (taken : List ℕ) (ps rs : List (List ℕ))
-    (rest held : List ℕ) → a ≡ None → b ≡ Some TooLarge → HasLongLength rest
-    → Phase a b taken ps rs [] rest held (frame refused_too_large)
-phase_too_large a b taken ps rs rest held one two long = rw (one, two) (refl, refl, long)
-
-phase_same : (a : Option Failure) (rest held : List ℕ) → held ≡ rest
-    → Phase a a [] [] [] [] rest held []
+phase_same : (a : Option Failure) (rest held : List ℕ) → held ≡ rest → Phase a a [] [] [] [] rest held []
 phase_same None rest held same = (refl, refl, same)
 phase_same (Some w) rest held same = (refl, refl, refl, refl, refl, refl)
 
-owed_only : (xs : List ℕ) → xs ≡ xs ++ ([] ++ [])
-owed_only xs = sym (append-nil xs)
-
-pub taken_asked : (old : Talk) (piece : List ℕ) (new : Talk) → HasTaken old piece new
-    → new.asked ≡ old.asked
+pub taken_asked : (old : Talk) (piece : List ℕ) (new : Talk) → HasTaken old piece new → new.asked ≡ old.asked
 taken_asked old piece new (inl is) = ap asked_of is
 taken_asked old piece new (inr none) = ap asked_of none
 
-pub taken_owed : (old : Talk) (piece : List ℕ) (new : Talk) → HasTaken old piece new
-    → new.owed ≡ old.owed
+pub taken_owed : (old : Talk) (piece : List ℕ) (new : Talk) → HasTaken old piece new → new.owed ≡ old.owed
 taken_owed old piece new (inl is) = ap owed_of is
 taken_owed old piece new (inr none) = ap owed_of none
 
@@ -55,55 +35,43 @@ came_free t free = rw free
 pub came_asked : (t : Talk) (q : Request) → t.asked ≡ Some q → came t ≡ frame (payload q) ++ t.held
 came_asked t q is = rw is
 
-said_one : (owed y : List ℕ) → owed ++ frame y ≡ owed ++ (frames (y ∷ []) ++ [])
-said_one owed y = simp append-nil
-
 -- the first frame that is held is the first one that arrived
 pub found_first : (old mid : Talk) (x : List ℕ) → old.asked ≡ None → HasFrame old.held x mid.held
     → mid.asked ≡ old.asked → came old ≡ frame x ++ came mid
-found_first old mid x free found same =
-    came_free old free ∙ found.split ∙ ap (λ zs. frame x ++ zs) (sym (came_free mid (same ∙ free)))
+found_first old mid x free found same = grind (arith, came_free)
 
-pub owes_free : (old : Talk) (y : List ℕ) (new : Talk) (ok : Bool) → Owes old y new ok
-    → old.asked ≡ None → new.asked ≡ None
-owes_free old y new true owes free = ap asked_of owes ∙ free
-owes_free old y new false owes free = ap asked_of owes ∙ free
-
--- after an answer bytes are owed, unless the session is over
-owes_some : (old : Talk) (y : List ℕ) (new : Talk) (ok : Bool) → Owes old y new ok
-    → new.over ≡ None → new.owed ≡ [] → ⊥
-owes_some old y new true owes going none =
-    absurd (omega (arith, simp length-append at (ap length (sym (ap owed_of owes) ∙ none))))
-owes_some old y new false owes going none =
-    let wrong : Some NoMemory ≡ None = sym (ap over_of owes) ∙ going in absurd cc
-
--- so the session needs another call, with no request handed over
+-- after an answer bytes are owed, unless the session is over, and no request is handed over
 pub owes_turn : (old : Talk) (y : List ℕ) (new : Talk) (ok : Bool) → Owes old y new ok
     → old.asked ≡ None → (new.asked ≡ None) × (new.over ≡ None → new.owed ≡ [] → ⊥)
-owes_turn old y new ok owes free = (owes_free old y new ok owes free, owes_some old y new ok owes)
+owes_turn old y new true owes free = (
+  ap asked_of owes ∙ free,
+  λ going none. absurd (omega (arith, simp length-append at (ap length (sym (ap owed_of owes) ∙ none)))),
+)
+owes_turn old y new false owes free = (
+  ap asked_of owes ∙ free,
+  λ going none. let wrong : Some NoMemory ≡ None = sym (ap over_of owes) ∙ going in absurd cc,
+)
 
 -- the held bytes don't change
-pub owes_held : (old : Talk) (y : List ℕ) (new : Talk) (ok : Bool) → Owes old y new ok
-    → new.held ≡ old.held
+pub owes_held : (old : Talk) (y : List ℕ) (new : Talk) (ok : Bool) → Owes old y new ok → new.held ≡ old.held
 owes_held old y new true owes = ap (λ (z : Talk). z.held) owes
 owes_held old y new false owes = ap (λ (z : Talk). z.held) owes
 
 module _ {S : Type 0} (gives : S → Request → Reply → S → Type 0) where
-  -- nothing is answered
-  unanswered : (s : S) (old : Talk) (taken given : List ℕ) (new : Talk)
-      → given ++ new.owed ≡ old.owed
-      → Phase old.over new.over taken [] [] [] (came old ++ taken) (came new) []
+  -- nothing is answered, and `tail` is owed
+  unanswered : (s : S) (old : Talk) (taken given tail : List ℕ) (new : Talk) → given ++ new.owed ≡ old.owed ++ tail
+      → Phase old.over new.over taken [] [] [] (came old ++ taken) (came new) tail
       → GoesBy 0 Stays gives s s old taken given new
-  unanswered s old taken given new said phase = (
+  unanswered s old taken given tail new said phase = (
     record {
       payloads = [];
       replies = [];
       unsaid = [];
       rest = came old ++ taken;
-      tail = [];
+      tail = tail;
       run = refl;
       cut = refl;
-      said = said ∙ owed_only old.owed;
+      said = said;
       phase = phase;
     },
     omega arith,
@@ -112,40 +80,31 @@ module _ {S : Type 0} (gives : S → Request → Reply → S → Type 0) where
   -- the bytes that arrived don't change, and some that are owed are written
   pub sends : (s : S) (old : Talk) (given : List ℕ) (new : Talk) → old.owed ≡ given ++ new.owed
       → came new ≡ came old → new.over ≡ old.over → GoesBy 0 Stays gives s s old [] given new
-  sends s old given new owed same over =
-      unanswered s old [] given new (sym owed)
+  sends s old given new owed same over = unanswered s old [] given [] new (sym owed ∙ sym (append-nil old.owed))
       (rw over (phase_same old.over (came old ++ []) (came new) (same ∙ sym (append-nil (came old)))))
 
   -- nothing happens
-  pub rests : (s : S) (t : Talk)
-      → GoesBy 0 Stays gives s s t [] [] t
+  pub rests : (s : S) (t : Talk) → GoesBy 0 Stays gives s s t [] [] t
   rests s t = sends s t [] t refl refl refl
 
   -- memory runs out before anything is answered
   pub gives_up : (s : S) (old : Talk) (taken : List ℕ) (new : Talk) → old.over ≡ None
       → new.owed ≡ old.owed → new.over ≡ Some NoMemory → GoesBy 0 Stays gives s s old taken [] new
   gives_up s old taken new going owed over =
-      unanswered s old taken [] new owed
-      (phase_no_memory old.over new.over taken [] [] [] (came old ++ taken) (came new) going over
-      (omega arith))
+      unanswered s old taken [] [] new (owed ∙ sym (append-nil old.owed)) (rw (going, over) (omega arith, refl))
 
   -- bytes are taken in
   pub takes : (s : S) (old : Talk) (piece : List ℕ) (new : Talk) → old.over ≡ None
       → HasTaken old piece new → GoesBy 0 Stays gives s s old piece [] new
   takes s old piece new going (inl is) =
-      unanswered s old piece [] new (ap owed_of is)
-      (phase_going old.over new.over piece [] [] (came old ++ piece) (came new) going
-      (ap over_of is ∙ going)
-      (ap came is ∙ sym (append_assoc (asked_bytes old.asked) old.held piece)))
-  takes s old piece new going (inr none) =
-      gives_up s old piece new going (ap owed_of none) (ap over_of none)
+      unanswered s old piece [] [] new (ap owed_of is ∙ sym (append-nil old.owed)) (rw (going, ap over_of is ∙ going)
+      (refl, refl, ap came is ∙ sym (append_assoc (asked_bytes old.asked) old.held piece)))
+  takes s old piece new going (inr none) = gives_up s old piece new going (ap owed_of none) (ap over_of none)
 
   -- a frame is answered, and its reply is owed, or memory for it ran out
-  answered_one : (s t : S) (old mid new : Talk) (x y : List ℕ) (ys us : List (List ℕ))
-      → ys ++ us ≡ y ∷ [] → came old ≡ frame x ++ came mid → Answer gives s x y t
-      → new.owed ≡ old.owed ++ (frames ys ++ [])
-      → Phase old.over new.over [] (x ∷ []) ys us (came mid) (came new) []
-      → GoesBy 1 Stays gives s t old [] [] new
+  answered_one : (s t : S) (old mid new : Talk) (x y : List ℕ) (ys us : List (List ℕ)) → ys ++ us ≡ y ∷ []
+      → came old ≡ frame x ++ came mid → Answer gives s x y t → new.owed ≡ old.owed ++ (frames ys ++ [])
+      → Phase old.over new.over [] (x ∷ []) ys us (came mid) (came new) [] → GoesBy 1 Stays gives s t old [] [] new
   answered_one s t old mid new x y ys us one found answer said phase = (
     record {
       payloads = x ∷ [];
@@ -154,8 +113,7 @@ module _ {S : Type 0} (gives : S → Request → Reply → S → Type 0) where
       rest = came mid;
       tail = [];
       run = rw one (s, t, refl, answer, refl);
-      cut = append-nil (came old) ∙ found
-          ∙ ap (λ zs. zs ++ came mid) (sym (append-nil (frame x)));
+      cut = append-nil (came old) ∙ found ∙ ap (λ zs. zs ++ came mid) (sym (append-nil (frame x)));
       said = said;
       phase = phase;
     },
@@ -168,34 +126,19 @@ module _ {S : Type 0} (gives : S → Request → Reply → S → Type 0) where
       → Owes mid y new ok → GoesBy 1 Stays gives s t old [] [] new
   answers s t old mid new x y true going found owed over answer owes =
       answered_one s t old mid new x y (y ∷ []) [] refl found answer
-      (ap owed_of owes ∙ ap (λ zs. zs ++ frame y) owed ∙ said_one old.owed y)
-      (phase_going old.over new.over [] (x ∷ []) (y ∷ []) (came mid) (came new) going
-      (ap over_of owes ∙ over) (ap came owes))
+      (ap owed_of owes ∙ ap (λ zs. zs ++ frame y) owed ∙ simp append-nil)
+      (rw (going, ap over_of owes ∙ over) (refl, refl, ap came owes))
   answers s t old mid new x y false going found owed over answer owes =
       answered_one s t old mid new x y [] (y ∷ []) refl found answer
-      (ap owed_of owes ∙ owed ∙ owed_only old.owed)
-      (phase_no_memory old.over new.over [] (x ∷ []) [] (y ∷ []) (came mid) (came new) going
-      (ap over_of owes) (omega arith))
+      (ap owed_of owes ∙ owed ∙ sym (append-nil old.owed)) (rw (going, ap over_of owes) (omega arith, refl))
 
   -- a length above the limit is refused
   pub refuses : (s : S) (old mid new : Talk) (ok : Bool) → old.over ≡ None → HasLongLength (came old)
       → mid ≡ record old { over = Some TooLarge } → Owes mid refused_too_large new ok
       → GoesBy 0 Stays gives s s old [] [] new
-  refuses s old mid new true going long is owes = (
-    record {
-      payloads = [];
-      replies = [];
-      unsaid = [];
-      rest = came old;
-      tail = frame refused_too_large;
-      run = refl;
-      cut = append-nil (came old);
-      said = ap owed_of owes ∙ ap (λ zs. zs ++ frame refused_too_large) (ap owed_of is);
-      phase = phase_too_large old.over new.over [] [] [] (came old) (came new) going
-          (ap over_of owes ∙ ap over_of is) long;
-    },
-    omega arith,
-  )
+  refuses s old mid new true going long is owes = unanswered s old [] [] (frame refused_too_large) new
+      (ap owed_of owes ∙ ap (λ zs. zs ++ frame refused_too_large) (ap owed_of is))
+      (rw (going, ap over_of owes ∙ ap over_of is, append-nil) (refl, refl, long))
   refuses s old mid new false going long is owes =
       gives_up s old [] new going (ap owed_of owes ∙ ap owed_of is) (ap over_of owes)
 
@@ -203,29 +146,19 @@ module _ {S : Type 0} (gives : S → Request → Reply → S → Type 0) where
   pub hands : (s : S) (old mid new : Talk) (x : List ℕ) (q : Request) → old.over ≡ None
       → old.asked ≡ None → HasFrame old.held x mid.held → x ≡ payload q → mid.owed ≡ old.owed
       → mid.over ≡ None → new ≡ record mid { asked = Some q } → GoesBy 0 Stays gives s s old [] [] new
-  hands s old mid new x q going free found asks owed over is =
-      sends s old [] new
-      (sym (ap owed_of is ∙ owed))
-      (ap came is ∙ ap (λ zs. frame zs ++ mid.held) (sym asks) ∙ sym found.split
-      ∙ sym (came_free old free))
-      (ap over_of is ∙ over ∙ sym going)
+  hands s old mid new x q going free found asks owed over is = grind (arith, sends, came_free)
 
   -- a request that was handed over is answered
   pub finishes : (s t : S) (old mid new : Talk) (q : Request) (r : Reply) (ok : Bool) → old.over ≡ None
       → old.asked ≡ Some q → mid ≡ record old { asked = None } → gives s q r t → IsInLimits r
-      → length (payload q) ≤ max_payload → IsAskable q → Owes mid (says r) new ok
-      → Goes Stays gives s t old [] [] new
+      → length (payload q) ≤ max_payload → IsAskable q → Owes mid (says r) new ok → Goes Stays gives s t old [] [] new
   finishes s t old mid new q r ok going asked is given limits fits askable owes =
       (answers s t old mid new (payload q) (says r) ok going
-      (came_asked old q asked ∙ ap (λ zs. frame (payload q) ++ zs) (sym (ap came is)))
-      (ap owed_of is)
-      (ap over_of is ∙ going)
-      (fits, inl (q, r, (askable, refl), given, (limits, refl)))
-      owes).0
+      (came_asked old q asked ∙ ap (λ zs. frame (payload q) ++ zs) (sym (ap came is))) (ap owed_of is)
+      (ap over_of is ∙ going) (fits, inl (q, r, (askable, refl), given, (limits, refl))) owes).0
 
   -- no request is handed over, so the outcome is dropped
-  pub nobody : (s : S) (t : Talk)
-      → t.asked ≡ None → Goes Stays gives s s t [] [] (record t { asked = None })
+  pub nobody : (s : S) (t : Talk) → t.asked ≡ None → Goes Stays gives s s t [] [] (record t { asked = None })
   nobody s t free = (sends s t [] (record t { asked = None }) refl (sym (came_free t free)) refl).0
 
   -- the bound of answered frames may be raised

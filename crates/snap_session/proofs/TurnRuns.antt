@@ -29,9 +29,8 @@ same_came : (a b : Talk) → b.asked ≡ a.asked → b.held ≡ a.held → came 
 same_came a b one two = rw (one, two)
 
 -- one more write
-pub sends_more : (old mid new : Talk) (w0 w1 w2 : Option (List ℕ)) (n : ℕ) (buf : List ℕ)
-    → Sends old mid w0 w1 → buf ≡ mid.owed → Appends w1 w2 (take n buf)
-    → new ≡ record mid { owed = drop n mid.owed } → Sends old new w0 w2
+pub sends_more : (old mid new : Talk) (w0 w1 w2 : Option (List ℕ)) (n : ℕ) (buf : List ℕ) → Sends old mid w0 w1
+    → buf ≡ mid.owed → Appends w1 w2 (take n buf) → new ≡ record mid { owed = drop n mid.owed } → Sends old new w0 w2
 sends_more old mid new w0 w1 w2 n buf one same wrote is = rw is (record {
   given = one.given ++ take n mid.owed;
   owed = rw (append_assoc one.given (take n mid.owed) (drop n mid.owed), take-append-drop n mid.owed) one.owed;
@@ -41,8 +40,7 @@ sends_more old mid new w0 w1 w2 n buf one same wrote is = rw is (record {
   writes = Appends-trans w0 w1 w2 one.given (take n mid.owed) one.writes (rw same at wrote);
 })
 
-pub few_left : (old given new : List ℕ) → old ≡ given ++ new → length old ≤ most_owed
-    → length new ≤ most_owed
+pub few_left : (old given new : List ℕ) → old ≡ given ++ new → length old ≤ most_owed → length new ≤ most_owed
 few_left old given new is few = omega (arith, ap length is, length-append given new)
 
 -- ---- requests that are handed over
@@ -85,63 +83,44 @@ failed_apart wrong = absurd cc
 module _ {S : Type 0} (gives : S → Request → Reply → S → Type 0) where
   pub begins : (s : S) (t : Talk) (r w : Option (List ℕ)) → Turns Stays gives s s t r r w w t
   begins s t r w =
-      record {
-        taken = [];
-        given = [];
-        read = Consumes-nil r;
-        writes = Appends-nil w;
-        goes = (rests gives s t).0;
-      }
+      record { taken = []; given = []; read = Consumes-nil r; writes = Appends-nil w; goes = (rests gives s t).0 }
 
   pub then_turns : (s t u : S) (t0 t1 t2 : Talk) (r0 r1 r2 w0 w1 w2 : Option (List ℕ))
       → Turns Stays gives s t t0 r0 r1 w0 w1 t1 → Turns Stays gives t u t1 r1 r2 w1 w2 t2
       → Turns Stays gives s u t0 r0 r2 w0 w2 t2
-  then_turns s t u t0 t1 t2 r0 r1 r2 w0 w1 w2 one two =
-      turns_on Stays stays_joins gives s t u t0 t1 t2 r0 r1 r2 w0 w1 w2 one two
+  then_turns = turns_on Stays stays_joins gives
 
   -- then bytes that are owed are written
   pub then_sends : (s t : S) (t0 t1 t2 : Talk) (r0 r1 w0 w1 w2 : Option (List ℕ))
-      → Turns Stays gives s t t0 r0 r1 w0 w1 t1 → Sends t1 t2 w1 w2
-      → Turns Stays gives s t t0 r0 r1 w0 w2 t2
-  then_sends s t t0 t1 t2 r0 r1 w0 w1 w2 one two =
-      then_turns s t t t0 t1 t2 r0 r1 r1 w0 w1 w2 one
-      (record {
-        taken = [];
-        given = two.given;
-        read = Consumes-nil r1;
-        writes = two.writes;
-        goes = (sends gives t t1 two.given t2 two.owed (same_came t1 t2 two.asked two.held) two.over).0;
-      })
+      → Turns Stays gives s t t0 r0 r1 w0 w1 t1 → Sends t1 t2 w1 w2 → Turns Stays gives s t t0 r0 r1 w0 w2 t2
+  then_sends s t t0 t1 t2 r0 r1 w0 w1 w2 one two = then_turns s t t t0 t1 t2 r0 r1 r1 w0 w1 w2 one (record {
+    taken = [];
+    given = two.given;
+    read = Consumes-nil r1;
+    writes = two.writes;
+    goes = (sends gives t t1 two.given t2 two.owed (same_came t1 t2 two.asked two.held) two.over).0;
+  })
 
   -- then frames are answered
   pub then_answers : (s t u : S) (t0 t1 t2 : Talk) (r0 r1 w0 w1 : Option (List ℕ))
       → Turns Stays gives s t t0 r0 r1 w0 w1 t1 → Goes Stays gives t u t1 [] [] t2
       → Turns Stays gives s u t0 r0 r1 w0 w1 t2
-  then_answers s t u t0 t1 t2 r0 r1 w0 w1 one two =
-      then_turns s t u t0 t1 t2 r0 r1 r1 w0 w1 w1 one
-      (record {
-        taken = [];
-        given = [];
-        read = Consumes-nil r1;
-        writes = Appends-nil w1;
-        goes = two;
-      })
+  then_answers s t u t0 t1 t2 r0 r1 w0 w1 one two = then_turns s t u t0 t1 t2 r0 r1 r1 w0 w1 w1 one
+      (record { taken = []; given = []; read = Consumes-nil r1; writes = Appends-nil w1; goes = two })
 
   -- a round: bytes that are owed are written, and frames are answered
   pub then_round : (s t u : S) (t0 t1 t2 t3 : Talk) (r0 r1 w0 w1 w2 : Option (List ℕ))
       → Turns Stays gives s t t0 r0 r1 w0 w1 t1 → Sends t1 t2 w1 w2 → Goes Stays gives t u t2 [] [] t3
       → Turns Stays gives s u t0 r0 r1 w0 w2 t3
   then_round s t u t0 t1 t2 t3 r0 r1 w0 w1 w2 one sent goes =
-      then_answers s t u t0 t2 t3 r0 r1 w0 w2
-      (then_sends s t t0 t1 t2 r0 r1 w0 w1 w2 one sent) goes
+      then_answers s t u t0 t2 t3 r0 r1 w0 w2 (then_sends s t t0 t1 t2 r0 r1 w0 w1 w2 one sent) goes
 
   -- then bytes are read and taken in
   pub then_takes : (s t : S) (t0 t1 t2 : Talk) (r0 r1 r2 w0 w1 : Option (List ℕ)) (piece : List ℕ)
       → Turns Stays gives s t t0 r0 r1 w0 w1 t1 → t1.over ≡ None → Consumes r1 r2 piece
       → HasTaken t1 piece t2 → Turns Stays gives s t t0 r0 r2 w0 w1 t2
   then_takes s t t0 t1 t2 r0 r1 r2 w0 w1 piece one going read taken =
-      then_turns s t t t0 t1 t2 r0 r1 r2 w0 w1 w1 one
-      (record {
+      then_turns s t t t0 t1 t2 r0 r1 r2 w0 w1 w1 one (record {
         taken = piece;
         given = [];
         read = read;
@@ -150,28 +129,22 @@ module _ {S : Type 0} (gives : S → Request → Reply → S → Type 0) where
       })
 
   -- then a read returns nothing
-  pub then_ends : (s t : S) (t0 t1 : Talk) (r0 r1 r2 w0 w1 : Option (List ℕ))
-      → Turns Stays gives s t t0 r0 r1 w0 w1 t1 → Consumes r1 r2 []
-      → Turns Stays gives s t t0 r0 r2 w0 w1 t1
-  then_ends s t t0 t1 r0 r1 r2 w0 w1 one read =
-      record {
-        taken = one.taken;
-        given = one.given;
-        read = rw append-nil at (Consumes-trans r0 r1 r2 one.taken [] one.read read);
-        writes = one.writes;
-        goes = one.goes;
-      }
+  pub then_ends : (s t : S) (t0 t1 : Talk) (r0 r1 r2 w0 w1 : Option (List ℕ)) → Turns Stays gives s t t0 r0 r1 w0 w1 t1
+      → Consumes r1 r2 [] → Turns Stays gives s t t0 r0 r2 w0 w1 t1
+  then_ends s t t0 t1 r0 r1 r2 w0 w1 one read = record {
+    taken = one.taken;
+    given = one.given;
+    read = rw append-nil at (Consumes-trans r0 r1 r2 one.taken [] one.read read);
+    writes = one.writes;
+    goes = one.goes;
+  }
 
   -- a session ends with its last turn
   pub serves : (s t u : S) (mid last : Talk) (r0 r1 r2 w0 w1 w2 : Option (List ℕ)) (end : End)
       → Turns Stays gives s t start r0 r1 w0 w1 mid → Turns Stays gives t u mid r1 r2 w1 w2 last
       → EndsAt end last r2 → Serves gives s u r0 r2 w0 w2 end
   serves s t u mid last r0 r1 r2 w0 w1 w2 end one two at =
-      record {
-        last = last;
-        turns = then_turns s t u start mid last r0 r1 r2 w0 w1 w2 one two;
-        ends = at;
-      }
+      record { last = last; turns = then_turns s t u start mid last r0 r1 r2 w0 w1 w2 one two; ends = at }
 
   -- the invariant of a turn: its bytes are those of a run, few are owed and held, and a request is handed over with the
   -- connection's key
@@ -184,9 +157,8 @@ module _ {S : Type 0} (gives : S → Request → Reply → S → Type 0) where
     pub held : HoldsFrameAnd more old → HoldsFrameAnd more new
 
   -- the invariant still holds after bytes that are owed are written
-  pub stood_sent : (hands_over one : Type 0)
-      (more : ℕ) (s t : S) (old mid new : Talk) (r0 r1 w0 w1 w2 : Option (List ℕ))
-      → Stood hands_over one more s t old mid r0 r1 w0 w1 → Sends mid new w1 w2
+  pub stood_sent : (hands_over one : Type 0) (more : ℕ) (s t : S) (old mid new : Talk)
+      (r0 r1 w0 w1 w2 : Option (List ℕ)) → Stood hands_over one more s t old mid r0 r1 w0 w1 → Sends mid new w1 w2
       → Stood hands_over one more s t old new r0 r1 w0 w2
   stood_sent hands_over one more s t old mid new r0 r1 w0 w1 w2 stood sent = record {
     turns = then_sends s t old mid new r0 r1 w0 w1 w2 stood.turns sent;

@@ -10,10 +10,8 @@ module _ {S T : Type 0} (outer : S → Request → Reply → S → Type 0)
   answer_as a b x y (fits, inl is) = (fits, inl (is.0, is.1, is.2, is_as a b is.0 is.1 is.3, is.4))
   answer_as a b x y (fits, inr bad) = (fits, inr (bad.0, ap inner bad.1, bad.2))
 
-  run_as : (before : S → S → Type 0) (between : T → T → Type 0)
-      → ((a b : S) → before a b → between (inner a) (inner b))
-      → (a b : S) (xs ys : List (List ℕ)) → Run before outer a xs ys b
-      → Run between gives (inner a) xs ys (inner b)
+  run_as : (before : S → S → Type 0) (between : T → T → Type 0) → ((a b : S) → before a b → between (inner a) (inner b))
+      → (a b : S) (xs ys : List (List ℕ)) → Run before outer a xs ys b → Run between gives (inner a) xs ys (inner b)
   run_as before between maps a b [] [] run = maps a b run
   run_as before between maps a b (x ∷ xs) (y ∷ ys) run = (
     inner run.0,
@@ -28,9 +26,8 @@ module _ {S T : Type 0} (outer : S → Request → Reply → S → Type 0)
   moves_as a b (xs, ys, run) = (xs, ys, run_as Stays Stays (λ _ _ same. ap inner same) a b xs ys run)
 
   turns_as : (before : S → S → Type 0) (between : T → T → Type 0)
-      → ((a b : S) → before a b → between (inner a) (inner b))
-      → (s t : S) (old new : Talk) (r0 r1 w0 w1 : Option (List ℕ))
-      → (a : Turns before outer s t old r0 r1 w0 w1 new)
+      → ((a b : S) → before a b → between (inner a) (inner b)) → (s t : S) (old new : Talk)
+      (r0 r1 w0 w1 : Option (List ℕ)) → (a : Turns before outer s t old r0 r1 w0 w1 new)
       → (b : Turns between gives (inner s) (inner t) old r0 r1 w0 w1 new) × IsSameTalk a b
   turns_as before between maps s t old new r0 r1 w0 w1 a = (
     record {
@@ -44,8 +41,7 @@ module _ {S T : Type 0} (outer : S → Request → Reply → S → Type 0)
         unsaid = a.goes.unsaid;
         rest = a.goes.rest;
         tail = a.goes.tail;
-        run = run_as before between maps s t a.goes.payloads (a.goes.replies ++ a.goes.unsaid)
-            a.goes.run;
+        run = run_as before between maps s t a.goes.payloads (a.goes.replies ++ a.goes.unsaid) a.goes.run;
         cut = a.goes.cut;
         said = a.goes.said;
         phase = a.goes.phase;

@@ -41,8 +41,7 @@ frames (x ∷ xs) = frame x ++ frames xs
 
 -- a service in this state answers the first payload, which fits a frame, by the second: a request by a reply of its
 -- own, within the limits of replies; anything else by a refusal as malformed
-abbrev pub Answer : {S : Type 0} → (S → Request → Reply → S → Type 0) → S → List ℕ → List ℕ → S
-    → Type 0
+abbrev pub Answer : {S : Type 0} → (S → Request → Reply → S → Type 0) → S → List ℕ → List ℕ → S → Type 0
 Answer {S} gives old x y new = (length x ≤ max_payload)
     × (((q : Request) × (r : Reply) × Asks x q × gives old q r new × Says y r)
     ⊎ (Malformed x × (new ≡ old) × (y ≡ refused_malformed)))
@@ -69,12 +68,10 @@ Moves gives old new = (xs : List (List ℕ)) × (ys : List (List ℕ)) × Run St
 -- replies. Once it is over nothing more is taken in or answered.
 abbrev pub Phase : Option Failure → Option Failure → List ℕ → List (List ℕ) → List (List ℕ)
     → List (List ℕ) → List ℕ → List ℕ → List ℕ → Type 0
-Phase None None taken payloads replies unsaid rest held tail = (unsaid ≡ []) × (tail ≡ [])
-    × (held ≡ rest)
+Phase None None taken payloads replies unsaid rest held tail = (unsaid ≡ []) × (tail ≡ []) × (held ≡ rest)
 Phase None (Some TooLarge) taken payloads replies unsaid rest held tail =
     (unsaid ≡ []) × (tail ≡ frame refused_too_large) × HasLongLength rest
-Phase None (Some NoMemory) taken payloads replies unsaid rest held tail = (length unsaid ≤ 1)
-    × (tail ≡ [])
+Phase None (Some NoMemory) taken payloads replies unsaid rest held tail = (length unsaid ≤ 1) × (tail ≡ [])
 Phase (Some a) new taken payloads replies unsaid rest held tail =
     (new ≡ Some a) × (taken ≡ []) × (payloads ≡ []) × (replies ≡ []) × (unsaid ≡ []) × (tail ≡ [])
 
@@ -105,8 +102,7 @@ HasNoMemory old new = new ≡ record old { over = Some NoMemory }
 
 -- these bytes were taken in, or memory ran out
 abbrev pub HasTaken : Talk → List ℕ → Talk → Type 0
-HasTaken old piece new =
-    (new ≡ record old { held = old.held ++ piece }) ⊎ HasNoMemory old new
+HasTaken old piece new = (new ≡ record old { held = old.held ++ piece }) ⊎ HasNoMemory old new
 
 -- the frame of a payload is owed after the rest, or memory ran out
 abbrev pub Owes : Talk → List ℕ → Talk → Bool → Type 0

@@ -34,8 +34,7 @@ AllSaid t = (t.over ≡ None) × (t.owed ≡ []) × (t.asked ≡ None) × IsPart
 
 -- the session once its connection has ended with this result
 abbrev pub EndsAt : End → Talk → Option (List ℕ) → Type 0
-EndsAt ends.Closed t left = (t.over ≡ None) × (t.owed ≡ []) × (t.asked ≡ None) × (t.held ≡ [])
-    × IsAtEnd left
+EndsAt ends.Closed t left = (t.over ≡ None) × (t.owed ≡ []) × (t.asked ≡ None) × (t.held ≡ []) × IsAtEnd left
 EndsAt ends.Truncated t left = AllSaid t × (t.held ≡ [] → ⊥) × IsAtEnd left
 EndsAt ends.TooLarge t left = (t.over ≡ Some failures.TooLarge) × (t.owed ≡ [])
 EndsAt ends.ReadFailed t left = AllSaid t
@@ -73,11 +72,8 @@ pub record Scene (S : Type 0) : Type 0 where
 -- Nothing is read, or at most `most` bytes: only while the session isn't over, owes nothing, and no request is handed
 -- over.
 abbrev pub ReadsPiece : ℕ → Talk → Option (List ℕ) → Option (List ℕ) → List ℕ → Talk → Type 0
-ReadsPiece most old left_old left_new piece new =
-    Consumes left_old left_new piece
-    × (((piece ≡ []) × (new ≡ old))
-    ⊎ ((length piece ≤ most) × (old.over ≡ None) × (old.owed ≡ []) × (old.asked ≡ None)
-    × HasTaken old piece new))
+ReadsPiece most old left_old left_new piece new = Consumes left_old left_new piece × (((piece ≡ []) × (new ≡ old))
+    ⊎ ((length piece ≤ most) × (old.over ≡ None) × (old.owed ≡ []) × (old.asked ≡ None) × HasTaken old piece new))
 
 module _ {S : Type 0} (gives : S → Request → Reply → S → Type 0) (most : ℕ) where
   -- One round: bytes that are owed are written, frames that are held are answered, and then at most one read is taken

@@ -8,7 +8,6 @@ use Rattle.snap_session.specs.{declared.session.WaitingFor.WaitingFor, Talk.Talk
 -- over or bytes are owed. It needs an outcome only if `may` holds and a request is handed over; in the other two cases
 -- none is.
 abbrev pub WaitsFor : Type 0 → WaitingFor → Talk → Type 0
-WaitsFor may Bytes t = (t.over ≡ None) × (t.asked ≡ None) × IsPartial t.held
-    × (length t.held < longest_frame)
+WaitsFor may Bytes t = (t.over ≡ None) × (t.asked ≡ None) × IsPartial t.held × (length t.held < longest_frame)
 WaitsFor may Turn t = (t.asked ≡ None) × (t.over ≡ None → t.owed ≡ [] → ⊥)
 WaitsFor may Outcome t = may × (t.over ≡ None) × (t.asked ≡ None → ⊥)

@@ -7,8 +7,7 @@ use Rattle.snap_session.specs.Turns.{Turns}
 -- each answer of the wrapper is an answer of the inner service, whose state is part of its own
 abbrev pub AnswersAs : {S T : Type 0} → (S → T) → (S → Request → Reply → S → Type 0)
     → (T → Request → Reply → T → Type 0) → Type 0
-AnswersAs {S} inner outer gives = (a b : S) (q : Request) (r : Reply) → outer a q r b
-    → gives (inner a) q r (inner b)
+AnswersAs {S} inner outer gives = (a b : S) (q : Request) (r : Reply) → outer a q r b → gives (inner a) q r (inner b)
 
 -- the same conversation on both services: equal requests and replies, over equal bytes
 pub record IsSameTalk {S T : Type 0} {stays : S → S → Type 0} {moves : T → T → Type 0}
@@ -26,14 +25,12 @@ module _ {S T : Type 0} (outer : S → Request → Reply → S → Type 0)
     (gives : T → Request → Reply → T → Type 0) where
   -- turns of a session that has the wrapper to itself are such turns on the inner service
   abbrev pub AloneLaw : Type 0
-  AloneLaw = (inner : S → T) → AnswersAs inner outer gives
-      → (s t : S) (old new : Talk) (r0 r1 w0 w1 : Option (List ℕ))
+  AloneLaw = (inner : S → T) → AnswersAs inner outer gives → (s t : S) (old new : Talk) (r0 r1 w0 w1 : Option (List ℕ))
       → (a : Turns Stays outer s t old r0 r1 w0 w1 new)
       → (b : Turns Stays gives (inner s) (inner t) old r0 r1 w0 w1 new) × IsSameTalk a b
 
   -- turns of a session that shares the wrapper with others are such turns on the inner service
   abbrev pub SharedLaw : Type 0
-  SharedLaw = (inner : S → T) → AnswersAs inner outer gives
-      → (s t : S) (old new : Talk) (r0 r1 w0 w1 : Option (List ℕ))
+  SharedLaw = (inner : S → T) → AnswersAs inner outer gives → (s t : S) (old new : Talk) (r0 r1 w0 w1 : Option (List ℕ))
       → (a : Turns (Moves outer) outer s t old r0 r1 w0 w1 new)
       → (b : Turns (Moves gives) gives (inner s) (inner t) old r0 r1 w0 w1 new) × IsSameTalk a b

@@ -91,8 +91,7 @@ pub fn proceed<R: Read, W: Write, S: Service>(
     requires room { 0 < length piece.old }
     requires asked { AllAsked S.asked }
     ensures goes { Turns Stays S.gives service.old service.new session.old
-        (R.remaining reader.old) (R.remaining reader.new)
-        (W.contents writer.old) (W.contents writer.new) session.new }
+        (R.remaining reader.old) (R.remaining reader.new) (W.contents writer.old) (W.contents writer.new) session.new }
     ensures stands { StandsAt result session.new (R.remaining reader.new) }
     ensures bounded { length session.old.owed ≤ most_owed → length session.new.owed ≤ most_owed }
     ensures free { (S.hands_over → ⊥) → session.old.asked ≡ None → session.new.asked ≡ None }
@@ -166,8 +165,7 @@ pub fn serve<X: Wait, R: Read, W: Write, S: Service>(
 ) -> End
     requires alone { S.hands_over → ⊥ }
     requires asked { AllAsked S.asked }
-    ensures { Serves S.gives service.old service.new
-        (R.remaining reader.old) (R.remaining reader.new)
+    ensures { Serves S.gives service.old service.new (R.remaining reader.old) (R.remaining reader.new)
         (W.contents writer.old) (W.contents writer.new) result }
 {
     let mut session = Session::new(alloc);

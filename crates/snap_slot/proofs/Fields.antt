@@ -8,8 +8,7 @@ use Rattle.snap_slot.proofs.Blocks.{number_in-only}
 pub length_read : (b : List ℕ) (n : ℕ) → part 8 4 b ≡ big 4 n → n < 2 ^ 32 → length_field b ≡ n
 length_read b n is low = rw is (number_in-only 4 n (omega (arith, low)))
 
-pub gate_from_zeros : (b : List ℕ) → length b ≡ 4096 → part 1 4095 b ≡ zeros 4095
-    → b ≡ gate_block (slice_index b 0)
+pub gate_from_zeros : (b : List ℕ) → length b ≡ 4096 → part 1 4095 b ≡ zeros 4095 → b ≡ gate_block (slice_index b 0)
 unfolding gate_block
 gate_from_zeros b size is = sym (part_whole (suc 4095) b size)
     ∙ part-cons 0 4095 b (omega (arith, size)) ∙ ap (λ (l : List ℕ). slice_index b 0 ∷ l) is

@@ -13,15 +13,13 @@ old_other_slot s = 1 - s
 
 -- slot s is open with number k and value v
 abbrev pub OldOpen : List ℕ → ℕ → ℕ → List ℕ → Type 0
-OldOpen b s k v = IsOpenSlot OLD_SLOT_COUNT s (part (gate_at s) BLOCK_LEN b)
-    (part (body_at s) BLOCK_LEN b) k v
+OldOpen b s k v = IsOpenSlot OLD_SLOT_COUNT s (part (gate_at s) BLOCK_LEN b) (part (body_at s) BLOCK_LEN b) k v
 
 -- the file holds number k and value v: one slot has them, the other is closed or has the previous number
 pub record OldHolds (b : List ℕ) (k : ℕ) (v : List ℕ) : Type 0 where
   pub s : ℕ
   pub is_open : OldOpen b s k v
-  pub other : IsClosed b (old_other_slot s)
-      ⊎ ((u : List ℕ) × OldOpen b (old_other_slot s) (k - 1) u)
+  pub other : IsClosed b (old_other_slot s) ⊎ ((u : List ℕ) × OldOpen b (old_other_slot s) (k - 1) u)
 
 -- the first eight bytes of every old file
 abbrev pub old_mark : List ℕ

@@ -15,8 +15,7 @@ IsOldHeaderOf b header = IsMarkedHeader old_mark b header
 
 -- the reading of slot s
 abbrev pub IsOldSlotOf : List ℕ → ℕ → Slot → Type 0
-IsOldSlotOf b s slot = IsReadAs OLD_SLOT_COUNT s (part (gate_at s) BLOCK_LEN b)
-    (part (body_at s) BLOCK_LEN b) slot
+IsOldSlotOf b s slot = IsReadAs OLD_SLOT_COUNT s (part (gate_at s) BLOCK_LEN b) (part (body_at s) BLOCK_LEN b) slot
 
 -- the newest number, and the length of its value
 pub record IsOldHeld (b : List ℕ) (found : OldFound) : Type 0 where
@@ -33,8 +32,6 @@ pub record IsOldFound (i n : ℕ) (b : List ℕ) (found : OldFound) : Type 0 whe
 abbrev pub IsNoOldOpening : ℕ → ℕ → List ℕ → Refusal → Type 0
 IsNoOldOpening i n b DeviceFailed = length b ≡ OLD_FILE_LEN
 IsNoOldOpening i n b Unformatted = (length b ≡ OLD_FILE_LEN) × IsUnformatted b
-IsNoOldOpening i n b WrongFile =
-    (length b ≢ OLD_FILE_LEN) ⊎ ((IsUnformatted b → ⊥) × (OldHead b i n → ⊥))
-IsNoOldOpening i n b Damaged = (length b ≡ OLD_FILE_LEN) × OldHead b i n
-    × ((k : ℕ) (v : List ℕ) → OldHolds b k v → ⊥)
+IsNoOldOpening i n b WrongFile = (length b ≢ OLD_FILE_LEN) ⊎ ((IsUnformatted b → ⊥) × (OldHead b i n → ⊥))
+IsNoOldOpening i n b Damaged = (length b ≡ OLD_FILE_LEN) × OldHead b i n × ((k : ℕ) (v : List ℕ) → OldHolds b k v → ⊥)
 IsNoOldOpening i n b why = ⊥

@@ -15,8 +15,7 @@ encode_split t (suc k) (x ∷ xs) =
 -- after one more piece
 pub digits_on : (out old xs whole : List ℕ) (k : ℕ) → out ++ encode_lower xs ≡ old ++ whole
     → (out ++ encode_lower (take k xs)) ++ encode_lower (drop k xs) ≡ old ++ whole
-digits_on out old xs whole k e =
-    append_assoc out (encode_lower (take k xs)) (encode_lower (drop k xs))
+digits_on out old xs whole k e = append_assoc out (encode_lower (take k xs)) (encode_lower (drop k xs))
     ∙ ap (λ t. out ++ t) (encode_split lower_digits k xs) ∙ e
 
 -- after the last piece

@@ -10,23 +10,16 @@ use lib.Seq.{take-append-le}
 -- a beginning of the first list is one of both together
 taken : (p : ℕ) (xs ys : List ℕ) → take (length (take p xs)) (xs ++ ys) ≡ take p xs
 taken p xs ys =
-    ap (λ l. take (length (take p xs)) (l ++ ys)) (sym (take-append-drop p xs))
-    ∙ ap (take (length (take p xs))) (append_assoc (take p xs) (drop p xs) ys)
-    ∙ take-append_seam (take p xs) (drop p xs ++ ys)
+    ap (λ l. take (length (take p xs)) (l ++ ys)) (sym (take-append-drop p xs)) ∙ ap (take (length (take p xs)))
+    (append_assoc (take p xs) (drop p xs) ys) ∙ take-append_seam (take p xs) (drop p xs ++ ys)
 
 pub beginning_more : (a b : Option (List ℕ)) (xs ys : List ℕ) → AppendsBeginning a b xs
     → AppendsBeginning a b (xs ++ ys)
-beginning_more a b xs ys began = (
-  length (take began.0 xs),
-  subst (λ (l : List ℕ). Appends a b l) (sym (taken began.0 xs ys)) began.1,
-)
+beginning_more a b xs ys began =
+    (length (take began.0 xs), subst (λ (l : List ℕ). Appends a b l) (sym (taken began.0 xs ys)) began.1)
 
-pub whole_more : (a b : Option (List ℕ)) (xs ys : List ℕ) → Appends a b xs
-    → AppendsBeginning a b (xs ++ ys)
-whole_more a b xs ys came = (
-  length xs,
-  subst (λ (l : List ℕ). Appends a b l) (sym (take-append_seam xs ys)) came,
-)
+pub whole_more : (a b : Option (List ℕ)) (xs ys : List ℕ) → Appends a b xs → AppendsBeginning a b (xs ++ ys)
+whole_more a b xs ys came = (length xs, subst (λ (l : List ℕ). Appends a b l) (sym (take-append_seam xs ys)) came)
 
 pub beginning_behind : (a b c : Option (List ℕ)) (xs ys : List ℕ) → Appends a b xs
     → AppendsBeginning b c ys → AppendsBeginning a c (xs ++ ys)
@@ -37,18 +30,13 @@ beginning_behind a b c xs ys came began = (
 )
 
 pub whole_is : (a b : Option (List ℕ)) (xs : List ℕ) → Appends a b xs → AppendsBeginning a b xs
-whole_is a b xs came = (
-  length xs,
-  subst (λ (l : List ℕ). Appends a b l) (sym (take-length xs)) came,
-)
+whole_is a b xs came = (length xs, subst (λ (l : List ℕ). Appends a b l) (sym (take-length xs)) came)
 
-pub less_more : (a b : Option (List ℕ)) (xs ys : List ℕ) → AppendsLess a b xs
-    → AppendsLess a b (xs ++ ys)
+pub less_more : (a b : Option (List ℕ)) (xs ys : List ℕ) → AppendsLess a b xs → AppendsLess a b (xs ++ ys)
 less_more a b xs ys less = (
   less.0,
   omega (arith, length-append xs ys, less.1),
-  subst (λ (l : List ℕ). Appends a b l)
-      (sym (take-append-le less.0 xs ys (omega (arith, less.1)))) less.2,
+  subst (λ (l : List ℕ). Appends a b l) (sym (take-append-le less.0 xs ys (omega (arith, less.1)))) less.2,
 )
 
 pub less_behind : (a b c : Option (List ℕ)) (xs ys : List ℕ) → Appends a b xs

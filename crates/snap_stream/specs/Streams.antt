@@ -15,8 +15,7 @@ AppendsLess old new bytes = (p : ℕ) × (p < length bytes) × Appends old new (
 
 -- standard error got a beginning of these lines, and all of them if `is_told`
 abbrev pub SaysLines : List ℕ → (is_told : Bool) (old new : Option (List ℕ)) → Type 0
-SaysLines lines is_told old new =
-    AppendsBeginning old new lines × (is_told ≡ true → Appends old new lines)
+SaysLines lines is_told old new = AppendsBeginning old new lines × (is_told ≡ true → Appends old new lines)
 
 -- the reader had exactly these bytes, if its bytes are known
 abbrev pub Had : Option (List ℕ) → List ℕ → Type 0
@@ -48,10 +47,7 @@ IsText known text = IfSome known (λ bytes. text ≡ bytes)
 
 -- Standard error got the whole line of the text if `is_told`. If not, it got less than the line,
 -- or, if memory ran out, a beginning of the line of the text cut to the fixed buffer.
-abbrev pub Complains : (known : Option (List ℕ)) (is_told : Bool) (old new : Option (List ℕ))
-    → Type 0
-Complains known true old new =
-    (text : List ℕ) × IsText known text × Appends old new (complaint_line text)
-Complains known false old new =
-    (text : List ℕ) × ((IsText known text × AppendsLess old new (complaint_line text))
+abbrev pub Complains : (known : Option (List ℕ)) (is_told : Bool) (old new : Option (List ℕ)) → Type 0
+Complains known true old new = (text : List ℕ) × IsText known text × Appends old new (complaint_line text)
+Complains known false old new = (text : List ℕ) × ((IsText known text × AppendsLess old new (complaint_line text))
     ⊎ (EndsInDots IN_PLACE text × AppendsBeginning old new (complaint_line text)))

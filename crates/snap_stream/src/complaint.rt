@@ -76,8 +76,7 @@ pub fn complain_of_refusal<E: Write>(errors: &mut E, why: Refusal) -> bool
 /// whether both were written whole.
 pub fn complain_twice<E: Write>(errors: &mut E, why: Refusal, more: Option<String>) -> bool
     ensures says { (line : List ℕ) → IfSome more (λ m. string_bytes m ≡ line)
-        → SaysLines (refused_line why ++ line) result (E.contents errors.old)
-        (E.contents errors.new) }
+        → SaysLines (refused_line why ++ line) result (E.contents errors.old) (E.contents errors.new) }
     ensures none { IsNone more → result ≡ false }
 {
     if !complain_of_refusal(errors, why) {

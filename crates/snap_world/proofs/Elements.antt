@@ -1,32 +1,28 @@
 -- Elements of a list: of one that was written, of one that a function made, of one with a partner
 -- at each place.
-use Rattle.std.proofs.Common.{◌≡◌, ◌≢◌, ℕ, zero, suc, ◌<◌, List, [], ◌∷◌, length, map, get_or, replicate, Some}
-use Rattle.std.proofs.Common.{slice_get, slice_set, refl, ap, sym, ◌∙◌, subst, arith}
+use Rattle.std.proofs.Common.{rules, ◌≡◌, ◌≢◌, ℕ, zero, suc, ◌<◌, List, [], ◌∷◌, length, map, get_or, replicate, Some}
 use Rattle.std.proofs.lemmas.Option.{slice_get-map, slice_get_read, slice_get_within, same_Some}
-use Rattle.std.{specs.Prelude.option_map, proofs.lemmas.List.length-map}
-use Rattle.snap_history.{specs.Pairs.Pairs, proofs.Pairs.element}
+use Rattle.std.proofs.Common.{slice_get, slice_set, refl, ap, ◌∙◌, subst, arith}
+use Rattle.std.{proofs.lemmas.List.length-map, specs.Prelude.option_map}
+use Rattle.snap_history.{proofs.Pairs.element, specs.Pairs.Pairs}
 
 -- what holds for the element that was written and for all others holds for each element
-pub each-set : {A : Type 0} (P : ℕ → A → Type 0) (xs : List A) (i : ℕ) (x : A) → P i x
-    → ((j : ℕ) (y : A) → j ≢ i → slice_get xs j ≡ Some y → P j y)
-    → (j : ℕ) (y : A) → slice_get (slice_set xs i x) j ≡ Some y → P j y
+pub each-set : {A : Type 0} (P : ℕ → A → Type 0) (xs : List A) (i : ℕ) (x : A) → P i x → ((j : ℕ) (y : A) → j ≢ i
+    → slice_get xs j ≡ Some y → P j y) → (j : ℕ) (y : A) → slice_get (slice_set xs i x) j ≡ Some y → P j y
 each-set P [] i x here others j y e = cc
 each-set P (z ∷ xs) zero x here others zero y e = let same : x ≡ y = cc in subst (P 0) same here
 each-set P (z ∷ xs) zero x here others (suc j) y e = others (suc j) y (λ f. cc) e
 each-set P (z ∷ xs) (suc i) x here others zero y e = others 0 y (λ f. cc) e
-each-set P (z ∷ xs) (suc i) x here others (suc j) y e =
-    each-set (λ k. P (suc k)) xs i x here (λ k v ne. others (suc k) v (λ f. ne (omega arith))) j y e
+each-set P (z ∷ xs) (suc i) x here others (suc j) y e = each-set (λ k. P (suc k)) xs i x here (search rules) j y e
 
 -- an element that was written
-pub set_is : {A : Type 0} (xs : List A) (i : ℕ) (x y : A) → slice_get (slice_set xs i x) i ≡ Some y
-    → x ≡ y
+pub set_is : {A : Type 0} (xs : List A) (i : ℕ) (x y : A) → slice_get (slice_set xs i x) i ≡ Some y → x ≡ y
 set_is [] i x y e = cc
 set_is (z ∷ xs) zero x y e = cc
 set_is (z ∷ xs) (suc i) x y e = set_is xs i x y e
 
 -- an element that is written where it was
-pub set_same : {A : Type 0} (xs : List A) (i : ℕ) (x : A) → slice_get xs i ≡ Some x
-    → slice_set xs i x ≡ xs
+pub set_same : {A : Type 0} (xs : List A) (i : ℕ) (x : A) → slice_get xs i ≡ Some x → slice_set xs i x ≡ xs
 set_same [] i x e = refl
 set_same (z ∷ xs) zero x e = cc
 set_same (z ∷ xs) (suc i) x e = let rest = set_same xs i x e in cc
@@ -34,18 +30,12 @@ set_same (z ∷ xs) (suc i) x e = let rest = set_same xs i x e in cc
 -- two reads of one place
 pub same_read : {A : Type 0} (xs : List A) (i : ℕ) (a b : A) → i < length xs → a ≡ get_or xs i a
     → b ≡ get_or xs i b → a ≡ b
-same_read xs i a b l ea eb =
-    same_Some a b (sym (slice_get_read xs (length xs) i a refl l ea)
-    ∙ slice_get_read xs (length xs) i b refl l eb)
+same_read xs i a b l ea eb = search (rules, same_Some, slice_get_read)
 
 -- an element of a mapped list
 pub map_element : {A B : Type 0} (f : A → B) (xs : List A) (i : ℕ) (b : B)
     → slice_get (map f xs) i ≡ Some b → (a : A) × (slice_get xs i ≡ Some a) × (f a ≡ b)
-map_element f xs i b e =
-    let low : i < length (map f xs) = slice_get_within (map f xs) i b e in
-    let size : length (map f xs) ≡ length xs = length-map xs f in
-    let there = element xs i (omega arith) in
-    (there.0, there.1, same_Some _ _ (sym (slice_get-map f xs i ∙ ap (option_map f) there.1) ∙ e))
+map_element f xs i b e = search (rules, slice_get_within, length-map, element, same_Some, slice_get-map)
 
 pub map_at : {A B : Type 0} (f : A → B) (xs : List A) (i : ℕ) (a : A) → slice_get xs i ≡ Some a
     → slice_get (map f xs) i ≡ Some (f a)
@@ -58,21 +48,17 @@ module _ {A B : Type 0} (f : A → B) (xs : List A) (i : ℕ) (b : B)
   map_within = let a = map_element f xs i b is in slice_get_within xs i a.0 a.1
 
   pub map_read : (a : A) → a ≡ get_or xs i a → (slice_get xs i ≡ Some a) × (f a ≡ b)
-  map_read a read =
-      let there = slice_get_read xs (length xs) i a refl map_within read in
-      (there, same_Some _ _ (sym (map_at f xs i a there) ∙ is))
+  map_read a read = search (rules, slice_get_read, map_within, same_Some, map_at)
 
 -- two lists that a function maps to one list, and one that it maps to one value
 pub map_same : {A B : Type 0} (f : A → B) (xs ys : List A) → length xs ≡ length ys
-    → ((i : ℕ) (a b : A) → slice_get xs i ≡ Some a → slice_get ys i ≡ Some b → f a ≡ f b)
-    → map f xs ≡ map f ys
+    → ((i : ℕ) (a b : A) → slice_get xs i ≡ Some a → slice_get ys i ≡ Some b → f a ≡ f b) → map f xs ≡ map f ys
 map_same f [] [] size each = refl
 map_same f [] (y ∷ ys) size each = absurd (omega arith)
 map_same f (x ∷ xs) [] size each = absurd (omega arith)
 map_same f (x ∷ xs) (y ∷ ys) size each =
     let head : f x ≡ f y = each 0 x y refl refl in
-    let rest : map f xs ≡ map f ys =
-    map_same f xs ys (omega arith) (λ i a b ea eb. each (suc i) a b ea eb) in
+    let rest : map f xs ≡ map f ys = map_same f xs ys (omega arith) (λ i a b ea eb. each (suc i) a b ea eb) in
     cc
 
 pub all_same : {A B : Type 0} (f : A → B) (v : B) (xs : List A) (n : ℕ) → length xs ≡ n

@@ -1,36 +1,31 @@
 -- The events of a scan as steps of the actors: what a scanner is asked for, one look, also of a writer's embedded
 -- scan, and the reply.
-use Rattle.std.proofs.Common.{◌≡◌, ℕ, suc, ◌^◌, ◌<◌, ◌≤◌, List, [], ◌∷◌, length, map, take, Some, slice_get, refl, ap}
-use Rattle.std.proofs.Common.{sym, ◌∙◌, subst, arith, ◌⊎◌, inl, inr, ◌++◌, get_or}
-use Rattle.std.proofs.{Math.Nat.pow-le-pow_right, lemmas.Nat.pow_pos, Math.Logic.∥∥₁_map}
-use Rattle.std.specs.Global.{Vec}
-use Rattle.std.proofs.lemmas.Option.{get_or_from_slice_get, slice_get_within, same_Some}
-use Rattle.snap_history.specs.History.{Update, from_nothing, IsMemory}
-use Rattle.snap_scan.{specs.declared.set.SegmentSet.SegmentSet, proofs.Sets.some, specs.Looks.IsDecided}
-use Rattle.snap_scan.specs.Sets.{named, size, IsAt}
+use Rattle.std.proofs.Common.{rules, ◌≡◌, ℕ, suc, ◌^◌, ◌<◌, ◌≤◌, List, [], ◌∷◌, length, map, take, Some, slice_get}
 use Rattle.snap_world.specs.Answers.{ScanState, scan_from, IsAnswer, all_of, set_of, value_at, entry_at, part_at}
-use Rattle.snap_world.specs.Answers.{number_at}
 use Rattle.snap_world.specs.inside.Gathers.{IsSeen, entry_in, value_in, Gathers, IsLookOf, IsUnderWay, MayLook}
-use Rattle.snap_world.specs.inside.Gathers.{RegistersStand}
 use Rattle.snap_world.specs.Machine.{State, Closed, Opened, with_scanner, WriterState, ScannerState, IsLook}
-use Rattle.snap_world.specs.Machine.{with_writer}
-use Rattle.snap_world.specs.{NodePhases.WorldPhases, NodePhases.MayCome, NodePhases.LooksOn, inside.NodeStands.IsUp}
-use Rattle.snap_world.specs.{inside.NodeSteps.IsActorsStep, inside.Drives.DriveStands, inside.Steps.phases_of_actors}
-use Rattle.snap_world.specs.{inside.Steps.asking, inside.Steps.IsReplyOf, declared.scanner.ScannerPhase.ScannerPhase}
-use Rattle.snap_world.specs.Phases.{ScannerIs, scanner_to, WriterIs, writer_to}
-use Rattle.snap_world.specs.declared.{actors.Actors.Actors, drive.Drive.Drive, event.Reply.Reply, scanner.Asked.Asked}
-use Rattle.snap_world.specs.declared.{scanner.Scanner.Scanner, collector.Collector.Collector}
-use Rattle.snap_world.specs.declared.{register.Register.Register, writer.Writer.Writer, writer.WriterPhase.WriterPhase}
-use Rattle.snap_world.specs.declared.event.Event.TheVariants.{Answer, Look}
-use Rattle.snap_world.specs.declared.event.Reply.TheVariants.{ScanBegun, Memory, Part, Number}
-use Rattle.snap_world.specs.declared.scanner.Asked.TheVariants.{All, Only}
-use Rattle.snap_world.proofs.Events.{up_at, came, store_begins, writer_goes, scanner_goes}
-use Rattle.snap_world.proofs.Moves.{whole, WriterFound, ScannerFound, the_writer, the_scanner, within, answered}
 use Rattle.snap_world.proofs.PhaseMoves.{with_actors_scanner, scanner_moved, writers_phases, writer_read, scanner_read}
+use Rattle.std.proofs.Common.{refl, ap, sym, ◌∙◌, subst, arith, ◌⊎◌, inl, inr, ◌++◌, get_or}
+use Rattle.std.proofs.lemmas.{Option.get_or_from_slice_get, Option.slice_get_within, Option.same_Some, Nat.pow_pos}
+use Rattle.std.{proofs.Math.Nat.pow-le-pow_right, proofs.Math.Logic.∥∥₁_map, specs.Global.Vec}
 use Rattle.snap_world.proofs.PhaseMoves.{scanner_there, with_actors_writer, writer_moved, writer_kept, scanner_kept}
-use Rattle.snap_world.specs.inside.Stands.{ActorsStand, Stand, WriterStands, ScannerStands, HasBegun, IsAtPhase}
-use Rattle.snap_world.specs.inside.Stands.{IsScannerAt, is_fenced}
-use Rattle.snap_world.proofs.Looks.{undecided, decided, look_from}
+use Rattle.snap_world.proofs.Moves.{whole, WriterFound, ScannerFound, the_writer, the_scanner, within, answered}
+use Rattle.snap_world.specs.inside.Stands.{ActorsStand, Stand, WriterStands, ScannerStands, HasBegun}
+use Rattle.snap_world.specs.declared.event.Reply.TheVariants.{ScanBegun, Memory, Part, Number}
+use Rattle.snap_world.proofs.Events.{up_at, came, store_begins, writer_goes, scanner_goes}
+use Rattle.snap_world.specs.{Phases.ScannerIs, Phases.scanner_to, Phases.WriterIs, Phases.writer_to, Answers.number_at}
+use Rattle.snap_world.specs.inside.{Steps.phases_of_actors, Steps.asking, Steps.IsReplyOf, Gathers.RegistersStand}
+use Rattle.snap_world.specs.declared.{event.Event.TheVariants.Answer, event.Event.TheVariants.Look, scanner.Asked.Asked}
+use Rattle.snap_world.specs.declared.scanner.{Asked.TheVariants.All, Asked.TheVariants.Only, ScannerPhase.ScannerPhase}
+use Rattle.snap_world.specs.declared.{writer.WriterPhase.WriterPhase, collector.Collector.Collector, drive.Drive.Drive}
+use Rattle.snap_world.{proofs.Looks.undecided, proofs.Looks.decided, proofs.Looks.look_from, specs.Machine.with_writer}
+use Rattle.snap_world.specs.declared.{register.Register.Register, scanner.Scanner.Scanner, actors.Actors.Actors}
+use Rattle.snap_world.specs.{NodePhases.WorldPhases, NodePhases.LooksOn, inside.NodeSteps.IsActorsStep}
+use Rattle.snap_world.specs.{declared.writer.Writer.Writer, declared.event.Reply.Reply, inside.Drives.DriveStands}
+use Rattle.snap_world.specs.inside.NodeStands.{IsUp}
+use Rattle.snap_history.specs.History.{Update, from_nothing, IsMemory}
+use Rattle.snap_scan.specs.{declared.set.SegmentSet.SegmentSet, Sets.named, Sets.size, Sets.IsAt, Looks.IsDecided}
+use Rattle.snap_scan.proofs.Sets.{some}
 use Rattle.snap_world.specs.declared.scanner.ScannerPhase.TheVariants as scanner
 use Rattle.snap_world.specs.declared.event.Actor.TheVariants as actor
 use Rattle.snap_world.specs.declared.writer.WriterPhase.TheVariants as writer
@@ -40,19 +35,12 @@ pub all_among : (n : ℕ) → all_of n < 2 ^ n
 all_among n = let pos : 0 < 2 ^ n = pow_pos n in omega arith
 
 pub some_named : (n set : ℕ) → n ≤ 16 → 0 < set → set < 2 ^ n → 0 < size set
-some_named n set most pos among =
-    let most_sets : 2 ^ n ≤ 2 ^ 16 = pow-le-pow_right (omega arith) most in
-    some set (omega arith) pos
+some_named n set most pos among = search (rules, pow-le-pow_right, some)
 
 -- the answer of a scan in other words
 IsAnswer-as : {set : ℕ} {h : List Update} {s : ScanState} {Is : ℕ → Type 0}
     (a : IsAnswer set h s Is) (As : ℕ → Type 0) → As a.p → IsAnswer set h s As
 IsAnswer-as a As is = record { p = a.p; moment = a.moment; is_moment = a.is_moment; is = is }
-
-pub asked_idle : (x : State) (i : ℕ) (asked : Asked) (p : WorldPhases) → MayCome x p (asking i asked)
-    → ScannerIs p.actors i scanner.Idle
-asked_idle x i All p may = may.1
-asked_idle x i (Only set) p may = may.1
 
 -- the entries of the memory are those of the moment
 entries : (h : List Update) (set : ℕ) (memory : List (List ℕ)) (p : ℕ) → IsSeen set h memory p
@@ -60,8 +48,7 @@ entries : (h : List Update) (set : ℕ) (memory : List (List ℕ)) (p : ℕ) →
 entries h set memory p seen = same (named set) (λ place j at.
     get_or_from_slice_get memory j (value_at h p j) [] (seen place j at))
   where
-    same : (js : List ℕ)
-        → ((place j : ℕ) → slice_get js place ≡ Some j → value_in memory j ≡ value_at h p j)
+    same : (js : List ℕ) → ((place j : ℕ) → slice_get js place ≡ Some j → value_in memory j ≡ value_at h p j)
         → map (entry_in memory) js ≡ map (entry_at h p) js
     same [] alike = refl
     same (j ∷ js) alike =
@@ -70,40 +57,34 @@ entries h set memory p seen = same (named set) (λ place j at.
 
 module _ (w : Actors) (i : ℕ) (a : Scanner) where
   moves : (p : ScannerPhase) → a.phase ≡ p → (ds : Vec Drive)
-      → up_at ds (phases_of_actors (with_actors_scanner w i a))
-      ≡ up_at ds (scanner_to (phases_of_actors w) i p)
-  moves p e ds =
-      ap (up_at ds) (scanner_moved w i a ∙ ap (scanner_to (phases_of_actors w) i) e)
+      → up_at ds (phases_of_actors (with_actors_scanner w i a)) ≡ up_at ds (scanner_to (phases_of_actors w) i p)
+  moves p e ds = ap (up_at ds) (scanner_moved w i a ∙ ap (scanner_to (phases_of_actors w) i) e)
 
   -- a scanner begins a scan of what it is asked for
-  pub asks : (asked : Asked) → ScannerIs (phases_of_actors w) i scanner.Idle
-      → 0 < set_of w.segments asked → set_of w.segments asked < 2 ^ w.segments
-      → a.phase ≡ scanner.Scanning
+  pub asks : (asked : Asked) → ScannerIs (phases_of_actors w) i scanner.Idle → 0 < set_of w.segments asked
+      → set_of w.segments asked < 2 ^ w.segments → a.phase ≡ scanner.Scanning
       → ((ds : List Drive) (x : State) → IsUp w ds x → (slice_get x.scanners i ≡ Some Closed)
-      × IsUp (with_actors_scanner w i a) ds
-      (with_scanner x i (Opened asked (scan_from (length x.history)))))
+      × IsUp (with_actors_scanner w i a) ds (with_scanner x i (Opened asked (scan_from (length x.history)))))
       → IsActorsStep w (asking i asked) ScanBegun (with_actors_scanner w i a)
   asks All is some among phase goes = came w _ _ _ (λ e. cc) (λ _ _ _ _ _ _. (refl, tt)) refl
       (λ ds x up. (let f = goes ds x up in (_, (f.0, refl), f.1))) (λ ds x stands. (refl, is))
       (λ ds x stands. moves scanner.Scanning phase ds)
   asks (Only set) is some among phase goes = came w _ _ _ (λ e. cc) (λ _ _ _ _ _ _. (refl, tt)) refl
-      (λ ds x up. (let f = goes ds x up in (_, (f.0, refl), f.1)))
-      (λ ds x stands.
-      (refl, is, (some, subst (λ m. set.bits < 2 ^ m) (sym (writers_phases w x stands)) among)))
+      (λ ds x up. (let f = goes ds x up in (_, (f.0, refl), f.1))) (λ ds x stands. (
+        refl,
+        is,
+        (some, subst (λ m. set.bits < 2 ^ m) (sym (writers_phases w x stands)) among),
+      ))
       (λ ds x stands. moves scanner.Scanning phase ds)
 
   -- a scanner answers what it was asked for
-  pub answers : (asked : Asked) (memory : List (List ℕ)) (reply : Reply)
-      → IsReplyOf asked memory reply → ScannerIs (phases_of_actors w) i scanner.Ready
-      → a.phase ≡ scanner.Idle
-      → ((ds : List Drive) (x : State) → IsUp w ds x → (scan : ScanState)
-      × (slice_get x.scanners i ≡ Some (Opened asked scan))
-      × IsAnswer (set_of w.segments asked) x.history scan
-      (IsSeen (set_of w.segments asked) x.history memory)
+  pub answers : (asked : Asked) (memory : List (List ℕ)) (reply : Reply) → IsReplyOf asked memory reply
+      → ScannerIs (phases_of_actors w) i scanner.Ready → a.phase ≡ scanner.Idle → ((ds : List Drive) (x : State)
+      → IsUp w ds x → (scan : ScanState) × (slice_get x.scanners i ≡ Some (Opened asked scan))
+      × IsAnswer (set_of w.segments asked) x.history scan (IsSeen (set_of w.segments asked) x.history memory)
       × (length memory ≡ w.segments) × IsUp (with_actors_scanner w i a) ds (with_scanner x i Closed))
       → IsActorsStep w (Answer i) reply (with_actors_scanner w i a)
-  answers All memory (Memory m) is ready phase goes =
-      came w _ _ _ (λ e. cc) (λ _ _ _ _ _ _. (refl, tt)) refl
+  answers All memory (Memory m) is ready phase goes = came w _ _ _ (λ e. cc) (λ _ _ _ _ _ _. (refl, tt)) refl
       (λ ds x up. (let f = goes ds x up in (
         _,
         (
@@ -115,29 +96,22 @@ module _ (w : Actors) (i : ℕ) (a : Scanner) where
         ),
         f.4,
       )))
-      (λ ds x stands. (refl, ready))
-      (λ ds x stands. moves scanner.Idle phase ds)
-  answers (Only set) memory (Part m) is ready phase goes =
-      came w _ _ _ (λ e. cc) (λ _ _ _ _ _ _. (refl, tt)) refl
+      (λ ds x stands. (refl, ready)) (λ ds x stands. moves scanner.Idle phase ds)
+  answers (Only set) memory (Part m) is ready phase goes = came w _ _ _ (λ e. cc) (λ _ _ _ _ _ _. (refl, tt)) refl
       (λ ds x up. (let f = goes ds x up in (
         _,
         (set, f.0, f.1, IsAnswer-as f.2 _ (is ∙ entries x.history set.bits memory f.2.p f.2.is), refl),
         f.4,
       )))
-      (λ ds x stands. (refl, ready))
-      (λ ds x stands. moves scanner.Idle phase ds)
+      (λ ds x stands. (refl, ready)) (λ ds x stands. moves scanner.Idle phase ds)
   answers All memory reply is ready phase goes = absurd is
   answers (Only set) memory reply is ready phase goes = absurd is
 
 -- each segment of an answer's set exists
-pub seen_within : (n : ℕ) (h : List Update) (scan : ScanState) (memory : List (List ℕ))
-    (asked : Asked)
-    → IsAnswer (set_of n asked) h scan (IsSeen (set_of n asked) h memory)
-    → (set : SegmentSet) → asked ≡ Only set
+pub seen_within : (n : ℕ) (h : List Update) (scan : ScanState) (memory : List (List ℕ)) (asked : Asked)
+    → IsAnswer (set_of n asked) h scan (IsSeen (set_of n asked) h memory) → (set : SegmentSet) → asked ≡ Only set
     → (place i : ℕ) → IsAt set.bits place i → i < length memory
-seen_within n h scan memory asked a set e place i at =
-    slice_get_within memory i (value_at h a.p i)
-    (a.is place i (subst (λ (z : Asked). IsAt (set_of n z) place i) (sym e) at))
+seen_within n h scan memory asked a set e place i at = slice_get_within memory i (value_at h a.p i) (search rules)
 
 -- the registers and the collector represent a state and a scan, which has a look to make
 abbrev LooksNext : List Register → Collector → Type 0
@@ -145,16 +119,18 @@ LooksNext rs c = (n set : ℕ) × (x : State) × (g : ℕ) × (s : ScanState) ×
     × RegistersStand n x g rs × Gathers n set x.history s c × IsUnderWay c
 
 can_look : (rs : List Register) (c : Collector) → ∥ LooksNext rs c ∥₁ → IsUnderWay c × MayLook rs c
-can_look rs c is = (
-  look_from c.scan.next (∥∥₁_map is (λ q. q.8)),
-  ∥∥₁_map is (λ q. (q.0, q.1, q.2, q.3, q.4, q.5, q.6, q.7)),
-)
+can_look rs c is = (look_from c.scan.next (∥∥₁_map is (λ q. q.8)), ∥∥₁_map is (λ q. (search rules)))
 
 -- after a look the scan has a further one to make, and its owner stays in phase p, or it has its
 -- answer, and the owner is in phase r
 abbrev pub Ends : {P : Type 0} → Collector → P → P → P → Type 0
-Ends c p r q = (IsUnderWay c × (q ≡ p))
-    ⊎ ((IsUnderWay c → ⊥) × (q ≡ r))
+Ends c p r q = (IsUnderWay c × (q ≡ p)) ⊎ ((IsUnderWay c → ⊥) × (q ≡ r))
+
+-- what holds in either phase holds in the one that the owner is in
+ends_in : {P : Type 0} (c : Collector) (p r q : P) (At : P → Type 0) → Ends c p r q → (IsUnderWay c → At p)
+    → ((IsUnderWay c → ⊥) → At r) → At q
+ends_in c p r q At (inl goes) further last = subst At (sym goes.1) (further goes.0)
+ends_in c p r q At (inr done) further last = subst At (sym done.1) (last done.0)
 
 module _ {n set k : ℕ} {x : State} {s t : ScanState} {c : Collector} (look : IsLook set x s k t)
     (gathers : Gathers n set x.history t c) where
@@ -166,20 +142,12 @@ module _ {n set k : ℕ} {x : State} {s t : ScanState} {c : Collector} (look : I
       → phases r ≡ next → Ends c p r q → LooksOn set (s.told ++ k ∷ []) now next (phases q)
   looks_on phases p r q now next kept moved ends =
       let told : t.told ≡ s.told ++ k ∷ [] = ap (λ (z : ScanState). z.told) look.after in
-      elim ends [
-        | inl goes ↦ (
-            let open_still : IsDecided (size set) (s.told ++ k ∷ []) → ⊥ =
-            subst (λ L. IsDecided (size set) L → ⊥) told
-            (undecided set t.told c.scan.next goes.0.0 gathers.next goes.0.1) in
-            let same : phases q ≡ now = ap phases goes.1 ∙ kept in
-            record { ends = λ has. absurd (open_still has); goes_on = λ _. same; either = inr same })
-        | inr done ↦ (
-            let has : IsDecided (size set) (s.told ++ k ∷ []) =
-            subst (IsDecided (size set)) told
-            (decided set t.told c.scan.next gathers.next (λ j e. done.0 (j, e))) in
-            let same : phases q ≡ next = ap phases done.1 ∙ moved in
-            record { ends = λ _. same; goes_on = λ none. absurd (none has); either = inl same })
-      ]
+      ends_in c p r q (λ z. LooksOn set (s.told ++ k ∷ []) now next (phases z)) ends (λ goes. (
+      let none = subst (λ L. IsDecided (size set) L → ⊥) told
+      (undecided set t.told c.scan.next goes.0 gathers.next goes.1) in
+      record { ends = λ has. absurd (none has); goes_on = λ _. kept; either = inr kept })) (λ done. (
+      let has = subst (IsDecided (size set)) told (decided set t.told c.scan.next gathers.next (λ j e. done (j, e))) in
+      record { ends = λ _. moved; goes_on = λ none. absurd (none has); either = inl moved }))
 
 module _ (w : Actors) (i : ℕ) (is : WriterIs (phases_of_actors w) i writer.Scanning) (old : Writer)
     (read : old ≡ get_or w.writers.items i old) where
@@ -193,17 +161,9 @@ module _ (w : Actors) (i : ℕ) (is : WriterIs (phases_of_actors w) i writer.Sca
 
   pub writer_can_look : Stand w → IsUnderWay old.collector × MayLook w.registers.items old.collector
   writer_can_look stand = can_look w.registers.items old.collector (∥∥₁_map stand (λ q. (
-      let a = at q.0 q.1 in (
-        w.segments,
-        all_of w.segments,
-        q.0,
-        q.1.since,
-        a.state.scan,
-        a.phase.0.born,
-        q.1.registers,
-        a.phase.0.gathers,
-        a.phase.1,
-      ))))
+      let a = at q.0 q.1 in
+      let b = a.phase.0 in
+      (w.segments, all_of w.segments, q.0, q.1.since, a.state.scan, b.born, q.1.registers, b.gathers, a.phase.1))))
 
   module _ (k : ℕ) (c : Collector) (look : IsLookOf w.registers.items old.collector k c)
       (q : WriterPhase) (ends : Ends c writer.Scanning writer.Storing q) where
@@ -237,40 +197,24 @@ module _ (w : Actors) (i : ℕ) (is : WriterIs (phases_of_actors w) i writer.Sca
 
       stands_on : WriterStands w.segments x.history stands.since i (writer_in q) next
       stands_on =
-          let At : WriterPhase → Type 0 =
-          IsAtPhase w.segments x.history stands.since i (writer_in q) next in
-          elim ends [
-            | inl goes ↦ record {
-              size = told.2.size;
-              fenced = (at x stands).fenced ∙ ap is_fenced (sym goes.1);
-              phase = subst At (sym goes.1) (begun, goes.0);
-            }
-            | inr done ↦ record {
-              size = told.2.size;
-              fenced = (at x stands).fenced ∙ ap is_fenced (sym done.1);
-              phase = subst At (sym done.1) (
-                begun,
-                answered (all_of w.segments) x.history told.0 c.memory.items c.scan.next
-                    (λ j e. done.0 (j, e)) told.2.gathered,
-              );
-            }
-          ]
+          let fenced = (at x stands).fenced in
+          let answer = answered (all_of w.segments) x.history told.0 c.memory.items c.scan.next in
+          ends_in c writer.Scanning writer.Storing q
+          (λ p. WriterStands w.segments x.history stands.since i (writer_in p) next) ends
+          (λ goes. record { size = told.2.size; fenced = fenced; phase = (begun, goes) }) (λ done. record {
+            size = told.2.size;
+            fenced = fenced;
+            phase = (begun, answer (λ j e. done (j, e)) told.2.gathered);
+          })
 
       -- the device is ready, also for a store of any value
       device_on : (d : Drive) → DriveStands w.segments x.history i writer.Scanning next.pending d
           → DriveStands w.segments x.history i q next.pending d
-      device_on d ready =
-          let At : WriterPhase → Type 0 =
-          λ p. DriveStands w.segments x.history i p next.pending d in
-          elim ends [
-            | inl goes ↦ subst At (sym goes.1) ready
-            | inr done ↦ subst At (sym done.1) (λ v begun. store_begins i w.segments _ _ v _ _ ready)
-          ]
+      device_on d ready = search (rules, store_begins)
 
     pub writer_looks : IsActorsStep w (Look (actor.Writer i)) (Number k)
         (with_actors_writer w i (record old { phase = q; collector = c }))
-    writer_looks = came w _ _ _ (λ e. cc) (λ _ _ _ _ _ _. (refl, tt)) refl
-        (λ ds x up. (
+    writer_looks = came w _ _ _ (λ e. cc) (λ _ _ _ _ _ _. (refl, tt)) refl (λ ds x up. (
         let stands = up.actors_stand in
         let a = at x stands in
         let t = told x stands in (
@@ -280,8 +224,7 @@ module _ (w : Actors) (i : ℕ) (is : WriterIs (phases_of_actors w) i writer.Sca
               a.there refl (stands_on x stands)
               (λ d ed. device_on x stands d (up.drives_stand i d a.state writer.Scanning ed a.there is)),
         )))
-        (λ ds x stands. (refl, is))
-        (λ ds x stands s e. (
+        (λ ds x stands. (refl, is)) (λ ds x stands s e. (
         let a = at x stands in
         let t = told x stands in
         let p = up_at ds (phases_of_actors w) in
@@ -289,11 +232,9 @@ module _ (w : Actors) (i : ℕ) (is : WriterIs (phases_of_actors w) i writer.Sca
         let after : WriterPhase → WorldPhases =
         λ z. up_at ds (phases_of_actors (with_actors_writer w i (writer_in z))) in
         subst (λ (z : WriterState). LooksOn (all_of w.segments) (z.scan.told ++ k ∷ []) p next (after q))
-        (same_Some a.state s (sym a.there ∙ e))
-        (looks_on t.1 t.2 after writer.Scanning writer.Storing q p next
+        (same_Some a.state s (sym a.there ∙ e)) (looks_on t.1 t.2 after writer.Scanning writer.Storing q p next
         (ap (up_at ds) (writer_kept w i (writer_in writer.Scanning) old read
-        (sym (writer_read w i is old read).1)))
-        (ap (up_at ds) (writer_moved w i (writer_in writer.Storing))) ends)))
+        (sym (writer_read w i is old read).1))) (ap (up_at ds) (writer_moved w i (writer_in writer.Storing))) ends)))
 
 -- a property of the set and of the numbers read of a scanner's scan, if it has one
 abbrev OfScan : ℕ → (ℕ → List ℕ → Type 0) → ScannerState → Type 0
@@ -332,27 +273,17 @@ module _ (w : Actors) (i : ℕ) (is : ScannerIs (phases_of_actors w) i scanner.S
           (Opened old.asked scanner_told.0)
       scanner_stands_on =
           let t = scanner_told in
-          let At : ScannerPhase → Type 0 = IsScannerAt w.segments x.history stands.since
-          (scanner_in q) (Opened old.asked t.0) in
-          let born : stands.since ≤ t.0.start = subst (λ b. stands.since ≤ b)
-          (sym (start_is t.1 t.2)) (scanner_at x stands).phase.2 in
-          record {
-            size = t.2.size;
-            phase = elim ends [
-              | inl goes ↦ subst At (sym goes.1) (t.0, refl, born, t.2, goes.0)
-              | inr done ↦ subst At (sym done.1) (
-                t.0,
-                refl,
-                t.2.end,
-                answered set x.history t.0 c.memory.items c.scan.next (λ j e. done.0 (j, e)) t.2.gathered,
-              )
-            ];
-          }
+          let born = subst (λ b. stands.since ≤ b) (sym (start_is t.1 t.2)) (scanner_at x stands).phase.2 in
+          let answer = answered set x.history t.0 c.memory.items c.scan.next in
+          let Stands : ScannerPhase → Type 0 =
+          λ p. ScannerStands w.segments x.history stands.since i (scanner_in p) (Opened old.asked t.0) in
+          ends_in c scanner.Scanning scanner.Ready q Stands ends
+          (λ goes. record { size = t.2.size; phase = (t.0, refl, born, t.2, goes) })
+          (λ done. record { size = t.2.size; phase = (t.0, refl, t.2.end, answer (λ j e. done (j, e)) t.2.gathered) })
 
     pub scanner_looks : IsActorsStep w (Look (actor.Scanner i)) (Number k)
         (with_actors_scanner w i (record old { phase = q; collector = c }))
-    scanner_looks = came w _ _ _ (λ e. cc) (λ _ _ _ _ _ _. (refl, tt)) refl
-        (λ ds x up. (
+    scanner_looks = came w _ _ _ (λ e. cc) (λ _ _ _ _ _ _. (refl, tt)) refl (λ ds x up. (
         let stands = up.actors_stand in
         let a = scanner_at x stands in
         let t = scanner_told x stands in (
@@ -361,17 +292,14 @@ module _ (w : Actors) (i : ℕ) (is : ScannerIs (phases_of_actors w) i scanner.S
           scanner_goes w ds x up i (scanner_in q) (Opened old.asked t.0) (scanner_there w i is)
               (scanner_stands_on x stands),
         )))
-        (λ ds x stands. (refl, is))
-        (λ ds x stands asked s e. (
+        (λ ds x stands. (refl, is)) (λ ds x stands asked s e. (
         let a = scanner_at x stands in
         let t = scanner_told x stands in
         let p = up_at ds (phases_of_actors w) in
         let next = up_at ds (scanner_to (phases_of_actors w) i scanner.Ready) in
         let after : ScannerPhase → WorldPhases =
         λ z. up_at ds (phases_of_actors (with_actors_scanner w i (scanner_in z))) in
-        subst (OfScan w.segments (λ m told. LooksOn m (told ++ k ∷ []) p next (after q)))
-        (sym a.phase.1 ∙ same_Some a.state (Opened asked s) (sym a.there ∙ e))
-        (looks_on t.1 t.2 after scanner.Scanning scanner.Ready q p next
-        (ap (up_at ds) (scanner_kept w i (scanner_in scanner.Scanning) old read
-        (sym (scanner_read w i is old read).1)))
-        (ap (up_at ds) (scanner_moved w i (scanner_in scanner.Ready))) ends)))
+        subst (OfScan w.segments (λ m told. LooksOn m (told ++ k ∷ []) p next (after q))) (sym a.phase.1
+        ∙ same_Some a.state (Opened asked s) (sym a.there ∙ e)) (looks_on t.1 t.2 after scanner.Scanning scanner.Ready q
+        p next (ap (up_at ds) (scanner_kept w i (scanner_in scanner.Scanning) old read
+        (sym (scanner_read w i is old read).1))) (ap (up_at ds) (scanner_moved w i (scanner_in scanner.Ready))) ends)))

@@ -1,59 +1,36 @@
 -- The parts of a world that stay when one writer, one scanner or the history changes.
-use Rattle.std.proofs.Common.{◌≡◌, ◌≢◌, ℕ, ◌+◌, ◌^◌, ◌<◌, ◌≤◌, List, [], ◌∷◌, ◌++◌, length, take, get_or, Option, Some}
-use Rattle.std.proofs.Common.{slice_index, slice_get, refl, ap, sym, ◌∙◌, subst, arith}
-use Rattle.std.specs.Vec.{with_item}
-use Rattle.std.proofs.lemmas.{List.length-set, List.length_push, Option.slice_get_read, Option.same_Some}
-use Rattle.snap_history.specs.History.{Update, from_nothing, number_after, value_after, IsMemory}
+use Rattle.std.proofs.Common.{rules, ◌≡◌, ◌≢◌, ℕ, ◌+◌, ◌^◌, ◌<◌, ◌≤◌, List, [], ◌∷◌, ◌++◌, length, take, get_or, Option}
 use Rattle.snap_history.proofs.Moments.{number-push, number-push_other, value-push, value-push_other, take-push}
-use Rattle.snap_history.proofs.Moments.{number-le}
-use Rattle.snap_history.proofs.Pairs.{partner, Pairs-set, Pairs-right, Pairs-map}
-use Rattle.snap_scan.specs.declared.next.Next.TheVariants.{Look, Clean, Borrow}
-use Rattle.snap_scan.proofs.Collects.{Collects-none, Collects-same, IsMoment-same}
-use Rattle.snap_scan.specs.{Course.IsNext, Sets.named, Sets.size, declared.next.Next.Next}
-use Rattle.snap_scan.proofs.Sets.{all_at}
-use Rattle.snap_world.specs.Answers.{ScanState, scan_from, IsAnswer, number_at, value_at, all_of, set_of, numbers_of}
-use Rattle.snap_world.specs.Answers.{values_of}
-use Rattle.snap_world.specs.inside.Gathers.{Gathers, Gathered, IsSeen, picked, IsUnderWay, RegisterStands, IsView}
-use Rattle.snap_world.specs.inside.Gathers.{ViewStands}
-use Rattle.snap_world.specs.Machine.{State, WriterState, ScannerState, with_writer, with_scanner, with_update}
 use Rattle.snap_world.specs.inside.Stands.{HasBegun, WriterStands, ScannerStands, ActorsStand, IsAtPhase, IsScannerAt}
-use Rattle.snap_world.specs.inside.Stands.{is_fenced}
 use Rattle.snap_world.proofs.PhaseMoves.{writer_there, writer_read, scanner_read, with_actors_writer}
-use Rattle.snap_world.proofs.PhaseMoves.{with_actors_scanner}
-use Rattle.snap_world.specs.{Phases.WriterIs, declared.actors.Actors.Actors, declared.writer.Writer.Writer}
-use Rattle.snap_world.specs.{Phases.ScannerIs, inside.Steps.phases_of_actors, declared.scanner.Scanner.Scanner}
-use Rattle.snap_world.specs.{declared.register.Register.Register, declared.collector.Collector.Collector}
-use Rattle.snap_world.specs.{declared.writer.WriterPhase.WriterPhase, declared.scanner.ScannerPhase.ScannerPhase}
-use Rattle.snap_world.proofs.{Elements.each-set, Looks.number_now, Looks.first_look}
+use Rattle.std.proofs.Common.{Some, slice_get, refl, ap, sym, ◌∙◌, subst, arith}
+use Rattle.std.proofs.lemmas.{Option.slice_get_read, Option.same_Some, List.length-set, List.length_push}
+use Rattle.std.specs.Vec.{with_item}
+use Rattle.snap_history.specs.History.{Update, from_nothing, number_after, value_after, IsMemory}
+use Rattle.snap_history.proofs.{Pairs.partner, Pairs.Pairs-set, Pairs.Pairs-right, Pairs.Pairs-map, Moments.number-le}
+use Rattle.snap_scan.proofs.{Collects.Collects-none, Collects.Collects-same, Collects.IsMoment-same, Sets.all_at}
+use Rattle.snap_scan.specs.declared.next.Next.{TheVariants.Look, TheVariants.Clean, TheVariants.Borrow, Next}
+use Rattle.snap_scan.specs.{Course.IsNext, Sets.size}
+use Rattle.snap_world.specs.inside.Gathers.{Gathers, Gathered, IsSeen, IsUnderWay, RegisterStands, IsView, ViewStands}
+use Rattle.snap_world.specs.Machine.{State, WriterState, ScannerState, with_writer, with_scanner, with_update}
+use Rattle.snap_world.specs.Answers.{ScanState, scan_from, IsAnswer, number_at, value_at, all_of, set_of}
+use Rattle.snap_world.specs.declared.{scanner.ScannerPhase.ScannerPhase, writer.WriterPhase.WriterPhase}
+use Rattle.snap_world.specs.declared.{collector.Collector.Collector, register.Register.Register, actors.Actors.Actors}
+use Rattle.snap_world.{specs.declared.scanner.Scanner.Scanner, proofs.PhaseMoves.with_actors_scanner}
+use Rattle.snap_world.specs.{declared.writer.Writer.Writer, inside.Steps.phases_of_actors, inside.Stands.is_fenced}
+use Rattle.snap_world.{proofs.Looks.number_now, proofs.Looks.first_look, specs.Phases.WriterIs, specs.Phases.ScannerIs}
+use Rattle.snap_world.proofs.Elements.{each-set}
 use Rattle.snap_world.specs.declared.writer.WriterPhase.TheVariants as writer
 use Rattle.snap_world.specs.declared.scanner.ScannerPhase.TheVariants as scanner
 
 -- a scan that has read no number
-pub Gathers-none : (n set : ℕ) (h : List Update) (c : Collector) → 0 < size set → set < 2 ^ n
-    → c.scan.set ≡ set → c.scan.told ≡ [] → IsNext c.scan.set c.scan.told c.scan.next
-    → length c.memory.items ≡ n
+pub Gathers-none : (n set : ℕ) (h : List Update) (c : Collector) → 0 < size set → set < 2 ^ n → c.scan.set ≡ set
+    → c.scan.told ≡ [] → IsNext c.scan.set c.scan.told c.scan.next → length c.memory.items ≡ n
     → Gathers n set h (scan_from (length h)) c × IsUnderWay c
 Gathers-none n set h c some among set_is told next long =
     let next_is : IsNext set [] c.scan.next =
-    subst (λ L. IsNext set L c.scan.next) told
-    (subst (λ m. IsNext m c.scan.told c.scan.next) set_is next) in
-    let first = first_look set c.scan.next some next_is in (
-      record {
-        set_is = set_is;
-        among = among;
-        told = told;
-        next = next_is;
-        size = long;
-        start = omega arith;
-        end = omega arith;
-        gathered = subst (Gathered set h (scan_from (length h)) c.memory.items) (sym first.1) (
-          Collects-none (List ℕ) (size set) (numbers_of set h) (values_of set h) (length h)
-              (length h) (picked set c.memory.items),
-          refl,
-        );
-      },
-      first,
-    )
+    subst (λ L. IsNext set L c.scan.next) told (subst (λ m. IsNext m c.scan.told c.scan.next) set_is next) in
+    let first = first_look set c.scan.next some next_is in (search (rules, Collects-none))
 
 -- the part of a writer in phase p, and of a scanner
 pub record WriterFound (n : ℕ) (h : List Update) (g i : ℕ) (parts : List WriterState) (a : Writer)
@@ -74,30 +51,19 @@ pub record ScannerFound (n : ℕ) (h : List Update) (g i : ℕ) (parts : List Sc
 module _ (w : Actors) (x : State) (stands : ActorsStand w x) where
   -- a writer that is in a phase is a segment's
   pub within : (i : ℕ) {p : WriterPhase} → WriterIs (phases_of_actors w) i p → i < w.segments
-  within i is =
-      let there = writer_there w i is in
-      let size : length w.writers.items ≡ w.segments = stands.writers_n in
-      omega arith
+  within i is = search (rules, writer_there)
 
   -- the writer or the scanner that was read, which is in phase p, with the part that it represents
   pub the_writer : (i : ℕ) {p : WriterPhase} → WriterIs (phases_of_actors w) i p → (a : Writer)
-      → a ≡ get_or w.writers.items i a
-      → WriterFound w.segments x.history stands.since i x.writers a p
+      → a ≡ get_or w.writers.items i a → WriterFound w.segments x.history stands.since i x.writers a p
   the_writer i is a read =
       let here = writer_read w i is a read in
       let s = partner (WriterStands w.segments x.history stands.since) w.writers.items x.writers
       i a stands.writers here.0 in
-      record {
-        state = s.0;
-        there = s.1;
-        size = s.2.size;
-        fenced = s.2.fenced ∙ ap is_fenced here.1;
-        phase = subst (IsAtPhase w.segments x.history stands.since i a s.0) here.1 s.2.phase;
-      }
+      search rules
 
   pub the_scanner : (i : ℕ) {p : ScannerPhase} → ScannerIs (phases_of_actors w) i p → (a : Scanner)
-      → a ≡ get_or w.scanners.items i a
-      → ScannerFound w.segments x.history stands.since i x.scanners a p
+      → a ≡ get_or w.scanners.items i a → ScannerFound w.segments x.history stands.since i x.scanners a p
   the_scanner i is a read =
       let here = scanner_read w i is a read in
       let s = partner (ScannerStands w.segments x.history stands.since) w.scanners.items x.scanners
@@ -112,13 +78,11 @@ module _ (w : Actors) (x : State) (stands : ActorsStand w x) where
   -- the register of segment i
   pub the_register : (i : ℕ) (r : Register) → i < w.segments → r ≡ get_or w.registers.items i r
       → RegisterStands w.segments x.history i r
-  the_register i r l e = stands.registers.each i r
-      (slice_get_read w.registers.items w.segments i r (sym stands.registers.size) l e)
+  the_register i r l e = stands.registers.each i r (slice_get_read w.registers.items w.segments i r (search rules) l e)
 
   -- a writer whose view stayed
-  pub writer_moves : (i : ℕ) (a : Writer) (old s : WriterState) → i < w.segments
-      → slice_get x.writers i ≡ Some old → s.view ≡ old.view
-      → WriterStands w.segments x.history stands.since i a s
+  pub writer_moves : (i : ℕ) (a : Writer) (old s : WriterState) → i < w.segments → slice_get x.writers i ≡ Some old
+      → s.view ≡ old.view → WriterStands w.segments x.history stands.since i a s
       → ActorsStand (with_actors_writer w i a) (with_writer x i s)
   writer_moves i a old s l there same here =
       let size : length w.writers.items ≡ w.segments = stands.writers_n in
@@ -132,94 +96,45 @@ module _ (w : Actors) (x : State) (stands : ActorsStand w x) where
         registers = record {
           size = regs.size;
           each = regs.each;
-          views = Pairs-right (λ j r (z : WriterState).
-              ViewStands w.segments x.history stands.since j r z.view) w.registers.items x.writers i s
-              (omega arith) (λ r er. subst (ViewStands w.segments x.history stands.since i r) (sym same)
-              (regs.views.each i r old er there)) regs.views;
+          views = Pairs-right (λ j r (z : WriterState). ViewStands w.segments x.history stands.since j r z.view)
+              w.registers.items x.writers i s (omega arith) (λ r er. subst (ViewStands w.segments x.history stands.since
+              i r) (sym same) (regs.views.each i r old er there)) regs.views;
         };
         writers_n = length-set w.writers.items i a ∙ size;
-        writers = Pairs-set (WriterStands w.segments x.history stands.since)
-            (WriterStands w.segments x.history stands.since) w.writers.items x.writers i a s
-            (omega arith) (λ j c d ne r. r) here stands.writers;
+        writers = Pairs-set (WriterStands w.segments x.history stands.since) (WriterStands w.segments x.history
+            stands.since) w.writers.items x.writers i a s (omega arith) (λ j c d ne r. r) here stands.writers;
         scanners = stands.scanners;
       }
 
-  pub scanner_moves : (i : ℕ) (a : Scanner) (s : ScannerState) → i < length w.scanners.items
-      → ScannerStands w.segments x.history stands.since i a s
-      → ActorsStand (with_actors_scanner w i a) (with_scanner x i s)
-  scanner_moves i a s l here = record {
-    least = stands.least;
-    most = stands.most;
-    since = stands.since;
-    within = stands.within;
-    registers = record {
-      size = stands.registers.size;
-      each = stands.registers.each;
-      views = stands.registers.views;
-    };
-    writers_n = stands.writers_n;
-    writers = stands.writers;
-    scanners = Pairs-set (ScannerStands w.segments x.history stands.since)
-        (ScannerStands w.segments x.history stands.since) w.scanners.items x.scanners i a s l
-        (λ j c d ne r. r) here stands.scanners;
-  }
+  pub scanner_moves : (i : ℕ) (a : Scanner) (s : ScannerState) → i < length w.scanners.items → ScannerStands w.segments
+      x.history stands.since i a s → ActorsStand (with_actors_scanner w i a) (with_scanner x i s)
+  scanner_moves i a s l here = search (rules, Pairs-set)
 
 later : (h : List Update) (u : Update) (e : ℕ) → e ≤ length h → e ≤ length (h ++ u ∷ [])
 later h u e l = let y : length (h ++ u ∷ []) ≡ length h + 1 = length_push h u in omega arith
 
 -- the history grows by one update of segment u.segment
 module _ (h : List Update) (u : Update) where
-  numbers_stay : (e : ℕ) → e ≤ length h → (t i : ℕ) → t ≤ e
-      → number_at (h ++ u ∷ []) t i ≡ number_at h t i
-  numbers_stay e end t i l =
-      ap (λ g. number_after from_nothing g i) (take-push h u t (omega arith))
+  numbers_stay : (e : ℕ) → e ≤ length h → (t i : ℕ) → t ≤ e → number_at (h ++ u ∷ []) t i ≡ number_at h t i
+  numbers_stay e end t i l = ap (λ g. number_after from_nothing g i) (take-push h u t (omega arith))
 
-  values_stay : (e : ℕ) → e ≤ length h → (t i : ℕ) → t ≤ e
-      → value_at (h ++ u ∷ []) t i ≡ value_at h t i
+  values_stay : (e : ℕ) → e ≤ length h → (t i : ℕ) → t ≤ e → value_at (h ++ u ∷ []) t i ≡ value_at h t i
   values_stay e end t i l = ap (λ g. value_after from_nothing g i) (take-push h u t (omega arith))
 
   module _ (set : ℕ) (s : ScanState) (end : s.last ≤ length h) where
     IsAnswer-grow : (memory : List (List ℕ)) → IsAnswer set h s (IsSeen set h memory)
         → IsAnswer set (h ++ u ∷ []) s (IsSeen set (h ++ u ∷ []) memory)
-    IsAnswer-grow memory a =
-        let until : a.p ≤ s.last = a.is_moment.until in
-        record {
-          p = a.p;
-          moment = a.moment;
-          is_moment = IsMoment-same (size set) (numbers_of set h) (numbers_of set (h ++ u ∷ []))
-              s.start s.last s.told a.p
-              (λ t place l. numbers_stay s.last end t (slice_index (named set) place) l)
-              a.is_moment;
-          is = λ place i at. a.is place i at
-              ∙ ap (λ v. Some v) (sym (values_stay s.last end a.p i until));
-        }
+    IsAnswer-grow memory a = search (rules, IsMoment-same, numbers_stay, values_stay)
 
     Gathered-grow : (memory : List (List ℕ)) (v : Next) → Gathered set h s memory v
         → Gathered set (h ++ u ∷ []) s memory v
-    Gathered-grow memory (Look j) g = (
-      Collects-same (List ℕ) (size set) (numbers_of set h) (values_of set h) s.start s.last s.told
-          (picked set memory) g.0
-          (numbers_of set (h ++ u ∷ [])) (values_of set (h ++ u ∷ []))
-          (λ t place l. numbers_stay s.last end t (slice_index (named set) place) l)
-          (λ t place l. values_stay s.last end t (slice_index (named set) place) l),
-      g.1,
-    )
+    Gathered-grow memory (Look j) g = search (rules, Collects-same, numbers_stay, values_stay)
     Gathered-grow memory Clean g = IsAnswer-grow memory g
     Gathered-grow memory (Borrow j) g = IsAnswer-grow memory g
 
   module _ (n : ℕ) where
-    Gathers-grow : (set : ℕ) (s : ScanState) (c : Collector) → Gathers n set h s c
-        → Gathers n set (h ++ u ∷ []) s c
-    Gathers-grow set s c g = record {
-      set_is = g.set_is;
-      among = g.among;
-      told = g.told;
-      next = g.next;
-      size = g.size;
-      start = g.start;
-      end = later h u s.last g.end;
-      gathered = Gathered-grow set s g.end c.memory.items c.scan.next g.gathered;
-    }
+    Gathers-grow : (set : ℕ) (s : ScanState) (c : Collector) → Gathers n set h s c → Gathers n set (h ++ u ∷ []) s c
+    Gathers-grow set s c g = search (rules, later, Gathered-grow)
 
     module _ (since i : ℕ) (w : Writer) (s : WriterState) (ne : u.segment ≢ i) where
       HasBegun-grow : HasBegun n h since i w.value w.collector s
@@ -232,54 +147,36 @@ module _ (h : List Update) (u : Update) where
             pending = g.pending;
             fits = g.fits;
             room = subst (λ x. x + 1 < 2 ^ 63) (sym same) g.room;
-            own = numbers_stay s.scan.last g.gathers.end s.scan.start i g.gathers.start ∙ g.own
-                ∙ sym same;
+            own = numbers_stay s.scan.last g.gathers.end s.scan.start i g.gathers.start ∙ g.own ∙ sym same;
             gathers = Gathers-grow (all_of n) s.scan w.collector g.gathers;
           }
 
-      phase-grow : (p : WriterPhase) → IsAtPhase n h since i w s p
-          → IsAtPhase n (h ++ u ∷ []) since i w s p
+      phase-grow : (p : WriterPhase) → IsAtPhase n h since i w s p → IsAtPhase n (h ++ u ∷ []) since i w s p
       phase-grow writer.Idle g = g
       phase-grow writer.Scanning g = (HasBegun-grow g.0, g.1)
-      phase-grow writer.Storing g =
-          (HasBegun-grow g.0, IsAnswer-grow (all_of n) s.scan g.0.gathers.end w.collector.memory.items g.1)
-      phase-grow writer.Stored g =
-          (HasBegun-grow g.0, IsAnswer-grow (all_of n) s.scan g.0.gathers.end w.collector.memory.items g.1)
+      phase-grow writer.Storing g = search (rules, HasBegun-grow, IsAnswer-grow)
+      phase-grow writer.Stored g = search (rules, HasBegun-grow, IsAnswer-grow)
       phase-grow writer.Shown g = g
       phase-grow writer.Fenced g = g
 
       WriterStands-grow : WriterStands n h since i w s → WriterStands n (h ++ u ∷ []) since i w s
-      WriterStands-grow g =
-          record { size = g.size; fenced = g.fenced; phase = phase-grow w.phase g.phase }
+      WriterStands-grow g = record { size = g.size; fenced = g.fenced; phase = phase-grow w.phase g.phase }
 
     module _ (since i : ℕ) (c : Scanner) (s : ScannerState) where
-      scanner_phase-grow : (p : ScannerPhase) → IsScannerAt n h since c s p
-          → IsScannerAt n (h ++ u ∷ []) since c s p
+      scanner_phase-grow : (p : ScannerPhase) → IsScannerAt n h since c s p → IsScannerAt n (h ++ u ∷ []) since c s p
       scanner_phase-grow scanner.Idle g = g
-      scanner_phase-grow scanner.Scanning g =
-          (g.0, g.1, g.2, Gathers-grow (set_of n c.asked) g.0 c.collector g.3, g.4)
-      scanner_phase-grow scanner.Ready g =
-          (g.0, g.1, later h u g.0.last g.2, IsAnswer-grow (set_of n c.asked) g.0 g.2 c.collector.memory.items g.3)
+      scanner_phase-grow scanner.Scanning g = (g.0, g.1, g.2, Gathers-grow (set_of n c.asked) g.0 c.collector g.3, g.4)
+      scanner_phase-grow scanner.Ready g = search (rules, later, IsAnswer-grow)
 
       ScannerStands-grow : ScannerStands n h since i c s → ScannerStands n (h ++ u ∷ []) since i c s
       ScannerStands-grow g = record { size = g.size; phase = scanner_phase-grow c.phase g.phase }
 
     module _ (i : ℕ) (r : Register) where
-      RegisterStands-grow : u.segment ≢ i → RegisterStands n h i r
-          → RegisterStands n (h ++ u ∷ []) i r
-      RegisterStands-grow ne g = record {
-        number = g.number ∙ sym (number-push_other from_nothing h u i ne);
-        value = g.value ∙ sym (value-push_other from_nothing h u i ne);
-        size = g.size;
-      }
+      RegisterStands-grow : u.segment ≢ i → RegisterStands n h i r → RegisterStands n (h ++ u ∷ []) i r
+      RegisterStands-grow ne g = search (rules, number-push_other, value-push_other)
 
       IsView-grow : (p : ℕ) → IsView n h i r p → IsView n (h ++ u ∷ []) i r p
-      IsView-grow p v = record {
-        until = later h u p v.until;
-        before = ap (λ k. k + 1) (numbers_stay p v.until p i (omega arith)) ∙ v.before;
-        is_memory = subst (λ g. IsMemory n from_nothing g r.view.items)
-            (sym (take-push h u p v.until)) v.is_memory;
-      }
+      IsView-grow p v = search (rules, later, numbers_stay, take-push)
 
       ViewStands-grow : (since : ℕ) (view : Option ℕ) → since ≤ length h
           → ViewStands n h since i r view → ViewStands n (h ++ u ∷ []) since i r view
@@ -294,19 +191,13 @@ module _ (h : List Update) (u : Update) where
           → ViewStands n (h ++ u ∷ []) since i r s.view
       shown_view since s p is view = record {
         kept = λ above. (p, is);
-        is_view = λ q e. subst (IsView n (h ++ u ∷ []) i r) (same_Some p q (sym is ∙ e))
-            (IsView-grow p view);
+        is_view = λ q e. subst (IsView n (h ++ u ∷ []) i r) (same_Some p q (sym is ∙ e)) (IsView-grow p view);
       }
 
 -- its register has the next number and its value
-pub shown_register : (n : ℕ) (h : List Update) (u : Update) (r : Register)
-    → r.number ≡ number_after from_nothing h u.segment + 1 → r.value ≡ u.value
-    → length r.view.items ≡ n → RegisterStands n (h ++ u ∷ []) u.segment r
-shown_register n h u r number value size = record {
-  number = number ∙ sym (number-push from_nothing h u);
-  value = value ∙ sym (value-push from_nothing h u);
-  size = size;
-}
+pub shown_register : (n : ℕ) (h : List Update) (u : Update) (r : Register) → r.number ≡ number_after from_nothing h
+    u.segment + 1 → r.value ≡ u.value → length r.view.items ≡ n → RegisterStands n (h ++ u ∷ []) u.segment r
+shown_register n h u r number value size = search (rules, number-push, value-push)
 
 module _ (w : Actors) (x : State) (stands : ActorsStand w x) (i : ℕ) (v : List ℕ) where
   -- the update, and the history with it
@@ -316,9 +207,8 @@ module _ (w : Actors) (x : State) (stands : ActorsStand w x) (i : ℕ) (v : List
   abbrev pub grown : List Update
   grown = x.history ++ record { segment = i; value = v } ∷ []
 
-  pub world_shows : (r : Register) (a : Writer) (s : WriterState) → i < w.segments
-      → RegisterStands w.segments grown i r → ViewStands w.segments grown stands.since i r s.view
-      → WriterStands w.segments grown stands.since i a s
+  pub world_shows : (r : Register) (a : Writer) (s : WriterState) → i < w.segments → RegisterStands w.segments grown i r
+      → ViewStands w.segments grown stands.since i r s.view → WriterStands w.segments grown stands.since i a s
       → ActorsStand (record w {
         registers = with_item w.registers i r;
         writers = with_item w.writers i a;
@@ -335,29 +225,24 @@ module _ (w : Actors) (x : State) (stands : ActorsStand w x) (i : ℕ) (v : List
         within = later x.history the_update stands.since stands.within;
         registers = record {
           size = length-set w.registers.items i r ∙ many;
-          each = each-set (RegisterStands w.segments grown) w.registers.items i r here_r
-              (λ j c ne e. RegisterStands-grow x.history the_update w.segments j c (λ f. ne (sym f))
-              (stands.registers.each j c e));
+          each = each-set (RegisterStands w.segments grown) w.registers.items i r here_r (λ j c ne e.
+              RegisterStands-grow x.history the_update w.segments j c (λ f. ne (sym f)) (stands.registers.each j c e));
           views = Pairs-set (View x.history) (View grown) w.registers.items x.writers i r s
-              (omega arith)
-              (λ j c d ne g. ViewStands-grow x.history the_update w.segments j c stands.since d.view
+              (omega arith) (λ j c d ne g. ViewStands-grow x.history the_update w.segments j c stands.since d.view
               stands.within g) here_v stands.registers.views;
         };
         writers_n = length-set w.writers.items i a ∙ size;
-        writers = Pairs-set (WriterStands w.segments x.history stands.since)
-            (WriterStands w.segments grown stands.since) w.writers.items x.writers i a s (omega arith)
-            (λ j c d ne g. WriterStands-grow x.history the_update w.segments stands.since j c d
-            (λ f. ne (sym f)) g) here_a stands.writers;
+        writers = Pairs-set (WriterStands w.segments x.history stands.since) (WriterStands w.segments grown
+            stands.since) w.writers.items x.writers i a s (omega arith) (λ j c d ne g. WriterStands-grow x.history
+            the_update w.segments stands.since j c d (λ f. ne (sym f)) g) here_a stands.writers;
         scanners = Pairs-map (ScannerStands w.segments x.history stands.since)
             (ScannerStands w.segments grown stands.since) w.scanners.items x.scanners
-            (λ j c d g. ScannerStands-grow x.history the_update w.segments stands.since j c d g)
-            stands.scanners;
+            (λ j c d g. ScannerStands-grow x.history the_update w.segments stands.since j c d g) stands.scanners;
       }
 
 -- a scan whose machine has no look to make has its answer
 pub answered : (set : ℕ) (h : List Update) (s : ScanState) (memory : List (List ℕ)) (v : Next)
-    → ((j : ℕ) → v ≡ Look j → ⊥) → Gathered set h s memory v
-    → IsAnswer set h s (IsSeen set h memory)
+    → ((j : ℕ) → v ≡ Look j → ⊥) → Gathered set h s memory v → IsAnswer set h s (IsSeen set h memory)
 answered set h s memory (Look j) done g = absurd (done j refl)
 answered set h s memory Clean done g = g
 answered set h s memory (Borrow j) done g = g
@@ -365,19 +250,16 @@ answered set h s memory (Borrow j) done g = g
 -- what was seen of all segments is the memory
 pub whole : (n : ℕ) (h : List Update) (memory : List (List ℕ)) (p : ℕ) → n ≤ 16
     → length memory ≡ n → IsSeen (all_of n) h memory p → IsMemory n from_nothing (take p h) memory
-whole n h memory p most long seen =
-    record { size = long; values = λ i l. seen i i (all_at n most i l) }
+whole n h memory p most long seen = record { size = long; values = λ i l. seen i i (all_at n most i l) }
 
 -- the moment of the answer is after the writer's update before, and the writer has had no update since
 pub own_moment : (n : ℕ) (h : List Update) (since i : ℕ) (a : Writer) (s : WriterState)
     (begun : HasBegun n h since i a.value a.collector s) (p : ℕ) → s.scan.start ≤ p → p ≤ s.scan.last
     → number_at h p i ≡ number_after from_nothing h i
 own_moment n h since i a s begun p lo hi =
-    let x : number_at h s.scan.start i ≤ number_at h p i =
-    number-le from_nothing h i s.scan.start p lo in
+    let x : number_at h s.scan.start i ≤ number_at h p i = number-le from_nothing h i s.scan.start p lo in
     let end : s.scan.last ≤ length h = begun.gathers.end in
-    let y : number_at h p i ≤ number_at h (length h) i =
-    number-le from_nothing h i p (length h) (omega arith) in
+    let y : number_at h p i ≤ number_at h (length h) i = number-le from_nothing h i p (length h) (omega arith) in
     let z : number_at h (length h) i ≡ number_after from_nothing h i = number_now h i in
     let v : number_at h s.scan.start i ≡ number_after from_nothing h i = begun.own in
     omega arith

@@ -1,26 +1,22 @@
 -- Idle actors: those of a new world, and those after a restart.
-use Rattle.std.proofs.Common.{◌≡◌, ℕ, ◌<◌, ◌≤◌, length, map, replicate, Some, None, slice_get, ap, sym, ◌∙◌, subst}
-use Rattle.std.proofs.Common.{arith}
+use Rattle.std.proofs.Common.{rules, ◌≡◌, ℕ, ◌<◌, ◌≤◌, length, Some, None, slice_get, ap, sym, ◌∙◌, subst, arith}
 use Rattle.std.proofs.lemmas.List.{length-replicate}
 use Rattle.snap_history.{specs.History.from_nothing, specs.History.number_after, proofs.Lists.get-replicate}
-use Rattle.snap_world.specs.Machine.{State, WriterState, ScannerState, Closed, resting}
-use Rattle.snap_world.specs.inside.Stands.{ActorsStand, IsAtPhase, IsScannerAt, is_fenced}
 use Rattle.snap_world.specs.inside.Fresh.{Each, IsFreshRegister, IsFreshWriter, IsFreshScanner}
-use Rattle.snap_world.specs.inside.NodeStands.{IsSized, ActorsRest}
-use Rattle.snap_world.specs.{inside.Gathers.RegisterStands, Answers.number_at, Start.start_state, Start.start_phases}
-use Rattle.snap_world.specs.{inside.Steps.phases_of_actors, declared.register.Register.Register}
-use Rattle.snap_world.specs.declared.{actors.Actors.Actors, writer.Writer.Writer, scanner.Scanner.Scanner}
+use Rattle.snap_world.specs.inside.Stands.{ActorsStand, IsAtPhase, IsScannerAt, is_fenced}
+use Rattle.snap_world.specs.Machine.{State, WriterState, ScannerState, Closed, resting}
+use Rattle.snap_world.specs.{inside.NodeStands.IsSized, inside.NodeStands.ActorsRest, declared.scanner.Scanner.Scanner}
+use Rattle.snap_world.specs.{declared.register.Register.Register, Start.start_state, Start.start_phases}
+use Rattle.snap_world.specs.{inside.Gathers.RegisterStands, inside.Steps.phases_of_actors, Answers.number_at}
+use Rattle.snap_world.specs.declared.{actors.Actors.Actors, writer.Writer.Writer}
 use Rattle.snap_world.proofs.{Elements.all_same, Looks.number_now}
 use Rattle.snap_world.specs.declared.writer.WriterPhase.TheVariants as writer
 use Rattle.snap_world.specs.declared.scanner.ScannerPhase.TheVariants as scanner
 
 -- idle actors, whose registers have what the history says, represent it: nothing was shown since now
-pub idle_stand : (w : Actors) (x : State) → ActorsRest w x
-    → ((i : ℕ) (r : Register) → slice_get w.registers.items i ≡ Some r
-    → RegisterStands w.segments x.history i r)
-    → ((i : ℕ) (s : WriterState) → slice_get x.writers i ≡ Some s → resting ≡ s)
-    → ((i : ℕ) (s : ScannerState) → slice_get x.scanners i ≡ Some s → Closed ≡ s)
-    → ActorsStand w x
+pub idle_stand : (w : Actors) (x : State) → ActorsRest w x → ((i : ℕ) (r : Register) → slice_get w.registers.items i
+    ≡ Some r → RegisterStands w.segments x.history i r) → ((i : ℕ) (s : WriterState) → slice_get x.writers i ≡ Some s
+    → resting ≡ s) → ((i : ℕ) (s : ScannerState) → slice_get x.scanners i ≡ Some s → Closed ≡ s) → ActorsStand w x
 idle_stand w x rest registers writers scanners =
     let is : IsSized w x = rest.sized in
     let h = x.history in
@@ -58,50 +54,19 @@ idle_stand w x rest registers writers scanners =
         size = is.scanners;
         each = λ i a s ea es. record {
           size = is.scanners_memory i a ea;
-          phase = subst (IsScannerAt w.segments h (length h) a s) (sym (rest.scanners i a ea))
-              (sym (scanners i s es));
+          phase = subst (IsScannerAt w.segments h (length h) a s) (sym (rest.scanners i a ea)) (sym (scanners i s es));
         };
       };
     }
 
-pub starts : (w : Actors) (scanners : ℕ) → 0 < w.segments → w.segments ≤ 16
-    → length w.registers.items ≡ w.segments → length w.writers.items ≡ w.segments
-    → length w.scanners.items ≡ scanners
-    → Each (IsFreshRegister w.segments) w.registers.items
-    → Each (IsFreshWriter w.segments) w.writers.items
-    → Each (IsFreshScanner w.segments) w.scanners.items
-    → ActorsStand w (start_state w.segments scanners)
-starts w count least most nr nw ns regs writers scanners =
-    idle_stand w (start_state w.segments count) (record {
-      sized = record {
-        least = least;
-        most = most;
-        registers_n = nr;
-        views_n = λ i r e. (regs i r e).size;
-        writers_n = nw;
-        writers = nw ∙ sym (length-replicate w.segments _);
-        writers_memory = λ i a e. (writers i a e).size;
-        scanners = ns ∙ sym (length-replicate count _);
-        scanners_memory = λ i a e. (scanners i a e).size;
-      };
-      writers = λ i a e. (writers i a e).phase;
-      scanners = λ i a e. (scanners i a e).phase;
-    })
-    (λ i r e. record {
-      number = (regs i r e).number;
-      value = (regs i r e).value;
-      size = (regs i r e).size;
-    })
-    (λ i s e. get-replicate w.segments i _ s e) (λ i s e. get-replicate count i _ s e)
+pub starts : (w : Actors) (scanners : ℕ) → 0 < w.segments → w.segments ≤ 16 → length w.registers.items ≡ w.segments
+    → length w.writers.items ≡ w.segments → length w.scanners.items ≡ scanners
+    → Each (IsFreshRegister w.segments) w.registers.items → Each (IsFreshWriter w.segments) w.writers.items
+    → Each (IsFreshScanner w.segments) w.scanners.items → ActorsStand w (start_state w.segments scanners)
+starts w count least most nr nw ns regs writers scanners = search (rules, idle_stand, length-replicate, get-replicate)
 
 -- if all actors are idle
 pub phases_idle : (w : Actors) (segments count : ℕ) → length w.writers.items ≡ segments
     → length w.scanners.items ≡ count → Each (λ (a : Writer). a.phase ≡ writer.Idle) w.writers.items
-    → Each (λ (c : Scanner). c.phase ≡ scanner.Idle) w.scanners.items
-    → phases_of_actors w ≡ start_phases segments count
-phases_idle w segments count nw ns writers scanners =
-    let a : map (λ v. v.phase) w.writers.items ≡ replicate segments writer.Idle =
-    all_same (λ v. v.phase) writer.Idle w.writers.items segments nw writers in
-    let b : map (λ v. v.phase) w.scanners.items ≡ replicate count scanner.Idle =
-    all_same (λ v. v.phase) scanner.Idle w.scanners.items count ns scanners in
-    cc
+    → Each (λ (c : Scanner). c.phase ≡ scanner.Idle) w.scanners.items → phases_of_actors w ≡ start_phases segments count
+phases_idle w segments count nw ns writers scanners = search (rules, all_same)

@@ -1,12 +1,12 @@
 -- Reading and moving the phases of the actors.
-use Rattle.std.proofs.Common.{◌≡◌, ℕ, ◌<◌, List, length, get_or, Some, slice_get, ap, ◌∙◌, arith}
-use Rattle.std.specs.Vec.{vec_len, with_item}
-use Rattle.std.proofs.{Math.Seq.map-set_same, lemmas.List.map-set, lemmas.List.length-map}
-use Rattle.snap_world.specs.{Machine.State, inside.Stands.ActorsStand, inside.Steps.phases_of_actors}
-use Rattle.snap_world.specs.Phases.{Phases, WriterIs, ScannerIs, writer_to, scanner_to}
-use Rattle.snap_world.specs.declared.{actors.Actors.Actors, writer.Writer.Writer, writer.WriterPhase.WriterPhase}
-use Rattle.snap_world.specs.declared.{scanner.Scanner.Scanner, scanner.ScannerPhase.ScannerPhase}
-use Rattle.snap_world.proofs.Elements.{map_within, map_read}
+use Rattle.std.proofs.Common.{rules, ◌≡◌, ℕ, ◌<◌, length, get_or, Some, slice_get, ◌∙◌, arith}
+use Rattle.std.{proofs.lemmas.List.map-set, proofs.lemmas.List.length-map, specs.Vec.vec_len, specs.Vec.with_item}
+use Rattle.std.proofs.Math.Seq.{map-set_same}
+use Rattle.snap_world.specs.{Phases.WriterIs, Phases.ScannerIs, Phases.writer_to, Phases.scanner_to, Machine.State}
+use Rattle.snap_world.specs.declared.{scanner.ScannerPhase.ScannerPhase, writer.WriterPhase.WriterPhase}
+use Rattle.snap_world.{specs.declared.scanner.Scanner.Scanner, proofs.Elements.map_within, proofs.Elements.map_read}
+use Rattle.snap_world.specs.{inside.Steps.phases_of_actors, declared.actors.Actors.Actors, inside.Stands.ActorsStand}
+use Rattle.snap_world.specs.declared.writer.Writer.{Writer}
 
 -- the actors with one writer, or one scanner, changed
 abbrev pub with_actors_writer : Actors → ℕ → Writer → Actors
@@ -39,29 +39,20 @@ module _ (w : Actors) (i : ℕ) where
   -- the phases after one writer or one scanner has moved, or has kept its phase
   pub writer_moved : (a : Writer)
       → phases_of_actors (with_actors_writer w i a) ≡ writer_to (phases_of_actors w) i a.phase
-  writer_moved a =
-      let Made : List WriterPhase → Phases = λ v. record (phases_of_actors w) { writers = v } in
-      ap Made (map-set (λ v. v.phase) w.writers.items i a)
+  writer_moved a = search (rules, map-set)
 
   pub writer_kept : (a old : Writer) → old ≡ get_or w.writers.items i old → a.phase ≡ old.phase
       → phases_of_actors (with_actors_writer w i a) ≡ phases_of_actors w
-  writer_kept a old read e =
-      let Made : List WriterPhase → Phases = λ v. record (phases_of_actors w) { writers = v } in
-      ap Made (map-set_same (λ v. v.phase) w.writers.items i a old (e ∙ ap (λ v. v.phase) read))
+  writer_kept a old read e = search (rules, map-set_same)
 
   pub scanner_moved : (a : Scanner)
       → phases_of_actors (with_actors_scanner w i a) ≡ scanner_to (phases_of_actors w) i a.phase
-  scanner_moved a =
-      let Made : List ScannerPhase → Phases = λ v. record (phases_of_actors w) { scanners = v } in
-      ap Made (map-set (λ v. v.phase) w.scanners.items i a)
+  scanner_moved a = search (rules, map-set)
 
   pub scanner_kept : (a old : Scanner) → old ≡ get_or w.scanners.items i old → a.phase ≡ old.phase
       → phases_of_actors (with_actors_scanner w i a) ≡ phases_of_actors w
-  scanner_kept a old read e =
-      let Made : List ScannerPhase → Phases = λ v. record (phases_of_actors w) { scanners = v } in
-      ap Made (map-set_same (λ v. v.phase) w.scanners.items i a old (e ∙ ap (λ v. v.phase) read))
+  scanner_kept a old read e = search (rules, map-set_same)
 
 -- each segment has a writer
-pub writers_phases : (w : Actors) (x : State) → ActorsStand w x
-    → length (phases_of_actors w).writers ≡ w.segments
+pub writers_phases : (w : Actors) (x : State) → ActorsStand w x → length (phases_of_actors w).writers ≡ w.segments
 writers_phases w x stands = length-map w.writers.items (λ v. v.phase) ∙ stands.writers_n

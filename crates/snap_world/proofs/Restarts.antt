@@ -1,34 +1,33 @@
 -- A crash, and the calls of a restart, as steps of the node.
-use Rattle.std.proofs.Common.{◌≡◌, ℕ, ◌+◌, ◌<◌, ◌≤◌, inl, inr, ⊎_elim, List, length, map, Some, slice_get, ap, sym, ◌∙◌}
-use Rattle.std.proofs.Common.{subst, arith, true, false, get_or, slice_set, refl}
-use Rattle.std.proofs.{Math.Logic.∥∥₁_elim, Math.Logic.∥∥₁_map, Props.props, lemmas.List.length-map}
-use Rattle.std.proofs.{lemmas.List.length-set, Math.Seq.map-set_same, lemmas.Bool.Decides.nat_tests}
-use Rattle.std.specs.{Prelude.option_map, Prelude.nat_lt, Prelude.if◌then◌else◌, Vec.with_item, Vec.vec_len}
-use Rattle.std.proofs.lemmas.Option.{slice_get-map, slice_get_within, slice_get_read}
-use Rattle.snap_disk.specs.Device.{Device, MayLeave, IsSettled, IsSynced}
-use Rattle.snap_disk.{specs.Laws.unsynced_leaves, specs.Laws.synced_leaves, specs.declared.fill.Fill.Fill}
-use Rattle.snap_slot.{specs.States.IsEither, proofs.Rest.at_rest_leaves, specs.Findings.IsFound, specs.Layout.IsFileOf}
-use Rattle.snap_persist.{proofs.Stages.stage_leaves, specs.Stage.PersistState, specs.Stage.calls_left}
-use Rattle.snap_history.specs.History.{Update, from_nothing, number_after, value_after}
-use Rattle.snap_history.{specs.Pairs.Pairs, proofs.Pairs.element, proofs.Pairs.partner, proofs.Lists.get-set_other}
-use Rattle.snap_world.specs.Devices.{AreRefilled, IsRefilled, DevicesMove, GatesTold}
-use Rattle.snap_world.specs.{inside.Steps.phases_of_actors, inside.Fresh.IsHalted, inside.Fresh.IsScannerHalted}
-use Rattle.snap_world.specs.NodePhases.{all_idle, node_to, after_opening_call, MayCome, PhasesMove}
-use Rattle.snap_world.specs.inside.NodeSteps.{store_left, IsNodeStep, phases_of_node, devices_of_node}
-use Rattle.snap_world.specs.inside.Drives.{IsDriveAt, DrivesDown, HoldsEither, IsCrashed, AreCrashed, device_of}
+use Rattle.std.proofs.Common.{rules, ◌≡◌, ℕ, ◌+◌, ◌<◌, ◌≤◌, inl, inr, ⊎_elim, List, length, map, Some, slice_get, ap}
 use Rattle.snap_world.specs.Machine.{State, WriterState, Pending, Begun, Closed, crashed, crashed_pending}
-use Rattle.snap_world.specs.Machine.{crashed_writer, Step}
 use Rattle.snap_world.specs.inside.NodeStands.{NodeStand, IsSized, ActorsRest, IsUp, IsDown, IsNodeAt, NodeStands}
-use Rattle.snap_world.specs.inside.NodeStands.{IsRecovering, IsRestarting}
+use Rattle.snap_world.specs.inside.Drives.{IsDriveAt, DrivesDown, HoldsEither, IsCrashed, AreCrashed, device_of}
+use Rattle.snap_world.specs.inside.NodeSteps.{store_left, IsNodeStep, phases_of_node, devices_of_node}
+use Rattle.snap_world.specs.NodePhases.{all_idle, node_to, after_opening_call, MayCome, PhasesMove}
 use Rattle.snap_world.specs.inside.Stands.{ActorsStand, WriterStands, ScannerStands, IsAtPhase}
-use Rattle.snap_world.specs.declared.{drive.Drive.Drive, node.Node.Node, node.NodePhase.NodePhase, actors.Actors.Actors}
-use Rattle.snap_world.specs.declared.{writer.Writer.Writer, node.OpeningCall.OpeningCall, event.Event.Event}
-use Rattle.snap_world.specs.declared.{event.Reply.Reply, writer.WriterPhase.WriterPhase}
 use Rattle.snap_world.specs.declared.node.NodePhase.TheVariants.{Up, Down, Restarting, Ready}
-use Rattle.snap_world.proofs.Elements.{map_element, map_same, origin, each-set}
-use Rattle.snap_world.proofs.{NewWorld.phases_idle, Events.same_phases, Events.device_changes}
-use Rattle.snap_world.specs.declared.event.Event.TheVariants.{RestartCall, RestartFail}
 use Rattle.snap_world.specs.declared.event.Reply.TheVariants.{Called, DeviceFailed, NotNow}
+use Rattle.snap_world.specs.declared.event.Event.{TheVariants.RestartCall, TheVariants.RestartFail, Event}
+use Rattle.snap_world.specs.Devices.{AreRefilled, IsRefilled, DevicesMove, GatesTold}
+use Rattle.snap_world.proofs.Elements.{map_element, map_same, origin, each-set}
+use Rattle.snap_world.specs.inside.{NodeStands.IsRecovering, NodeStands.IsRestarting, Steps.phases_of_actors}
+use Rattle.snap_world.proofs.{Events.steps, Events.same_phases, Events.device_changes, NewWorld.phases_idle}
+use Rattle.snap_world.specs.declared.{writer.WriterPhase.WriterPhase, node.NodePhase.NodePhase, actors.Actors.Actors}
+use Rattle.snap_world.specs.{inside.Fresh.IsHalted, inside.Fresh.IsScannerHalted, declared.node.OpeningCall.OpeningCall}
+use Rattle.snap_world.specs.{declared.writer.Writer.Writer, Machine.crashed_writer, Machine.Step}
+use Rattle.snap_world.specs.declared.{drive.Drive.Drive, event.Reply.Reply, node.Node.Node}
+use Rattle.std.proofs.lemmas.Option.{slice_get-map, slice_get_within, slice_get_read}
+use Rattle.std.proofs.Common.{sym, ◌∙◌, subst, arith, get_or, slice_set, refl}
+use Rattle.std.proofs.{lemmas.List.length-map, lemmas.List.length-set, lemmas.Bool.Decides.nat_tests, Props.props}
+use Rattle.std.proofs.Math.{Logic.∥∥₁_elim, Logic.∥∥₁_map, Seq.map-set_same}
+use Rattle.std.specs.{Vec.with_item, Vec.vec_len, Prelude.option_map}
+use Rattle.snap_disk.specs.{Device.Device, Device.MayLeave, Device.IsSettled, Device.IsSynced, declared.fill.Fill.Fill}
+use Rattle.snap_disk.specs.Laws.{unsynced_leaves, synced_leaves}
+use Rattle.snap_slot.{proofs.Rest.at_rest_leaves, specs.Findings.IsFound, specs.States.IsEither, specs.Layout.IsFileOf}
+use Rattle.snap_persist.{specs.Stage.PersistState, specs.Stage.calls_left, proofs.Stages.stage_leaves}
+use Rattle.snap_history.specs.History.{Update, from_nothing, number_after, value_after}
+use Rattle.snap_history.{proofs.Pairs.element, proofs.Pairs.partner, proofs.Lists.get-set_other, specs.Pairs.Pairs}
 use Rattle.snap_world.specs.declared.node.OpeningCall.TheVariants as opening
 use Rattle.snap_world.specs.declared.writer.WriterPhase.TheVariants as writer
 use Rattle.snap_world.specs.declared.event.Kind.TheVariants as kind
@@ -44,20 +43,14 @@ module _ (n : ℕ) (h : List Update) (g i : ℕ) (a : Writer) (s : WriterState) 
 
   begun_either : (v : List ℕ) → s.pending ≡ Begun v → (b : List ℕ) → IsEither i n k u v b
       → HoldsEither i n k u (crashed_pending s.pending) b
-  begun_either v begun b either =
-      ⊎_elim (λ old. inl old) (λ new. inr (v, ap crashed_pending begun, new)) either
+  begun_either v begun b either = ⊎_elim (λ old. inl old) (λ new. inr (v, ap crashed_pending begun, new)) either
 
-  phase_leaves : (phase : WriterPhase) → IsAtPhase n h g i a s phase
-      → IsDriveAt i n k u phase s.pending d persist → (b : List ℕ) → MayLeave d b
-      → HoldsEither i n k u (crashed_pending s.pending) b
-  phase_leaves writer.Idle at drive b left =
-      inl (at_rest_leaves i n k u drive.spare_open d drive.rest b left)
-  phase_leaves writer.Scanning at drive b left =
-      inl (at_rest_leaves i n k u drive.spare_open d drive.rest b left)
-  phase_leaves writer.Storing at drive b left =
-      begun_either a.value at.0.pending b
-      (stage_leaves i n k u a.value at.0.room at.0.fits persist.stage d
-      (drive a.value at.0.pending).at_stage b left)
+  phase_leaves : (phase : WriterPhase) → IsAtPhase n h g i a s phase → IsDriveAt i n k u phase s.pending d persist
+      → (b : List ℕ) → MayLeave d b → HoldsEither i n k u (crashed_pending s.pending) b
+  phase_leaves writer.Idle at drive b left = inl (at_rest_leaves i n k u drive.spare_open d drive.rest b left)
+  phase_leaves writer.Scanning at drive b left = inl (at_rest_leaves i n k u drive.spare_open d drive.rest b left)
+  phase_leaves writer.Storing at drive b left = begun_either a.value at.0.pending b
+      (stage_leaves i n k u a.value at.0.room at.0.fits persist.stage d (drive a.value at.0.pending).at_stage b left)
   phase_leaves writer.Stored at drive b left =
       let ready = drive a.value at.0.pending in
       inr (
@@ -65,17 +58,14 @@ module _ (n : ℕ) (h : List Update) (g i : ℕ) (a : Writer) (s : WriterState) 
         ap crashed_pending at.0.pending,
         at_rest_leaves i n (k + 1) a.value ready.spare_open d ready.rest b left,
       )
-  phase_leaves writer.Shown at drive b left =
-      inl (at_rest_leaves i n k u drive.spare_open d drive.rest b left)
+  phase_leaves writer.Shown at drive b left = inl (at_rest_leaves i n k u drive.spare_open d drive.rest b left)
   phase_leaves writer.Fenced at drive b left = begun_either at.0 at.1 b (drive at.0 at.1 b left)
 
 -- what a crash leaves of each device: the same holds after the crash
 abbrev Leaves : ℕ → List Update → List WriterState → List Drive → Type 0
-Leaves n h ss ds =
-    (i : ℕ) (d : Drive) (s : WriterState) → slice_get ds i ≡ Some d → slice_get ss i ≡ Some s
+Leaves n h ss ds = (i : ℕ) (d : Drive) (s : WriterState) → slice_get ds i ≡ Some d → slice_get ss i ≡ Some s
     → (b : List ℕ) → MayLeave (device_of d) b
-    → HoldsEither i n (number_after from_nothing h i) (value_after from_nothing h i)
-    (crashed_pending s.pending) b
+    → HoldsEither i n (number_after from_nothing h i) (value_after from_nothing h i) (crashed_pending s.pending) b
 
 up_leaves : (actors : Actors) (ds : List Drive) (x : State) → IsUp actors ds x
     → Leaves actors.segments x.history x.writers ds
@@ -84,11 +74,9 @@ up_leaves actors ds x up i d s ed es =
     let size : length actors.writers.items ≡ length x.writers = stand.writers.size in
     let low : i < length x.writers = slice_get_within x.writers i s es in
     let a = element actors.writers.items i (omega arith) in
-    let here : WriterStands actors.segments x.history stand.since i a.0 s =
-    stand.writers.each i a.0 s a.1 es in
+    let here : WriterStands actors.segments x.history stand.since i a.0 s = stand.writers.each i a.0 s a.1 es in
     let phase : slice_get (phases_of_actors actors).writers i ≡ Some a.0.phase =
-    slice_get-map (λ (v : Writer). v.phase) actors.writers.items i
-    ∙ ap (option_map (λ (v : Writer). v.phase)) a.1 in
+    slice_get-map (λ (v : Writer). v.phase) actors.writers.items i ∙ ap (option_map (λ (v : Writer). v.phase)) a.1 in
     phase_leaves actors.segments x.history stand.since i a.0 s
     (device_of d) d.persist a.0.phase here.phase (up.drives_stand i d s a.0.phase ed es phase)
 
@@ -99,23 +87,18 @@ either_stays i n k u p b (inr new) = inr (new.0, ap crashed_pending new.1, new.2
 
 down_leaves : (n : ℕ) (h : List Update) (ss : List WriterState) (ds : List Drive)
     → DrivesDown n h ss ds → Leaves n h ss ds
-down_leaves n h ss ds down i d s ed es b left =
-    either_stays i n (number_after from_nothing h i) (value_after from_nothing h i) s.pending b
-    (down i d s ed es b left)
+down_leaves n h ss ds down i d s ed es b left = search (rules, either_stays)
 
 leaves : (actors : Actors) (ds : List Drive) (x : State) (phase : NodePhase)
     → IsNodeAt actors ds x phase → Leaves actors.segments x.history x.writers ds
 leaves actors ds x Up at = up_leaves actors ds x at
 leaves actors ds x Down at = down_leaves actors.segments x.history x.writers ds at.drives_down
-leaves actors ds x (Restarting i opening.Sync) at =
-    down_leaves actors.segments x.history x.writers ds at.1.down.drives_down
-leaves actors ds x (Restarting i opening.Read) at =
-    down_leaves actors.segments x.history x.writers ds at.1.down.drives_down
+leaves actors ds x (Restarting i opening.Sync) at = search (rules, down_leaves)
+leaves actors ds x (Restarting i opening.Read) at = search (rules, down_leaves)
 leaves actors ds x Ready at = down_leaves actors.segments x.history x.writers ds at.down.drives_down
 
-crashed_drives : (n : ℕ) (h : List Update) (ss : List WriterState) (ds es : List Drive)
-    (fills : List Fill) → length fills ≡ length ds → Leaves n h ss ds → AreCrashed fills ds es
-    → DrivesDown n h (map crashed_writer ss) es
+crashed_drives : (n : ℕ) (h : List Update) (ss : List WriterState) (ds es : List Drive) (fills : List Fill)
+    → length fills ≡ length ds → Leaves n h ss ds → AreCrashed fills ds es → DrivesDown n h (map crashed_writer ss) es
 crashed_drives n h ss ds es fills size left crash i e t ee et b may =
     let s = map_element crashed_writer ss i t et in
     let low : i < length es = slice_get_within es i e ee in
@@ -123,10 +106,8 @@ crashed_drives n h ss ds es fills size left crash i e t ee et b may =
     let d = element ds i (omega arith) in
     let f = element fills i (omega arith) in
     let here : IsCrashed f.0 d.0 e = crash.each i d.0 e d.1 ee f.0 f.1 in
-    subst (λ (z : WriterState).
-    HoldsEither i n (number_after from_nothing h i) (value_after from_nothing h i) z.pending b)
-    s.2
-    (left i d.0 s.0 d.1 s.1 b (unsynced_leaves here.refilled.left b may))
+    subst (λ (z : WriterState). HoldsEither i n (number_after from_nothing h i) (value_after from_nothing h i) z.pending
+    b) s.2 (left i d.0 s.0 d.1 s.1 b (unsynced_leaves here.refilled.left b may))
 
 sized_up : (w : Actors) (x : State) → ActorsStand w x → IsSized w x
 sized_up w x stands = record {
@@ -136,13 +117,11 @@ sized_up w x stands = record {
   views_n = λ i r e. (stands.registers.each i r e).size;
   writers_n = stands.writers_n;
   writers = stands.writers.size;
-  writers_memory = λ i a e.
-      (partner (WriterStands w.segments x.history stands.since) w.writers.items x.writers i a
-      stands.writers e).2.size;
+  writers_memory = λ i a e. (partner
+      (WriterStands w.segments x.history stands.since) w.writers.items x.writers i a stands.writers e).2.size;
   scanners = stands.scanners.size;
-  scanners_memory = λ i a e.
-      (partner (ScannerStands w.segments x.history stands.since) w.scanners.items x.scanners i a
-      stands.scanners e).2.size;
+  scanners_memory = λ i a e. (partner
+      (ScannerStands w.segments x.history stands.since) w.scanners.items x.scanners i a stands.scanners e).2.size;
 }
 
 pub sized : (actors : Actors) (ds : List Drive) (x : State) (phase : NodePhase)
@@ -154,8 +133,7 @@ sized actors ds x (Restarting i opening.Read) at = at.1.down.actors_rest.sized
 sized actors ds x Ready at = at.down.actors_rest.sized
 
 module _ (w new : Actors) (segments : new.segments ≡ w.segments) (registers : new.registers
-    ≡ w.registers)
-    (writers : Pairs (λ i. IsHalted) w.writers.items new.writers.items)
+    ≡ w.registers) (writers : Pairs (λ i. IsHalted) w.writers.items new.writers.items)
     (scanners : Pairs (λ i. IsScannerHalted) w.scanners.items new.scanners.items) where
   rests : (x : State) → IsSized w x → ActorsRest new (crashed x)
   rests x is = record {
@@ -163,8 +141,7 @@ module _ (w new : Actors) (segments : new.segments ≡ w.segments) (registers : 
       least = subst (λ n. 0 < n) (sym segments) is.least;
       most = subst (λ n. n ≤ 16) (sym segments) is.most;
       registers_n = ap (λ r. length r.items) registers ∙ is.registers_n ∙ sym segments;
-      views_n = λ i r e. is.views_n i r (ap (λ z. slice_get z.items i) (sym registers) ∙ e)
-          ∙ sym segments;
+      views_n = λ i r e. is.views_n i r (ap (λ z. slice_get z.items i) (sym registers) ∙ e) ∙ sym segments;
       writers_n = sym writers.size ∙ is.writers_n ∙ sym segments;
       writers = sym writers.size ∙ is.writers ∙ sym (length-map x.writers crashed_writer);
       writers_memory = λ i b e. (let a = origin i b writers e in
@@ -178,33 +155,22 @@ module _ (w new : Actors) (segments : new.segments ≡ w.segments) (registers : 
   }
 
   pub halted_phases : phases_of_actors new ≡ all_idle (phases_of_actors w)
-  halted_phases = phases_idle new (length (phases_of_actors w).writers)
-      (length (phases_of_actors w).scanners)
-      (sym writers.size ∙ sym (length-map w.writers.items (λ v. v.phase)))
-      (sym scanners.size ∙ sym (length-map w.scanners.items (λ v. v.phase)))
-      (λ i b e. (origin i b writers e).2.idle) (λ i b e. (origin i b scanners e).2.idle)
+  halted_phases =
+      phases_idle new (length (phases_of_actors w).writers) (length (phases_of_actors w).scanners) (sym writers.size
+      ∙ sym (length-map w.writers.items (λ v. v.phase))) (sym scanners.size ∙ sym (length-map w.scanners.items
+      (λ v. v.phase))) (λ i b e. (origin i b writers e).2.idle) (λ i b e. (origin i b scanners e).2.idle)
 
-  pub goes_down : (ds es : List Drive) (fills : List Fill) (x : State) (phase : NodePhase)
-      → length fills ≡ length ds → IsNodeAt w ds x phase → AreCrashed fills ds es
-      → IsDown new es (crashed x)
+  pub goes_down : (ds es : List Drive) (fills : List Fill) (x : State) (phase : NodePhase) → length fills ≡ length ds
+      → IsNodeAt w ds x phase → AreCrashed fills ds es → IsDown new es (crashed x)
   goes_down ds es fills x phase size at crash = record {
     actors_rest = rests x (sized w ds x phase at);
     drives_down = subst (λ n. DrivesDown n x.history (map crashed_writer x.writers) es)
-        (sym segments) (crashed_drives w.segments x.history x.writers ds es fills size
-        (leaves w ds x phase at) crash);
+        (sym segments) (crashed_drives w.segments x.history x.writers ds es fills size (leaves w ds x phase at) crash);
   }
 
 pub crashed_devices : (ds es : List Drive) (fills : List Fill) → AreCrashed fills ds es
     → AreRefilled fills (map device_of ds) (map device_of es)
-crashed_devices ds es fills crash = record {
-  size = length-map ds device_of ∙ crash.size ∙ sym (length-map es device_of);
-  each = λ i before after eb ea fill ef. (
-      let d = map_element device_of ds i before eb in
-      let e = map_element device_of es i after ea in
-      let here : IsCrashed fill d.0 e.0 = crash.each i d.0 e.0 d.1 e.1 fill ef in
-      subst (λ z. IsRefilled fill z after) d.2
-      (subst (λ z. IsRefilled fill (device_of d.0) z) e.2 here.refilled));
-}
+crashed_devices ds es fills crash = search (rules, length-map, map_element)
 
 pub crashed_calls : (ds es : List Drive) (fills : List Fill) → length fills ≡ length ds
     → AreCrashed fills ds es → map store_left es ≡ map store_left ds
@@ -214,12 +180,8 @@ crashed_calls ds es fills size crash = map_same store_left es ds (sym crash.size
     ap (λ (o : PersistState). calls_left o.stage) (crash.each i d e ed ee f.0 f.1).persist))
 
 -- how many devices there are
-pub few_drives : (w : Node) → NodeStand w → (length w.drives.items ≤ 16)
-    × (length w.drives.items ≡ w.actors.segments)
-few_drives w t = ∥∥₁_elim t (hlevel props) (λ q. (
-    let size : length w.drives.items ≡ w.actors.segments = q.1.drives_n in
-    let most : w.actors.segments ≤ 16 = (sized w.actors w.drives.items q.0 w.phase q.1.at).most in
-    (omega arith, size)))
+pub few_drives : (w : Node) → NodeStand w → (length w.drives.items ≤ 16) × (length w.drives.items ≡ w.actors.segments)
+few_drives w t = ∥∥₁_elim t (hlevel props) (search (rules, sized))
 
 -- one device changes, after which a crash leaves no more than before
 module _ (actors : Actors) (ds : List Drive) (x : State) (i : ℕ) (d e : Drive)
@@ -228,12 +190,10 @@ module _ (actors : Actors) (ds : List Drive) (x : State) (i : ℕ) (d e : Drive)
       → IsDown actors ds x → IsDown actors (slice_set ds i e) x
   down_set less down = record {
     actors_rest = down.actors_rest;
-    drives_down = λ j f s ef es b may. each-set (λ j f. (s : WriterState)
-        → slice_get x.writers j ≡ Some s → (b : List ℕ) → MayLeave (device_of f) b
-        → HoldsEither j actors.segments (number_after from_nothing x.history j)
-        (value_after from_nothing x.history j) s.pending b) ds i e
-        (λ s es b may. down.drives_down i d s there es b (less b may))
-        (λ j f ne ef s es b may. down.drives_down j f s ef es b may) j f ef s es b may;
+    drives_down = λ j f s ef es b may. each-set (λ j f. (s : WriterState) → slice_get x.writers j ≡ Some s
+        → (b : List ℕ) → MayLeave (device_of f) b → HoldsEither j actors.segments (number_after from_nothing x.history
+        j) (value_after from_nothing x.history j) s.pending b) ds i e (λ s es b may. down.drives_down i d s there es b
+        (less b may)) (λ j f ne ef s es b may. down.drives_down j f s ef es b may) j f ef s es b may;
   }
 
   sync_goes : IsRecovering actors ds x i i → IsSynced (device_of d) (device_of e)
@@ -242,34 +202,24 @@ module _ (actors : Actors) (ds : List Drive) (x : State) (i : ℕ) (d e : Drive)
     down = down_set (λ b may. synced_leaves synced b may) at.down;
     settled = λ j f ef low. each-set (λ j f. j < i + 1 → IsSettled (device_of f)) ds i e
         (λ low. synced.settled) (λ j f ne ef low. at.settled j f ef (omega arith)) j f ef low;
-    found = λ j f ef low. at.found j f
-        (sym (get-set_other ds i j e (λ same. omega arith)) ∙ ef) low;
+    found = λ j f ef low. at.found j f (sym (get-set_other ds i j e (λ same. omega arith)) ∙ ef) low;
   }
 
   read_goes : IsRecovering actors ds x (i + 1) i → device_of e ≡ device_of d
-      → IsFound i actors.segments (device_of d).bytes e.found
-      → IsRecovering actors (slice_set ds i e) x (i + 1) (i + 1)
+      → IsFound i actors.segments (device_of d).bytes e.found → IsRecovering actors (slice_set ds i e) x (i + 1) (i + 1)
   read_goes at same_device found = record {
     down = down_set (λ b may. subst (λ z. MayLeave z b) same_device may) at.down;
-    settled = λ j f ef low. each-set (λ j f. j < i + 1 → IsSettled (device_of f)) ds i e
-        (λ low. subst IsSettled (sym same_device) (at.settled i d there low))
-        (λ j f ne ef low. at.settled j f ef low) j f ef low;
-    found = λ j f ef low. each-set (λ j f. j < i + 1
-        → IsFound j actors.segments (device_of f).bytes f.found) ds i e
-        (λ low. subst (λ (z : Device). IsFound i actors.segments z.bytes e.found)
-        (sym same_device) found) (λ j f ne ef low. at.found j f ef (omega arith)) j f ef low;
+    settled = λ j f ef low. each-set (λ j f. j < i + 1 → IsSettled (device_of f)) ds i e (λ low. subst IsSettled
+        (sym same_device) (at.settled i d there low)) (λ j f ne ef low. at.settled j f ef low) j f ef low;
+    found = λ j f ef low. each-set (λ j f. j < i + 1 → IsFound j actors.segments (device_of f).bytes f.found) ds i e
+        (λ low. subst (λ (z : Device). IsFound i actors.segments z.bytes e.found) (sym same_device) found)
+        (λ j f ne ef low. at.found j f ef (omega arith)) j f ef low;
   }
 
 -- the next segment is opened, or all are
 after_read : (actors : Actors) (ds : List Drive) (x : State) (n i : ℕ) → n ≡ actors.segments → i < n
-    → IsRecovering actors ds x (i + 1) (i + 1)
-    → IsNodeAt actors ds x (after_opening_call n i opening.Read)
-after_read actors ds x n i size low at = elim (nat_lt (i + 1) n) as (λ b. nat_lt (i + 1) n ≡ b
-    → IsNodeAt actors ds x (if b then Restarting (i + 1) opening.Sync else Ready)) [
-      | true ↦ λ test. (let more : i + 1 < n = grind (arith, nat_tests) in (omega arith, at))
-      | false ↦ λ test. (let last : i + 1 ≡ actors.segments = grind (arith, nat_tests) in
-          subst (λ k. IsRecovering actors ds x k k) last at)
-    ] refl
+    → IsRecovering actors ds x (i + 1) (i + 1) → IsNodeAt actors ds x (after_opening_call n i opening.Read)
+after_read actors ds x n i size low at = search (rules, nat_tests)
 
 module _ (w : Node) (i : ℕ) (call : OpeningCall) (restarting : w.phase ≡ Restarting i call) where
   -- the segment whose call is next exists
@@ -278,14 +228,10 @@ module _ (w : Node) (i : ℕ) (call : OpeningCall) (restarting : w.phase ≡ Res
     at_call = subst (IsNodeAt w.actors w.drives.items x) restarting stands.at
 
     drive_there : (d : Drive) → d ≡ get_or w.drives.items i d → slice_get w.drives.items i ≡ Some d
-    drive_there d read =
-        slice_get_read w.drives.items w.actors.segments i d (sym stands.drives_n) at_call.0 read
+    drive_there d read = slice_get_read w.drives.items w.actors.segments i d (sym stands.drives_n) at_call.0 read
 
   pub opening_within : NodeStand w → i < length w.drives.items
-  opening_within stand = ∥∥₁_elim stand (hlevel props) (λ q. (
-      let size : length w.drives.items ≡ w.actors.segments = q.1.drives_n in
-      let low : i < w.actors.segments = (at_call q.0 q.1).0 in
-      omega arith))
+  opening_within stand = ∥∥₁_elim stand (hlevel props) (search (rules, at_call))
 
   pub opening_fits : NodeStand w → i < vec_len w.drives
   opening_fits stand = let low = opening_within stand in omega (arith, w.drives.ok.0)
@@ -297,44 +243,27 @@ module _ (w : Node) (i : ℕ) (d : Drive) (read : d ≡ get_or w.drives.items i 
     phase = phase;
     drives = with_item w.drives i e;
   }) ≡ node_to (phases_of_node w) phase
-  phases_to phase = same_phases (node_to (phases_of_node w) phase) _ refl refl
-      (map-set_same store_left w.drives.items i e d
-      (ap (λ (o : PersistState). calls_left o.stage) persist ∙ ap store_left read))
+  phases_to phase = same_phases (node_to (phases_of_node w) phase) _ refl refl (map-set_same store_left w.drives.items i
+      e d (ap (λ (o : PersistState). calls_left o.stage) persist ∙ ap store_left read))
 
   -- a call of a restart leaves the state, and the node in this phase
   opening_step : (call : OpeningCall) → w.phase ≡ Restarting i call → (event : Event) (reply : Reply)
       (phase : NodePhase) → let v : Node = record w { phase = phase; drives = with_item w.drives i e } in
-      (reply ≡ NotNow → ⊥)
-      → ((x : State) → MayCome x (phases_of_node w) event × Step w.actors.segments x event reply x
-      × GatesTold event reply (phases_of_node v) (devices_of_node v))
-      → ((x : State) → NodeStands w x → slice_get w.drives.items i ≡ Some d
-      → i < w.actors.segments → IsRestarting w.actors w.drives.items x i call
-      → DevicesMove w.actors.segments x (phases_of_node w) (devices_of_node w) event reply x
-      (devices_of_node v)
-      × PhasesMove w.actors.segments x (phases_of_node w) event reply (phases_of_node v)
-      × IsNodeAt w.actors v.drives.items x phase)
-      → IsNodeStep w event reply v
-  opening_step call restarting event reply phase ne comes moves =
-      let moved = λ (x : State) (stands : NodeStands w x). (let at = at_call w i call restarting x stands in
-      moves x stands (drive_there w i call restarting x stands d read) at.0 at.1) in
-      record {
-        segments = refl;
-        step = λ x stands. (let f = moved x stands in (
-          x,
-          (comes x).1,
-          f.0,
-          record { drives_n = length-set w.drives.items i e ∙ stands.drives_n; at = f.2 },
-        ));
-        comes = λ x stands. record { refused = λ f. absurd (ne f); came = λ _. (comes x).0 };
-        phases = λ x stands. (moved x stands).1;
-        gates = λ x stands. (comes x).2;
-        unchanged = λ f. absurd (ne f);
-      }
+      (reply ≡ NotNow → ⊥) → ((x : State) → MayCome x (phases_of_node w) event
+      × Step w.actors.segments x event reply x × GatesTold event reply (phases_of_node v) (devices_of_node v))
+      → ((x : State) → NodeStands w x → slice_get w.drives.items i ≡ Some d → i < w.actors.segments
+      → IsRestarting w.actors w.drives.items x i call → DevicesMove w.actors.segments x (phases_of_node w)
+      (devices_of_node w) event reply x (devices_of_node v) × PhasesMove w.actors.segments x (phases_of_node w) event
+      reply (phases_of_node v) × IsNodeAt w.actors v.drives.items x phase) → IsNodeStep w event reply v
+  opening_step call restarting event reply phase ne comes moves = steps w _ event reply ne refl (λ x stands. (
+      let at = at_call w i call restarting x stands in
+      let f = moves x stands (drive_there w i call restarting x stands d read) at.0 at.1 in
+      let size = length-set w.drives.items i e ∙ stands.drives_n in
+      ((comes x).0, f.1, (comes x).2, (x, (comes x).1, f.0, record { drives_n = size; at = f.2 }))))
 
   module _ (restarting : w.phase ≡ Restarting i opening.Sync) where
-    pub sync_step : IsSynced (device_of d) (device_of e)
-        → IsNodeStep w RestartCall (Called kind.Sync)
-        (record w { phase = Restarting i opening.Read; drives = with_item w.drives i e })
+    pub sync_step : IsSynced (device_of d) (device_of e) → IsNodeStep w RestartCall
+        (Called kind.Sync) (record w { phase = Restarting i opening.Read; drives = with_item w.drives i e })
     sync_step synced = opening_step opening.Sync restarting _ _ _ (λ f. cc)
         (λ x. ((i, opening.Sync, restarting), refl, tt)) (λ x stands there low at. (
           (i, opening.Sync, restarting, device_changes w.drives.items i d e there IsSynced synced),
@@ -343,29 +272,23 @@ module _ (w : Node) (i : ℕ) (d : Drive) (read : d ≡ get_or w.drives.items i 
         ))
 
     pub sync_fail_step : (fill : Fill) → IsRefilled fill (device_of d) (device_of e)
-        → IsNodeStep w (RestartFail fill) DeviceFailed
-        (record w { phase = Down; drives = with_item w.drives i e })
+        → IsNodeStep w (RestartFail fill) DeviceFailed (record w { phase = Down; drives = with_item w.drives i e })
     sync_fail_step fill refilled = opening_step opening.Sync restarting _ _ _ (λ f. cc)
         (λ x. ((i, opening.Sync, restarting), refl, tt)) (λ x stands there low at. (
           (i, opening.Sync, restarting, device_changes w.drives.items i d e there (IsRefilled fill) refilled),
           phases_to Down,
-          down_set w.actors w.drives.items x i d e there
-              (λ b may. unsynced_leaves refilled.left b may) at.down,
+          down_set w.actors w.drives.items x i d e there (λ b may. unsynced_leaves refilled.left b may) at.down,
         ))
 
-  pub read_step : (restarting : w.phase ≡ Restarting i opening.Read) (n : ℕ)
-      → n ≡ length w.drives.items → (phase : NodePhase)
-      → phase ≡ after_opening_call n i opening.Read → device_of e ≡ device_of d
+  pub read_step : (restarting : w.phase ≡ Restarting i opening.Read) (n : ℕ) → n ≡ length w.drives.items
+      → (phase : NodePhase) → phase ≡ after_opening_call n i opening.Read → device_of e ≡ device_of d
       → IsFound i n (device_of d).bytes e.found
-      → IsNodeStep w RestartCall (Called kind.Read)
-      (record w { phase = phase; drives = with_item w.drives i e })
-  read_step restarting n size phase next same_device found =
-      opening_step opening.Read restarting _ _ _ (λ f. cc)
-      (λ x. ((i, opening.Read, restarting), refl, tt)) (λ x stands there low at. (
+      → IsNodeStep w RestartCall (Called kind.Read) (record w { phase = phase; drives = with_item w.drives i e })
+  read_step restarting n size phase next same_device found = opening_step opening.Read restarting _ _ _
+      (λ f. cc) (λ x. ((i, opening.Read, restarting), refl, tt)) (λ x stands there low at. (
       let all : n ≡ w.actors.segments = size ∙ stands.drives_n in
-      let goes : IsRecovering w.actors (slice_set w.drives.items i e) x (i + 1) (i + 1) =
-      read_goes w.actors w.drives.items x i d e there at same_device
-      (subst (λ m. IsFound i m (device_of d).bytes e.found) all found) in
+      let goes : IsRecovering w.actors (slice_set w.drives.items i e) x (i + 1) (i + 1) = read_goes w.actors
+      w.drives.items x i d e there at same_device (subst (λ m. IsFound i m (device_of d).bytes e.found) all found) in
       let same = map-set_same device_of w.drives.items i e d (same_device ∙ ap device_of read) in
       let moved = phases_to phase ∙ ap (node_to (phases_of_node w)) (next
       ∙ ap (λ m. after_opening_call m i opening.Read) all) in (
@@ -392,18 +315,9 @@ a_file w i restarting d read n count x stands =
     }) in
     let File : ℕ → List ℕ → ℕ → Type 0 = λ k v n. IsFileOf i n k v (device_of d).bytes in
     let size : w.actors.segments ≡ n = sym stands.drives_n ∙ count in
-    elim either [
-      | inl old ↦ (
-          let k = number_after from_nothing x.history i in
-          let v = value_after from_nothing x.history i in
-          (k, v, subst (File k v) size old))
-      | inr new ↦ (
-          let k = number_after from_nothing x.history i + 1 in
-          (k, new.0, subst (File k new.0) size new.2))
-    ]
+    search rules
 
 pub some_file : (w : Node) (i : ℕ) → NodeStand w → w.phase ≡ Restarting i opening.Read → (d : Drive)
     → d ≡ get_or w.drives.items i d → (n : ℕ) → length w.drives.items ≡ n
     → ∥ ((k : ℕ) × (v : List ℕ) × IsFileOf i n k v (device_of d).bytes) ∥₁
-some_file w i t restarting d read n count =
-    ∥∥₁_map t (λ q. a_file w i restarting d read n count q.0 q.1)
+some_file w i t restarting d read n count = ∥∥₁_map t (λ q. a_file w i restarting d read n count q.0 q.1)

@@ -1,19 +1,18 @@
 -- One more step at the end of a run.
 use Rattle.std.proofs.Common.{◌≡◌, ℕ, ◌+◌, ◌<◌, List, [], ◌∷◌, ◌++◌, length, take, get_or, Result, Ok, Err, IfOk, refl}
-use Rattle.std.proofs.Common.{ap, sym, ◌∙◌, subst}
-use Rattle.std.{proofs.lemmas.List.take_more, specs.declared.alloc.AllocError.AllocError}
-use Rattle.snap_history.{specs.History.IsBeginning, proofs.Beginnings.beginning-self, proofs.Beginnings.beginning-trans}
-use Rattle.snap_world.specs.Machine.{State, Step, chosen}
-use Rattle.snap_world.specs.Surface.{StandsFor, IsRun, segments_of, configuration}
 use Rattle.snap_world.specs.declared.event.Event.TheVariants.{Begin, Look, Call, Fail, Show, Acknowledge, Scan, Pick}
+use Rattle.std.specs.declared.alloc.AllocError.{AllocError}
+use Rattle.std.proofs.{Common.ap, Common.sym, Common.◌∙◌, Common.subst, lemmas.List.take_more}
+use Rattle.snap_history.{proofs.Beginnings.beginning-self, proofs.Beginnings.beginning-trans, specs.History.IsBeginning}
 use Rattle.snap_world.specs.declared.event.Event.TheVariants.{Answer, Crash, Restart, RestartCall, RestartFail, Serve}
+use Rattle.snap_world.specs.declared.event.Reply.TheVariants.{Crashed, Restarting, NotNow}
+use Rattle.snap_world.specs.Surface.{StandsFor, IsRun, segments_of, configuration}
+use Rattle.snap_world.specs.declared.event.{Actor.TheVariants.Writer, Actor.TheVariants.Scanner, Event.Event}
+use Rattle.snap_world.specs.{Machine.State, Machine.Step, Machine.chosen, inside.NodeSteps.IsNodeStep}
+use Rattle.snap_world.specs.{declared.event.Reply.Reply, declared.world.World.World, Runs.Configuration, Runs.Run}
+use Rattle.snap_world.proofs.Fills.{no_bytes_left_out}
 use Rattle.snap_world.specs.declared.event.Reply.TheVariants.{Begun as Begun_reply, Number, Called, DeviceFailed}
 use Rattle.snap_world.specs.declared.event.Reply.TheVariants.{Shown as Shown_reply, Stored, ScanBegun, Memory, Part}
-use Rattle.snap_world.specs.declared.event.Reply.TheVariants.{Crashed, Restarting, NotNow}
-use Rattle.snap_world.specs.{inside.NodeSteps.IsNodeStep, Runs.Configuration, Runs.Run}
-use Rattle.snap_world.specs.{declared.event.Actor.TheVariants.Writer, declared.event.Actor.TheVariants.Scanner}
-use Rattle.snap_world.specs.{declared.event.Event.Event, declared.event.Reply.Reply, declared.world.World.World}
-use Rattle.snap_world.proofs.Fills.{no_bytes_left_out}
 
 stays : (x y : State) → y.history ≡ x.history → IsBeginning x.history y.history
 stays x y e = subst (IsBeginning x.history) (sym e) (beginning-self x.history)
@@ -25,8 +24,7 @@ Step-grows n x event NotNow y s = stays x y (ap (λ v. v.history) s)
 Step-grows n x (Begin w v) Begun_reply y s = stays x y (ap (λ v. v.history) s.4)
 Step-grows n x (Look (Writer w)) (Number k) y s = stays x y (ap (λ v. v.history) s.4)
 Step-grows n x (Look (Scanner i)) (Number k) y s = stays x y (ap (λ v. v.history) s.5)
-Step-grows n x (Show w) Shown_reply y s =
-    (record { segment = w; value = s.1 } ∷ [], ap (λ v. v.history) s.4)
+Step-grows n x (Show w) Shown_reply y s = (record { segment = w; value = s.1 } ∷ [], ap (λ v. v.history) s.4)
 Step-grows n x (Acknowledge w) (Stored k) y s = stays x y (ap (λ v. v.history) s.5)
 Step-grows n x (Scan i) ScanBegun y s = stays x y (ap (λ v. v.history) s.1)
 Step-grows n x (Pick i set) ScanBegun y s = stays x y (ap (λ v. v.history) s.1)
@@ -42,9 +40,8 @@ Step-grows n x Serve (Memory m) y s = (chosen 0 x.writers s.0, ap (λ v. v.histo
 Step-grows n x event reply y s = absurd s
 
 -- two runs, one after the other
-pub Run-append : (n : ℕ) (a : Configuration) (events : List Event) (replies : List Reply)
-    (b : Configuration) (more : List Event) (others : List Reply) (c : Configuration)
-    → Run n a events replies b → Run n b more others c
+pub Run-append : (n : ℕ) (a : Configuration) (events : List Event) (replies : List Reply) (b : Configuration)
+    (more : List Event) (others : List Reply) (c : Configuration) → Run n a events replies b → Run n b more others c
     → Run n a (events ++ more) (replies ++ others) c
 Run-append n a [] [] b more others c f g = subst (λ v. Run n v more others c) f g
 Run-append n a (event ∷ events) (reply ∷ replies) b more others c f g =
@@ -52,9 +49,8 @@ Run-append n a (event ∷ events) (reply ∷ replies) b more others c f g =
 Run-append n a [] (reply ∷ replies) b more others c f g = absurd f
 Run-append n a (event ∷ events) [] b more others c f g = absurd f
 
-pub IsRun-append : (old mid new : World) (events : List Event) (replies : List Reply)
-    (more : List Event) (others : List Reply) → IsRun old events replies mid
-    → IsRun mid more others new
+pub IsRun-append : (old mid new : World) (events : List Event) (replies : List Reply) (more : List Event)
+    (others : List Reply) → IsRun old events replies mid → IsRun mid more others new
     → IsRun old (events ++ more) (replies ++ others) new
 IsRun-append old mid new events replies more others a b = record {
   segments = b.segments ∙ a.segments;
@@ -62,8 +58,7 @@ IsRun-append old mid new events replies more others a b = record {
       let f = a.run x stands in
       let g = b.run f.0 f.2 in
       let rest : Run (segments_of old) (configuration mid f.0) more others (configuration new g.0) =
-      subst (λ n. Run n (configuration mid f.0) more others (configuration new g.0)) a.segments
-      g.1 in (
+      subst (λ n. Run n (configuration mid f.0) more others (configuration new g.0)) a.segments g.1 in (
         g.0,
         Run-append (segments_of old) (configuration old x) events replies
             (configuration mid f.0) more others (configuration new g.0) f.1 rest,
@@ -85,8 +80,7 @@ IsRun-one old new event reply s = record {
           record {
             step = f.1;
             comes = s.comes x stands;
-            phases =
-                s.phases x stands;
+            phases = s.phases x stands;
             devices = f.2;
             gates = s.gates x stands;
           },
@@ -97,16 +91,14 @@ IsRun-one old new event reply s = record {
       ));
 }
 
-pub IsRun-step : (old new : World) (event : Event) (r : Result Reply AllocError)
-    → IfOk r (λ reply. IsNodeStep old.node event reply new.node)
-    → IfOk r (λ reply. IsRun old (event ∷ []) (reply ∷ []) new)
+pub IsRun-step : (old new : World) (event : Event) (r : Result Reply AllocError) → IfOk r
+    (λ reply. IsNodeStep old.node event reply new.node) → IfOk r (λ reply. IsRun old (event ∷ []) (reply ∷ []) new)
 IsRun-step old new event (Ok reply) s = IsRun-one old new event reply s
 IsRun-step old new event (Err error) s = tt
 
 -- the history only grew
-pub IsRun-grows : (old new : World) (events : List Event) (replies : List Reply)
-    → IsRun old events replies new → (x : State) → StandsFor old x → (y : State) × StandsFor new y
-    × IsBeginning x.history y.history
+pub IsRun-grows : (old new : World) (events : List Event) (replies : List Reply) → IsRun old events replies new
+    → (x : State) → StandsFor old x → (y : State) × StandsFor new y × IsBeginning x.history y.history
 IsRun-grows old new events replies a x stands = let f = a.run x stands in (f.0, f.2, f.3)
 
 -- a world that is unchanged
@@ -116,8 +108,7 @@ IsRun-same old mid new events replies e a = subst (IsRun old events replies) (sy
 
 pub take-event : (events : List Event) (i : ℕ) (event : Event) → i < length events
     → event ≡ get_or events i event → take i events ++ event ∷ [] ≡ take (i + 1) events
-take-event events i event l e = ap (λ v. take i events ++ v ∷ []) e
-    ∙ sym (take_more events i event l)
+take-event events i event l e = ap (λ v. take i events ++ v ∷ []) e ∙ sym (take_more events i event l)
 
 -- what `World::step` and `World::run` rest on
 pub ruleset run_facts = (no_bytes_left_out, IsRun-step, IsRun-grows)

@@ -1,31 +1,27 @@
 -- The begun updates that a restart takes, and the end of a restart as a step of the node.
-use Rattle.std.proofs.Common.{◌≡◌, ◌≢◌, ℕ, zero, suc, ◌+◌, ◌<◌, ◌⊎◌, inl, inr, Bool, true, false, List, [], ◌∷◌, ◌++◌}
-use Rattle.std.proofs.Common.{Option, Some, None, slice_get, refl, ap, ◌∙◌, arith, ◌%◌, ◌≤◌, length, map, sym, subst}
-use Rattle.std.specs.Prelude.{◌==◌, if◌then◌else◌, unwrap_or, option_map}
-use Rattle.std.proofs.{lemmas.Bool.Decides.nat_tests, Props.props, lemmas.List.length-map}
+use Rattle.std.proofs.Common.{rules, ◌≡◌, ◌≢◌, ℕ, zero, suc, ◌+◌, ◌<◌, ◌⊎◌, inl, inr, Bool, true, false, List, [], ◌∷◌}
 use Rattle.snap_history.specs.History.{Update, Start, updates_of, last_value, number_after, value_after, from_nothing}
-use Rattle.snap_history.specs.History.{IsMemory}
-use Rattle.snap_history.proofs.Moments.{updates-append, last-append, last_none}
 use Rattle.snap_world.specs.Machine.{WriterState, Pending, Free, Begun, Shown, begun_update, chosen, State}
-use Rattle.snap_world.specs.Machine.{ScannerState, Closed, resting, history_with, served}
-use Rattle.std.proofs.Math.Logic.{∥∥₁_elim, ∥∥₁_map}
-use Rattle.std.specs.Global.{Vec}
-use Rattle.std.proofs.lemmas.Option.{slice_get-map, slice_get_within, same_Some}
-use Rattle.snap_disk.{specs.Device.Device, specs.Device.IsSettled, specs.Image.image_device}
-use Rattle.snap_slot.{specs.Findings.IsFound, specs.States.IsAtRest, proofs.Readings.holds_same, specs.Layout.Holds}
-use Rattle.snap_slot.{specs.Layout.IsSpare, proofs.Whole.found_is, proofs.Whole.found_holds, proofs.Whole.found_rests}
-use Rattle.snap_history.{specs.Pairs.Pairs, proofs.Pairs.element}
-use Rattle.snap_world.specs.{Devices.IsServed, Devices.AreServed, inside.Gathers.RegisterStands, NodePhases.all_idle}
-use Rattle.snap_world.specs.{inside.NodeSteps.store_left, inside.Steps.phases_of_actors, inside.Stands.ActorsStand}
-use Rattle.snap_world.specs.declared.{node.NodePhase.TheVariants.Ready, drive.Drive.Drive, node.Node.Node}
-use Rattle.snap_world.specs.declared.{actors.Actors.Actors, register.Register.Register, writer.Writer.Writer}
-use Rattle.snap_persist.{specs.Stage.store_calls, specs.declared.persist.NextCall.NextCall}
-use Rattle.snap_world.specs.inside.Drives.{IsReady, DriveStands, DrivesStand, HoldsEither, device_of}
-use Rattle.snap_world.specs.inside.NodeStands.{NodeStands, NodeStand, IsSized, ActorsRest, IsRecovering, IsNodeAt}
+use Rattle.std.proofs.Common.{◌++◌, Option, Some, None, slice_get, refl, ap, ◌∙◌, arith, ◌≤◌, length, map, sym, subst}
+use Rattle.std.proofs.lemmas.{Option.slice_get-map, Option.slice_get_within, Option.same_Some, Bool.Decides.nat_tests}
+use Rattle.std.{specs.Prelude.unwrap_or, specs.Prelude.option_map, proofs.lemmas.List.length-map, proofs.Props.props}
+use Rattle.std.{proofs.Math.Logic.∥∥₁_elim, proofs.Math.Logic.∥∥₁_map, specs.Global.Vec}
+use Rattle.snap_history.proofs.{Moments.updates-append, Moments.last-append, Moments.last_none, Pairs.element}
+use Rattle.snap_history.specs.{History.IsMemory, Pairs.Pairs}
 use Rattle.snap_world.specs.inside.Recovery.{found_value, IsReadable, AllReadable, IsResumed, IsRecovered, AreRecovered}
+use Rattle.snap_world.specs.inside.NodeStands.{NodeStands, NodeStand, IsSized, ActorsRest, IsRecovering, IsNodeAt}
 use Rattle.snap_world.proofs.Restarts.{sized, few_drives, opening_within, opening_fits, some_file}
-use Rattle.snap_world.proofs.NewWorld.{phases_idle, idle_stand}
-use Rattle.snap_world.proofs.Elements.{map_element, map_same, origin}
+use Rattle.snap_world.specs.Machine.{ScannerState, Closed, resting, history_with, served}
+use Rattle.snap_world.specs.inside.Drives.{IsReady, DrivesStand, HoldsEither, device_of}
+use Rattle.snap_world.specs.declared.{node.NodePhase.TheVariants.Ready, register.Register.Register, drive.Drive.Drive}
+use Rattle.snap_world.proofs.{Elements.map_element, Elements.map_same, Elements.origin, NewWorld.phases_idle}
+use Rattle.snap_world.specs.{inside.Steps.phases_of_actors, declared.actors.Actors.Actors, inside.NodeSteps.store_left}
+use Rattle.snap_world.specs.{Devices.IsServed, Devices.AreServed, inside.Stands.ActorsStand, declared.node.Node.Node}
+use Rattle.snap_world.{specs.NodePhases.all_idle, proofs.NewWorld.idle_stand, specs.inside.Gathers.RegisterStands}
+use Rattle.snap_disk.specs.{Device.Device, Device.IsSettled, Image.image_device}
+use Rattle.snap_slot.proofs.{Whole.found_is, Whole.found_holds, Whole.found_rests, Readings.holds_same}
+use Rattle.snap_slot.specs.{Layout.Holds, Layout.IsSpare, Findings.IsFound, States.IsAtRest}
+use Rattle.snap_persist.specs.{declared.persist.NextCall.NextCall, Stage.store_calls}
 
 abbrev begun_value : Pending → Option (List ℕ)
 begun_value Free = None
@@ -51,28 +47,22 @@ begun-other i j Free ne = refl
 begun-other i j (Begun v) ne = grind (arith, nat_tests)
 begun-other i j (Shown v) ne = refl
 
-begun-same : (i j : ℕ) (p : Pending) (d : List ℕ) → i ≡ j
-    → (updates_of j (begun_update i p) ≡ times (begun_value p))
+begun-same : (i j : ℕ) (p : Pending) (d : List ℕ) → i ≡ j → (updates_of j (begun_update i p) ≡ times (begun_value p))
     × (last_value d j (begun_update i p) ≡ unwrap_or (begun_value p) d)
 begun-same i j Free d e = (refl, refl)
-begun-same i j (Begun v) d e =
-    let test : (i == j) ≡ true = grind (arith, nat_tests) in
-    (grind (arith, nat_tests), ap (λ t. if t then v else d) test)
+begun-same i j (Begun v) d e = search (rules, nat_tests)
 begun-same i j (Shown v) d e = (refl, refl)
 
-chosen-below : (ss : List WriterState) (marks : List Bool) (k j : ℕ) → j < k
-    → updates_of j (chosen k ss marks) ≡ 0
+chosen-below : (ss : List WriterState) (marks : List Bool) (k j : ℕ) → j < k → updates_of j (chosen k ss marks) ≡ 0
 chosen-below [] marks k j l = refl
 chosen-below (s ∷ ss) [] k j l = refl
 chosen-below (s ∷ ss) (false ∷ marks) k j l = chosen-below ss marks (suc k) j (omega arith)
 chosen-below (s ∷ ss) (true ∷ marks) k j l =
-    let a : updates_of j (begun_update k s.pending ++ chosen (suc k) ss marks)
-    ≡ updates_of j (begun_update k s.pending) + updates_of j (chosen (suc k) ss marks) =
-    updates-append j (begun_update k s.pending) (chosen (suc k) ss marks) in
+    let a : updates_of j (begun_update k s.pending ++ chosen (suc k) ss marks) ≡ updates_of j (begun_update k s.pending)
+    + updates_of j (chosen (suc k) ss marks) = updates-append j (begun_update k s.pending) (chosen (suc k) ss marks) in
     let ne : k ≢ j = omega arith in
     let b : updates_of j (begun_update k s.pending) ≡ 0 = begun-other k j s.pending ne in
-    let c : updates_of j (chosen (suc k) ss marks) ≡ 0 =
-    chosen-below ss marks (suc k) j (omega arith) in
+    let c : updates_of j (chosen (suc k) ss marks) ≡ 0 = chosen-below ss marks (suc k) j (omega arith) in
     omega arith
 
 -- a segment has the update that it takes, once and last
@@ -81,11 +71,8 @@ chosen-is : (ss : List WriterState) (marks : List Bool) (k i j : ℕ) (d : List 
     × (last_value d j (chosen k ss marks) ≡ unwrap_or (taken ss marks i) d)
 chosen-is [] marks k i j d e = (refl, refl)
 chosen-is (s ∷ ss) [] k i j d e = (refl, refl)
-chosen-is (s ∷ ss) (false ∷ marks) k zero j d e =
-    let none = chosen-below ss marks (suc k) j (omega arith) in
-    (none, last_none d j (chosen (suc k) ss marks) none)
-chosen-is (s ∷ ss) (false ∷ marks) k (suc i) j d e =
-    chosen-is ss marks (suc k) i j d (omega arith)
+chosen-is (s ∷ ss) (false ∷ marks) k zero j d e = search (rules, chosen-below, last_none)
+chosen-is (s ∷ ss) (false ∷ marks) k (suc i) j d e = chosen-is ss marks (suc k) i j d (omega arith)
 chosen-is (s ∷ ss) (true ∷ marks) k zero j d e =
     let rest = chosen (suc k) ss marks in
     let here = begun-same k j s.pending d (omega arith) in
@@ -110,48 +97,36 @@ chosen-is (s ∷ ss) (true ∷ marks) k (suc i) j d e =
 
 -- the number and value of segment i after a restart
 pub served-is : (start : Start) (h : List Update) (ss : List WriterState) (marks : List Bool) (i : ℕ)
-    → (number_after start (h ++ chosen 0 ss marks) i
-    ≡ number_after start h i + times (taken ss marks i))
-    × (value_after start (h ++ chosen 0 ss marks) i
-    ≡ unwrap_or (taken ss marks i) (value_after start h i))
+    → (number_after start (h ++ chosen 0 ss marks) i ≡ number_after start h i + times (taken ss marks i))
+    × (value_after start (h ++ chosen 0 ss marks) i ≡ unwrap_or (taken ss marks i) (value_after start h i))
 served-is start h ss marks i =
     let all = chosen 0 ss marks in
     let is = chosen-is ss marks 0 i i (last_value (start i).1 i h) (omega arith) in
-    let count : updates_of i all ≡ times (taken ss marks i) = is.0 in
     let sum = updates-append i h all in
     (omega arith, last-append (start i).1 i h all ∙ is.1)
 
 -- If each segment's device gives either the history's part or the begun one, some marks give exactly these.
 
-abbrev pub Given : (A : ℕ → Type 0) → (B : ℕ → List ℕ → Type 0) → List WriterState → List Bool → ℕ
-    → Type 0
-Given A B ss marks i = ((taken ss marks i ≡ None) × A i)
-    ⊎ ((v : List ℕ) × (taken ss marks i ≡ Some v) × B i v)
+abbrev pub Given : (A : ℕ → Type 0) → (B : ℕ → List ℕ → Type 0) → List WriterState → List Bool → ℕ → Type 0
+Given A B ss marks i = ((taken ss marks i ≡ None) × A i) ⊎ ((v : List ℕ) × (taken ss marks i ≡ Some v) × B i v)
 
-given_cons : (A : ℕ → Type 0) (B : ℕ → List ℕ → Type 0) (s : WriterState) (ss : List WriterState)
-    (mark : Bool) (marks : List Bool) → Given A B (s ∷ ss) (mark ∷ marks) 0
-    → ((i : ℕ) (t : WriterState) → slice_get ss i ≡ Some t
-    → Given (λ k. A (suc k)) (λ k. B (suc k)) ss marks i)
-    → (i : ℕ) (t : WriterState) → slice_get (s ∷ ss) i ≡ Some t
-    → Given A B (s ∷ ss) (mark ∷ marks) i
+given_cons : (A : ℕ → Type 0) (B : ℕ → List ℕ → Type 0) (s : WriterState) (ss : List WriterState) (mark : Bool)
+    (marks : List Bool) → Given A B (s ∷ ss) (mark ∷ marks) 0
+    → ((i : ℕ) (t : WriterState) → slice_get ss i ≡ Some t → Given (λ k. A (suc k)) (λ k. B (suc k)) ss marks i)
+    → (i : ℕ) (t : WriterState) → slice_get (s ∷ ss) i ≡ Some t → Given A B (s ∷ ss) (mark ∷ marks) i
 given_cons A B s ss mark marks here rest zero t e = here
 given_cons A B s ss false marks here rest (suc i) t e = rest i t e
 given_cons A B s ss true marks here rest (suc i) t e = rest i t e
 
 pub marks-exist : (A : ℕ → Type 0) (B : ℕ → List ℕ → Type 0) (ss : List WriterState)
-    → ((i : ℕ) (s : WriterState) → slice_get ss i ≡ Some s → A i
-    ⊎ ((v : List ℕ) × (s.pending ≡ Begun v) × B i v))
-    → (marks : List Bool) × ((i : ℕ) (s : WriterState) → slice_get ss i ≡ Some s
-    → Given A B ss marks i)
+    → ((i : ℕ) (s : WriterState) → slice_get ss i ≡ Some s → A i ⊎ ((v : List ℕ) × (s.pending ≡ Begun v) × B i v))
+    → (marks : List Bool) × ((i : ℕ) (s : WriterState) → slice_get ss i ≡ Some s → Given A B ss marks i)
 marks-exist A B [] given = ([], λ i s e. cc)
 marks-exist A B (s ∷ ss) given =
     let rest = marks-exist (λ k. A (suc k)) (λ k. B (suc k)) ss (λ i t e. given (suc i) t e) in
     elim (given 0 s refl) [
       | inl a ↦ (false ∷ rest.0, given_cons A B s ss false rest.0 (inl (refl, a)) rest.1)
-      | inr b ↦ (
-        true ∷ rest.0,
-        given_cons A B s ss true rest.0 (inr (b.0, ap begun_value b.1, b.2)) rest.1,
-      )
+      | inr b ↦ (true ∷ rest.0, given_cons A B s ss true rest.0 (inr (b.0, ap begun_value b.1, b.2)) rest.1)
     ]
 
 module _ (w : Node) (x : State) (stands : NodeStands w x) (is_ready : w.phase ≡ Ready) where
@@ -175,10 +150,7 @@ module _ (w : Node) (x : State) (stands : NodeStands w x) (is_ready : w.phase �
 
   module _ (i : ℕ) (d : Drive) (there : slice_get ds i ≡ Some d) where
     low : i < n
-    low =
-        let inside : i < length ds = slice_get_within ds i d there in
-        let s : length ds ≡ n = size in
-        omega arith
+    low = search (rules, slice_get_within, size)
 
     pub settled : IsSettled (device_of d)
     settled = at.settled i d there low
@@ -193,13 +165,9 @@ module _ (w : Node) (x : State) (stands : NodeStands w x) (is_ready : w.phase �
         let b : length w.actors.writers.items ≡ n = sizes.writers_n in
         element x.writers i (omega arith)
 
-    pub either : (s : WriterState) → slice_get x.writers i ≡ Some s
-        → HoldsEither i n (number_after from_nothing x.history i)
-        (value_after from_nothing x.history i) s.pending (device_of d).bytes
-    either s es = at.down.drives_down i d s there es (device_of d).bytes (record {
-      size = refl;
-      elsewhere = λ p closed. refl;
-    })
+    pub either : (s : WriterState) → slice_get x.writers i ≡ Some s → HoldsEither i n
+        (number_after from_nothing x.history i) (value_after from_nothing x.history i) s.pending (device_of d).bytes
+    either s es = search rules
 
     pub long : length (device_of d).bytes ≡ 28672
     long = elim (either state.0 state.1) [ inl file ↦ file.size | inr new ↦ new.2.size ]
@@ -216,8 +184,7 @@ module _ (w : Node) (x : State) (stands : NodeStands w x) (is_ready : w.phase �
 
   -- the device holds the number and value of the history, or those of the begun update
   abbrev Kept : ℕ → Type 0
-  Kept i = (d : Drive) → slice_get ds i ≡ Some d
-      → (d.found.number ≡ number_after from_nothing x.history i)
+  Kept i = (d : Drive) → slice_get ds i ≡ Some d → (d.found.number ≡ number_after from_nothing x.history i)
       × (found_value d ≡ value_after from_nothing x.history i)
 
   abbrev Taken : ℕ → List ℕ → Type 0
@@ -225,13 +192,10 @@ module _ (w : Node) (x : State) (stands : NodeStands w x) (is_ready : w.phase �
       → (d.found.number ≡ number_after from_nothing x.history i + 1) × (found_value d ≡ v)
 
   -- the number and value that were found on a device are those that it holds
-  found_as : (i k : ℕ) (v : List ℕ) (d : Drive) → slice_get ds i ≡ Some d
-      → Holds (device_of d).bytes k v → (e : Drive) → slice_get ds i ≡ Some e
-      → (e.found.number ≡ k) × (found_value e ≡ v)
-  found_as i k v d there holds e also =
-      subst (λ (z : Drive). (z.found.number ≡ k) × (found_value z ≡ v))
-      (same_Some d e (sym there ∙ also))
-      (found_is i n k v (device_of d).bytes d.found (found i d there) holds)
+  found_as : (i k : ℕ) (v : List ℕ) (d : Drive) → slice_get ds i ≡ Some d → Holds (device_of d).bytes k v → (e : Drive)
+      → slice_get ds i ≡ Some e → (e.found.number ≡ k) × (found_value e ≡ v)
+  found_as i k v d there holds e also = subst (λ (z : Drive). (z.found.number ≡ k) × (found_value z ≡ v))
+      (same_Some d e (sym there ∙ also)) (found_is i n k v (device_of d).bytes d.found (found i d there) holds)
 
   given : (i : ℕ) (s : WriterState) → slice_get x.writers i ≡ Some s → Kept i
       ⊎ ((v : List ℕ) × (s.pending ≡ Begun v) × Taken i v)
@@ -243,8 +207,7 @@ module _ (w : Node) (x : State) (stands : NodeStands w x) (is_ready : w.phase �
       let d = element ds i (omega arith) in
       let k = number_after from_nothing x.history i in
       elim (either i d.0 d.1 s es) [
-        | inl file ↦ inl
-            (found_as i k (value_after from_nothing x.history i) d.0 d.1 file.holds)
+        | inl file ↦ inl (found_as i k (value_after from_nothing x.history i) d.0 d.1 file.holds)
         | inr new ↦ inr (new.0, new.1, found_as i (k + 1) new.0 d.0 d.1 new.2.holds)
       ]
 
@@ -260,28 +223,15 @@ module _ (w : Node) (x : State) (stands : NodeStands w x) (is_ready : w.phase �
 
   -- the numbers and values that were found are those after the history with these updates
   pub is_after : (i : ℕ) (d : Drive) → slice_get ds i ≡ Some d
-      → (d.found.number ≡ number_after from_nothing h i)
-      × (found_value d ≡ value_after from_nothing h i)
+      → (d.found.number ≡ number_after from_nothing h i) × (found_value d ≡ value_after from_nothing h i)
   unfolding marks
   is_after i d there =
       let s = state i d there in
       let served = served-is from_nothing x.history x.writers marks i in
       let number : number_after from_nothing h i
       ≡ number_after from_nothing x.history i + times (taken x.writers marks i) = served.0 in
-      let Value : Option (List ℕ) → List ℕ =
-      λ t. unwrap_or t (value_after from_nothing x.history i) in
-      elim (chose.1 i s.0 s.1) [
-        | inl kept ↦ (
-            let none : times (taken x.writers marks i) ≡ 0 = ap times kept.0 in
-            let was : d.found.number ≡ number_after from_nothing x.history i =
-            (kept.1 d there).0 in
-            (omega arith, (kept.1 d there).1 ∙ sym (served.1 ∙ ap Value kept.0)))
-        | inr new ↦ (
-            let one : times (taken x.writers marks i) ≡ 1 = ap times new.1 in
-            let is : d.found.number ≡ number_after from_nothing x.history i + 1 =
-            (new.2 d there).0 in
-            (omega arith, (new.2 d there).1 ∙ sym (served.1 ∙ ap Value new.1)))
-      ]
+      let Value : Option (List ℕ) → List ℕ = λ t. unwrap_or t (value_after from_nothing x.history i) in
+      search (rules, marks)
 
   pub memory : IsMemory n from_nothing h (map found_value ds)
   memory = record {
@@ -289,8 +239,7 @@ module _ (w : Node) (x : State) (stands : NodeStands w x) (is_ready : w.phase �
     values = λ i l. (
         let c : length ds ≡ n = size in
         let d = element ds i (omega arith) in
-        slice_get-map found_value ds i ∙ ap (option_map found_value) d.1
-        ∙ ap (λ v. Some v) (is_after i d.0 d.1).1);
+        slice_get-map found_value ds i ∙ ap (option_map found_value) d.1 ∙ ap (λ v. Some v) (is_after i d.0 d.1).1);
   }
 
   module _ (registers : Vec Register) (es : List Drive)
@@ -303,22 +252,16 @@ module _ (w : Node) (x : State) (stands : NodeStands w x) (is_ready : w.phase �
     abbrev pub y : State
     y = served x marks
 
-    register_stands : (i : ℕ) (r : Register) → slice_get registers.items i ≡ Some r
-        → RegisterStands n h i r
+    register_stands : (i : ℕ) (r : Register) → slice_get registers.items i ≡ Some r → RegisterStands n h i r
     register_stands i r er =
         let o = origin i r recovered er in
-        let l : i < length w.actors.registers.items =
-        slice_get_within w.actors.registers.items i o.0 o.1 in
+        let l : i < length w.actors.registers.items = slice_get_within w.actors.registers.items i o.0 o.1 in
         let t : length w.actors.registers.items ≡ n = sizes.registers_n in
         let c : length ds ≡ n = size in
         let d = element ds i (omega arith) in
         let is : IsRecovered d.0 o.0 r = o.2 d.0 d.1 in
         let after = is_after i d.0 d.1 in
-        record {
-          number = is.number ∙ after.0;
-          value = is.value ∙ after.1;
-          size = ap (λ v. length v.items) is.view ∙ sizes.views_n i o.0 o.1;
-        }
+        record { number = is.number ∙ after.0; value = is.value ∙ after.1; size = search rules }
 
     -- nothing was shown since the restart
     pub actors_stand : ActorsStand actors y
@@ -341,31 +284,17 @@ module _ (w : Node) (x : State) (stands : NodeStands w x) (is_ready : w.phase �
         (λ i s e. (map_element (λ (z : ScannerState). Closed) x.scanners i s e).2)
 
     ready : (i : ℕ) (e : Drive) → slice_get es i ≡ Some e
-        → IsReady i n (number_after from_nothing h i) (value_after from_nothing h i)
-        (device_of e) e.persist
+        → IsReady i n (number_after from_nothing h i) (value_after from_nothing h i) (device_of e) e.persist
     ready i e ee =
         let d = origin i e resumed ee in
         let after = is_after i d.0 d.1 in
-        let rest : IsAtRest i n d.0.found.number (found_value d.0) d.0.found.spare_open
-        (device_of d.0) =
-        found_rests i n (device_of d.0).bytes d.0.found (device_of d.0) (found i d.0 d.1)
-        (settled i d.0 d.1) refl (long i d.0 d.1) in
+        let rest : IsAtRest i n d.0.found.number (found_value d.0) d.0.found.spare_open (device_of d.0) = found_rests i
+        n (device_of d.0).bytes d.0.found (device_of d.0) (found i d.0 d.1) (settled i d.0 d.1) refl (long i d.0 d.1) in
         let At : ℕ → List ℕ → Device → Type 0 = λ k v z. IsAtRest i n k v d.0.found.spare_open z in
-        record {
-          spare_open = d.0.found.spare_open;
-          rest = subst (At (number_after from_nothing h i) (value_after from_nothing h i))
-              (ap image_device (sym d.2.image))
-              (subst (λ v. At (number_after from_nothing h i) v (device_of d.0)) after.1
-              (subst (λ k. At k (found_value d.0) (device_of d.0)) after.0 rest));
-          slot = d.2.slot ∙ ap (λ k. (k + 1) % 3) after.0;
-          stage = d.2.stage;
-        }
+        search (rules, rest)
 
-    pub drives_stand : DrivesStand actors.segments y.history y.writers
-        (phases_of_actors actors).writers es
-    drives_stand i e s phase ee es_ ep =
-        let a = map_element (λ (z : Writer). z.phase) w.actors.writers.items i phase ep in
-        subst (λ z. DriveStands n h i z s.pending e) (sym (rest.writers i a.0 a.1) ∙ a.2) (ready i e ee)
+    pub drives_stand : DrivesStand actors.segments y.history y.writers (phases_of_actors actors).writers es
+    drives_stand i e s phase ee es_ ep = search (rules, map_element, ready)
 
     pub same_devices : map device_of es ≡ map device_of ds
     same_devices = map_same device_of es ds (sym resumed.size) (λ i e d ee ed.
@@ -386,10 +315,8 @@ module _ (w : Node) (x : State) (stands : NodeStands w x) (is_ready : w.phase �
         } in
         subst (IsServed i n y) same here
 
-    pub gates : (i : ℕ) (device : Device) (calls : List NextCall)
-        → slice_get (map device_of es) i ≡ Some device
-        → slice_get (map store_left es) i ≡ Some calls
-        → (spare_open : Bool) × (calls ≡ store_calls spare_open)
+    pub gates : (i : ℕ) (device : Device) (calls : List NextCall) → slice_get (map device_of es) i ≡ Some device
+        → slice_get (map store_left es) i ≡ Some calls → (spare_open : Bool) × (calls ≡ store_calls spare_open)
         × ((k : ℕ) (v : List ℕ) → Holds device.bytes k v → IsSpare spare_open device.bytes k)
     gates i device calls there called =
         let e = map_element device_of es i device there in
@@ -400,18 +327,13 @@ module _ (w : Node) (x : State) (stands : NodeStands w x) (is_ready : w.phase �
         let is = found i d.0 d.1 in
         let Spare : Device → Type 0 = λ z. (k : ℕ) (v : List ℕ) → Holds z.bytes k v
         → IsSpare d.0.found.spare_open z.bytes k in
-        let spare : Spare (device_of d.0) =
-        λ k v holds. subst (IsSpare d.0.found.spare_open (device_of d.0).bytes)
-        (holds_same (device_of d.0).bytes d.0.found.number k (found_value d.0) v
+        let spare : Spare (device_of d.0) = λ k v holds. subst (IsSpare d.0.found.spare_open
+        (device_of d.0).bytes) (holds_same (device_of d.0).bytes d.0.found.number k (found_value d.0) v
         (found_holds i n (device_of d.0).bytes d.0.found is) holds).0 is.held.spare in
         (d.0.found.spare_open, sym f.2 ∙ ap store_left one ∙ d.2.calls, subst Spare same spare)
 
     pub idle_phases : phases_of_actors actors ≡ all_idle (phases_of_actors w.actors)
-    idle_phases = phases_idle actors (length (phases_of_actors w.actors).writers)
-        (length (phases_of_actors w.actors).scanners)
-        (sym (length-map w.actors.writers.items (λ v. v.phase)))
-        (sym (length-map w.actors.scanners.items (λ v. v.phase)))
-        rest.writers rest.scanners
+    idle_phases = search (rules, phases_idle, length-map)
 
 -- the facts for the code
 module _ (w : Node) (t : NodeStand w) where
@@ -422,11 +344,4 @@ module _ (w : Node) (t : NodeStand w) where
   registers_there = ∥∥₁_elim t (hlevel props) (λ q.
       (sized w.actors w.drives.items q.0 w.phase q.1.at).registers_n ∙ sym q.1.drives_n)
 
-pub ruleset restart_facts = (
-  few_drives,
-  opening_within,
-  opening_fits,
-  some_file,
-  all_readable,
-  registers_there,
-)
+pub ruleset restart_facts = (few_drives, opening_within, opening_fits, some_file, all_readable, registers_there)

@@ -1,9 +1,9 @@
 -- The sizes of actors that represent some state.
-use Rattle.std.proofs.Common.{◌≡◌, ℕ, ◌<◌, ◌≤◌, length, arith}
-use Rattle.std.{specs.Vec.vec_len, proofs.Math.Logic.∥∥₁_elim, proofs.Props.props, proofs.lemmas.Nat.pow_below}
-use Rattle.snap_world.specs.{Answers.all_of, Phases.WriterIs, inside.Stands.Stand, inside.Steps.phases_of_actors}
-use Rattle.snap_world.specs.{declared.actors.Actors.Actors, declared.writer.WriterPhase.WriterPhase}
-use Rattle.snap_world.proofs.PhaseMoves.{writer_fits}
+use Rattle.std.proofs.Common.{rules, ◌≡◌, ℕ, ◌<◌, ◌≤◌, length, arith}
+use Rattle.std.{proofs.lemmas.Nat.pow_below, proofs.Math.Logic.∥∥₁_elim, proofs.Props.props, specs.Vec.vec_len}
+use Rattle.snap_world.specs.{declared.writer.WriterPhase.WriterPhase, inside.Steps.phases_of_actors, Phases.WriterIs}
+use Rattle.snap_world.{specs.declared.actors.Actors.Actors, proofs.PhaseMoves.writer_fits, specs.inside.Stands.Stand}
+use Rattle.snap_world.specs.Answers.{all_of}
 
 module _ (w : Actors) (t : Stand w) where
   pub segments_least : 0 < w.segments
@@ -20,17 +20,10 @@ module _ (w : Actors) (t : Stand w) where
 
   -- a segment has a writer and a register
   pub segment_fits : (i : ℕ) → i < w.segments → i < vec_len w.writers
-  segment_fits i l =
-      let size : length w.writers.items ≡ w.segments = writers_size in
-      omega (arith, w.writers.ok.0)
+  segment_fits i l = search (rules, writers_size)
 
-  pub register_fits : (i : ℕ) {p : WriterPhase} → WriterIs (phases_of_actors w) i p
-      → i < vec_len w.registers
-  register_fits i is =
-      let writers : length w.writers.items ≡ w.segments = writers_size in
-      let registers : length w.registers.items ≡ w.segments = registers_size in
-      let fits = writer_fits w i is in
-      omega (arith, w.writers.ok.0, w.registers.ok.0)
+  pub register_fits : (i : ℕ) {p : WriterPhase} → WriterIs (phases_of_actors w) i p → i < vec_len w.registers
+  register_fits i is = search (rules, writers_size, registers_size, writer_fits)
 
 -- a scan of all segments names at least one
 pub all_some : (n : ℕ) → 0 < n → 0 < all_of n

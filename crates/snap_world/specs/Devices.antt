@@ -18,8 +18,7 @@ use Rattle.snap_world.specs.declared.node.OpeningCall.TheVariants as opening
 
 -- this call of a store of this body block into this slot succeeded
 abbrev pub IsMade : ℕ → List ℕ → NextCall → Device → Device → Type 0
-IsMade slot body (next.Write w) old new =
-    IsJustWritten (write_at slot w) (write_bytes body w) old new
+IsMade slot body (next.Write w) old new = IsJustWritten (write_at slot w) (write_bytes body w) old new
 IsMade slot body next.Sync old new = IsSynced old new
 IsMade slot body next.Done old new = ⊥
 
@@ -35,8 +34,7 @@ pub record IsRefilled (fill : Fill) (old new : Device) : Type 0 where
 
 -- this call of a store into this slot failed
 abbrev pub IsMissed : ℕ → Fill → NextCall → Device → Device → Type 0
-IsMissed slot fill (next.Write w) old new =
-    IsWriteFailed (write_at slot w) (write_len w) fill old new
+IsMissed slot fill (next.Write w) old new = IsWriteFailed (write_at slot w) (write_len w) fill old new
 IsMissed slot fill next.Sync old new = IsRefilled fill old new
 IsMissed slot fill next.Done old new = ⊥
 
@@ -50,8 +48,7 @@ pub record Changes (i : ℕ) (R : Device → Device → Type 0) (old new : List 
 
 -- each device gets its fill at its open places
 abbrev pub AreRefilled : List Fill → List Device → List Device → Type 0
-AreRefilled fills old new =
-    Pairs (λ i before after. (fill : Fill) → slice_get fills i ≡ Some fill
+AreRefilled fills old new = Pairs (λ i before after. (fill : Fill) → slice_get fills i ≡ Some fill
     → IsRefilled fill before after) old new
 
 -- this call of a restart at segment i succeeded, or failed
@@ -66,17 +63,14 @@ RestartMisses i fill opening.Read old new = new ≡ old
 -- the device of segment i holds the number and value that the segment has after the history
 pub record IsServed (i n : ℕ) (x : State) (device : Device) : Type 0 where
   pub head : Head device.bytes i n
-  pub holds : Holds device.bytes (number_after from_nothing x.history i)
-      (value_after from_nothing x.history i)
+  pub holds : Holds device.bytes (number_after from_nothing x.history i) (value_after from_nothing x.history i)
 
 abbrev pub AreServed : ℕ → State → List Device → Type 0
-AreServed n x devices =
-    (i : ℕ) (device : Device) → slice_get devices i ≡ Some device → IsServed i n x device
+AreServed n x devices = (i : ℕ) (device : Device) → slice_get devices i ≡ Some device → IsServed i n x device
 
 -- after a restart the calls of a segment's next store fit its spare gate
 abbrev pub GatesTold : Event → Reply → WorldPhases → List Device → Type 0
-GatesTold Serve (Memory m) q devices =
-    (i : ℕ) (device : Device) (calls : List NextCall)
+GatesTold Serve (Memory m) q devices = (i : ℕ) (device : Device) (calls : List NextCall)
     → slice_get devices i ≡ Some device → slice_get q.calls i ≡ Some calls
     → (spare_open : Bool) × (calls ≡ store_calls spare_open)
     × ((k : ℕ) (v : List ℕ) → Holds device.bytes k v → IsSpare spare_open device.bytes k)
@@ -90,8 +84,7 @@ abbrev pub next_slot : State → ℕ → ℕ
 next_slot x w = slot_of (next_number x w)
 
 -- in state x with phases p, the event with this reply, which leads to state y, leaves these devices
-abbrev pub DevicesMove :
-    ℕ → State → WorldPhases → List Device → Event → Reply → State → List Device → Type 0
+abbrev pub DevicesMove : ℕ → State → WorldPhases → List Device → Event → Reply → State → List Device → Type 0
 DevicesMove n x p old event NotNow y new = new ≡ old
 -- a call of a store of the next number and the begun value
 DevicesMove n x p old (Call w) (Called kind) y new =
@@ -104,8 +97,7 @@ DevicesMove n x p old (Crash fills) Crashed y new = AreRefilled fills.items old 
 DevicesMove n x p old RestartCall (Called kind) y new =
     (i : ℕ) × (call : OpeningCall) × (p.node ≡ Restarting i call) × RestartMakes i call old new
 DevicesMove n x p old (RestartFail fill) DeviceFailed y new =
-    (i : ℕ) × (call : OpeningCall) × (p.node ≡ Restarting i call)
-    × RestartMisses i fill call old new
+    (i : ℕ) × (call : OpeningCall) × (p.node ≡ Restarting i call) × RestartMisses i fill call old new
 -- a restart answers with the values on the devices
 DevicesMove n x p old Serve (Memory m) y new = (new ≡ old) × AreServed n y new
 -- no other event changes a device

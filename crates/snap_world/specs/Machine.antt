@@ -67,8 +67,7 @@ ShownWith x j p = (s : WriterState) × (slice_get x.writers j ≡ Some s) × (s.
 -- from segment j, the very moment with which its last update was shown.
 abbrev pub Decides : ℕ → State → ScanState → Option ℕ → Type 0
 Decides set x s None = IsDecided (size set) s.told → ⊥
-Decides set x s (Some p) =
-    IsDecided (size set) s.told
+Decides set x s (Some p) = IsDecided (size set) s.told
     × IsMoment (size set) (numbers_of set x.history) s.start s.last s.told p
     × ((j : ℕ) → Borrows set s.told j → ShownWith x j p)
 
@@ -133,14 +132,11 @@ Step n x (Begin w v) Begun_reply y =
     × (y ≡ with_writer x w
     (record s { pending = Begun v.items; scan = scan_from (length x.history) }))
 -- a look reads the number of the segment whose turn it is; the scan that is embedded in an update is of all segments
-Step n x (Look (Writer w)) (Number k) y =
-    (s : WriterState) × (slice_get x.writers w ≡ Some s)
-    × (t : ScanState) × IsLook (all_of n) x s.scan k t
-    × (y ≡ with_writer x w (record s { scan = t }))
+Step n x (Look (Writer w)) (Number k) y = (s : WriterState) × (slice_get x.writers w ≡ Some s)
+    × (t : ScanState) × IsLook (all_of n) x s.scan k t × (y ≡ with_writer x w (record s { scan = t }))
 Step n x (Look (Scanner i)) (Number k) y =
     (asked : Asked) × (s : ScanState) × (slice_get x.scanners i ≡ Some (Opened asked s))
-    × (t : ScanState) × IsLook (set_of n asked) x s k t
-    × (y ≡ with_scanner x i (Opened asked t))
+    × (t : ScanState) × IsLook (set_of n asked) x s k t × (y ≡ with_scanner x i (Opened asked t))
 -- a device call that succeeds doesn't change the state; after one that fails the segment is fenced
 Step n x (Call w) (Called kind) y = y ≡ x
 Step n x (Fail w fill) DeviceFailed y =
@@ -154,32 +150,25 @@ Step n x (Acknowledge w) (Stored k) y =
     (s : WriterState) × (v : List ℕ) × (slice_get x.writers w ≡ Some s) × (s.pending ≡ Shown v)
     × (k ≡ number_after from_nothing x.history w)
     × (y ≡ with_writer x w (record s { pending = Free; scan = scan_from 0 }))
-Step n x (Scan i) ScanBegun y =
-    (slice_get x.scanners i ≡ Some Closed)
+Step n x (Scan i) ScanBegun y = (slice_get x.scanners i ≡ Some Closed)
     × (y ≡ with_scanner x i (Opened All (scan_from (length x.history))))
-Step n x (Pick i set) ScanBegun y =
-    (slice_get x.scanners i ≡ Some Closed)
+Step n x (Pick i set) ScanBegun y = (slice_get x.scanners i ≡ Some Closed)
     × (y ≡ with_scanner x i (Opened (Only set) (scan_from (length x.history))))
 -- the memory as it was at the scan's moment, between its beginning and its last look
-Step n x (Answer i) (Memory m) y =
-    (s : ScanState) × (slice_get x.scanners i ≡ Some (Opened All s))
-    × IsAnswer (all_of n) x.history s (λ p.
-    IsMemory n from_nothing (take p x.history) (map (λ v. v.items) m.items))
+Step n x (Answer i) (Memory m) y = (s : ScanState) × (slice_get x.scanners i ≡ Some (Opened All s))
+    × IsAnswer (all_of n) x.history s (λ p. IsMemory n from_nothing (take p x.history) (map (λ v. v.items) m.items))
     × (y ≡ with_scanner x i Closed)
 -- of a scan of some segments, these alone, each with its value at that moment
 Step n x (Answer i) (Part m) y =
     (set : SegmentSet) × (s : ScanState) × (slice_get x.scanners i ≡ Some (Opened (Only set) s))
-    × IsAnswer set.bits x.history s (λ p.
-    map pair_of m.items ≡ part_at set.bits x.history p)
+    × IsAnswer set.bits x.history s (λ p. map pair_of m.items ≡ part_at set.bits x.history p)
     × (y ≡ with_scanner x i Closed)
 Step n x (Crash fills) Crashed y = y ≡ crashed x
 Step n x Restart Restarting y = y ≡ x
 Step n x RestartCall (Called kind) y = y ≡ x
 Step n x (RestartFail fill) DeviceFailed y = y ≡ x
 -- a restart answers with the memory after the history and some of the begun updates
-Step n x Serve (Memory m) y =
-    (marks : List Bool) × IsMemory n from_nothing (history_with x marks)
-    (map (λ v. v.items) m.items)
-    × (y ≡ served x marks)
+Step n x Serve (Memory m) y = (marks : List Bool) × IsMemory n from_nothing (history_with x marks)
+    (map (λ v. v.items) m.items) × (y ≡ served x marks)
 -- no other reply is given
 Step n x event reply y = ⊥

@@ -42,8 +42,7 @@ IsChoice p set = (0 < set) × (set < 2 ^ length p.writers)
 
 -- in state x with phases p the event may come; writers and scanners act only while the node is up
 abbrev pub MayCome : State → WorldPhases → Event → Type 0
-MayCome x p (Begin w v) =
-    (p.node ≡ Up) × WriterIs p.actors w writer.Idle × IsShort v.items
+MayCome x p (Begin w v) = (p.node ≡ Up) × WriterIs p.actors w writer.Idle × IsShort v.items
     × (number_after from_nothing x.history w < LAST_NUMBER)
 MayCome x p (Look (actor.Writer w)) = (p.node ≡ Up) × WriterIs p.actors w writer.Scanning
 MayCome x p (Look (actor.Scanner i)) = (p.node ≡ Up) × ScannerIs p.actors i scanner.Scanning
@@ -52,8 +51,7 @@ MayCome x p (Fail w fill) = (p.node ≡ Up) × WriterIs p.actors w writer.Storin
 MayCome x p (Show w) = (p.node ≡ Up) × WriterIs p.actors w writer.Stored
 MayCome x p (Acknowledge w) = (p.node ≡ Up) × WriterIs p.actors w writer.Shown
 MayCome x p (Scan i) = (p.node ≡ Up) × ScannerIs p.actors i scanner.Idle
-MayCome x p (Pick i set) =
-    (p.node ≡ Up) × ScannerIs p.actors i scanner.Idle × IsChoice p.actors set.bits
+MayCome x p (Pick i set) = (p.node ≡ Up) × ScannerIs p.actors i scanner.Idle × IsChoice p.actors set.bits
 MayCome x p (Answer i) = (p.node ≡ Up) × ScannerIs p.actors i scanner.Ready
 -- a crash comes with a fill for each device
 MayCome x p (Crash fills) = length fills.items ≡ segments_in p
@@ -108,17 +106,13 @@ after_opening_call segments i opening.Read =
 abbrev pub PhasesMove : ℕ → State → WorldPhases → Event → Reply → WorldPhases → Type 0
 PhasesMove n x p event NotNow q = q ≡ p
 PhasesMove n x p (Begin w v) Begun q = q ≡ actors_to p (writer_to p.actors w writer.Scanning)
-PhasesMove n x p (Look (actor.Writer w)) (Number k) q =
-    (s : WriterState) → slice_get x.writers w ≡ Some s
-    → LooksOn (all_of n) (s.scan.told ++ k ∷ []) p
-    (actors_to p (writer_to p.actors w writer.Storing)) q
+PhasesMove n x p (Look (actor.Writer w)) (Number k) q = (s : WriterState) → slice_get x.writers w ≡ Some s
+    → LooksOn (all_of n) (s.scan.told ++ k ∷ []) p (actors_to p (writer_to p.actors w writer.Storing)) q
 PhasesMove n x p (Look (actor.Scanner i)) (Number k) q =
     (asked : Asked) (s : ScanState) → slice_get x.scanners i ≡ Some (Opened asked s)
-    → LooksOn (set_of n asked) (s.told ++ k ∷ []) p
-    (actors_to p (scanner_to p.actors i scanner.Ready)) q
+    → LooksOn (set_of n asked) (s.told ++ k ∷ []) p (actors_to p (scanner_to p.actors i scanner.Ready)) q
 PhasesMove n x p (Call w) (Called kind) q =
-    (rest : List NextCall) × (slice_get p.calls w ≡ Some (store_call kind ∷ rest))
-    × AfterCall p w rest q
+    (rest : List NextCall) × (slice_get p.calls w ≡ Some (store_call kind ∷ rest)) × AfterCall p w rest q
 PhasesMove n x p (Fail w fill) DeviceFailed q = q ≡ record p {
   actors = writer_to p.actors w writer.Fenced;
   calls = slice_set p.calls w [];
@@ -136,19 +130,16 @@ PhasesMove n x p RestartCall (Called kind) q =
     × (q ≡ node_to p (after_opening_call n i call))
 PhasesMove n x p (RestartFail fill) DeviceFailed q = q ≡ node_to p Down
 -- all actors are idle again
-PhasesMove n x p Serve (Memory m) q =
-    (q.node ≡ Up) × (q.actors ≡ all_idle p.actors) × (segments_in q ≡ segments_in p)
+PhasesMove n x p Serve (Memory m) q = (q.node ≡ Up) × (q.actors ≡ all_idle p.actors) × (segments_in q ≡ segments_in p)
 -- no other reply is given
 PhasesMove n x p event reply q = ⊥
 
 -- the event's reply holds values, and the event may come
 abbrev pub NeedsMemory : WorldPhases → Event → Type 0
-NeedsMemory p event =
-    ((i : ℕ) × (event ≡ Answer i) × (p.node ≡ Up) × ScannerIs p.actors i scanner.Ready)
+NeedsMemory p event = ((i : ℕ) × (event ≡ Answer i) × (p.node ≡ Up) × ScannerIs p.actors i scanner.Ready)
     ⊎ ((event ≡ Serve) × (p.node ≡ Ready))
 
 -- with these phases memory can have run out before this one of the events: the first, for the list
 -- of replies, or one whose reply holds values
 abbrev pub StopsAt : WorldPhases → List Event → ℕ → Type 0
-StopsAt p events done =
-    (done ≡ 0) ⊎ ((event : Event) × (slice_get events done ≡ Some event) × NeedsMemory p event)
+StopsAt p events done = (done ≡ 0) ⊎ ((event : Event) × (slice_get events done ≡ Some event) × NeedsMemory p event)

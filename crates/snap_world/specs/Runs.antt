@@ -24,7 +24,6 @@ pub record Passes (n : ℕ) (a : Configuration) (event : Event) (reply : Reply)
 -- these events with these replies lead from configuration a to configuration b
 abbrev pub Run : ℕ → Configuration → List Event → List Reply → Configuration → Type 0
 Run n a [] [] b = b ≡ a
-Run n a (event ∷ events) (reply ∷ replies) b =
-    (c : Configuration) × Passes n a event reply c × Run n c events replies b
+Run n a (event ∷ events) (reply ∷ replies) b = (c : Configuration) × Passes n a event reply c × Run n c events replies b
 Run n a [] (reply ∷ replies) b = ⊥
 Run n a (event ∷ events) [] b = ⊥

@@ -32,7 +32,5 @@ configuration w x = record { state = x; phases = phases_of w; devices = devices_
 pub record IsRun (old : World) (events : List Event) (replies : List Reply)
     (new : World) : Type 0 where
   pub segments : segments_of new ≡ segments_of old
-  pub run : (x : State) → StandsFor old x
-      → (y : State) × Run (segments_of old) (configuration old x) events replies
-      (configuration new y)
-      × StandsFor new y × IsBeginning x.history y.history
+  pub run : (x : State) → StandsFor old x → (y : State) × Run (segments_of old) (configuration old x) events replies
+      (configuration new y) × StandsFor new y × IsBeginning x.history y.history

@@ -64,8 +64,7 @@ impl Drive {
         ensures slot { self.new.persist.slot ≡ self.old.persist.slot }
         ensures stage { self.new.persist.stage ≡ after_call self.old.persist.stage }
         ensures kind { calls_left self.old.persist.stage ≡ store_call result ∷ calls_left self.new.persist.stage }
-        ensures made { IsMade self.old.persist.slot (body_block number value.now)
-            (store_call result)
+        ensures made { IsMade self.old.persist.slot (body_block number value.now) (store_call result)
             (device_of self.old) (device_of self.new) }
     {
         let kind = match self.persist.next() {
@@ -91,8 +90,7 @@ impl Drive {
         requires fits { IsShort value.now }
         ensures persist { self.new.persist ≡ self.old.persist }
         ensures written { IsJustWritten (write_at self.old.persist.slot write)
-            (write_bytes (body_block number value.now) write)
-            (device_of self.old) (device_of self.new) }
+            (write_bytes (body_block number value.now) write) (device_of self.old) (device_of self.new) }
     {
         let place = write.place(self.persist.slot()) as usize;
         match write {
@@ -112,10 +110,8 @@ impl Drive {
         requires slot { self.old.persist.slot < SLOT_COUNT }
         requires going { calls_left self.old.persist.stage ≢ [] }
         ensures stage { self.new.persist.stage ≡ Stage.Fenced }
-        ensures missed { (call : NextCall) × (rest : List NextCall)
-            × (calls_left self.old.persist.stage ≡ call ∷ rest)
-            × IsMissed self.old.persist.slot fill.now call (device_of self.old)
-            (device_of self.new) }
+        ensures missed { (call : NextCall) × (rest : List NextCall) × (calls_left self.old.persist.stage ≡ call ∷ rest)
+            × IsMissed self.old.persist.slot fill.now call (device_of self.old) (device_of self.new) }
     {
         match self.persist.next() {
             NextCall::Write(write) => self.put_failed(write, fill),

@@ -64,8 +64,7 @@ impl World {
         ensures enabled { IfOk result (λ reply. (x : State) → StandsFor self.old x
             → TellsWhether x (phases_of self.old) event.now reply) }
         ensures phases { IfOk result (λ reply. (x : State) → StandsFor self.old x
-            → PhasesMove (segments_of self.old) x (phases_of self.old) event.now reply
-            (phases_of self.new)) }
+            → PhasesMove (segments_of self.old) x (phases_of self.old) event.now reply (phases_of self.new)) }
         ensures unchanged { IfOk result (λ reply. reply ≡ Reply.NotNow → self.new ≡ self.old) }
         ensures memory { OnErr result (NeedsMemory (phases_of self.old) event.now) }
         ensures err { OnErr result (self.new ≡ self.old) }
@@ -92,8 +91,7 @@ impl World {
     /// an `Answer` or a `Serve`, the result is [`Stopped`], and all this holds of the events already done.
     pub fn run(&mut self, events: &[Event]) -> Result<Vec<Reply>, Stopped>
         ensures run { IfOk result (λ replies. IsRun self.old events.now replies.items self.new) }
-        ensures stopped { IfErr result (λ stopped. (stopped.done ≤ length events.now)
-            × ((replies : List Reply)
+        ensures stopped { IfErr result (λ stopped. (stopped.done ≤ length events.now) × ((replies : List Reply)
             × IsRun self.old (take stopped.done events.now) replies self.new)) }
         ensures memory { IfErr result (λ stopped. StopsAt (phases_of self.new) events.now stopped.done) }
 

@@ -20,10 +20,8 @@ module _ {D : Type 0} (disk : Disk.Ghosts D) where
       → LeavesOnly disk a.segment.device z.segment.device
       (IsEither a.segment.index a.segment.count (number_of a) (value_of a) v)) where
     -- the number and value shown are those stored
-    of_stored : (P : ℕ → List ℕ → Type 0) → P (number_of a) (value_of a)
-        → P a.segment.number a.segment.value
-    of_stored P is =
-        subst (λ (y : ℕ × List ℕ). P y.0 y.1) (λ t. (sym shown.0 t, sym shown.1 t)) is
+    of_stored : (P : ℕ → List ℕ → Type 0) → P (number_of a) (value_of a) → P a.segment.number a.segment.value
+    of_stored P is = subst (λ (y : ℕ × List ℕ). P y.0 y.1) (λ t. (sym shown.0 t, sym shown.1 t)) is
 
     -- the segment after a store that succeeded, and after one that failed
     abbrev done : SegmentState D
@@ -40,8 +38,7 @@ module _ {D : Type 0} (disk : Disk.Ghosts D) where
     abbrev between : WriterState D
     between = record { segment = z.segment; seat = a.seat }
 
-    stores : (z.segment ≡ done) ⊎ (z.segment ≡ fenced) → Rests disk between
-        → Stores disk v a between
+    stores : (z.segment ≡ done) ⊎ (z.segment ≡ fenced) → Rests disk between → Stores disk v a between
     stores ends rests = record {
       seat_is = refl;
       unfenced = unfenced;
@@ -59,10 +56,8 @@ module _ {D : Type 0} (disk : Disk.Ghosts D) where
         → (disk.is_honest z.segment.device → OnOk result (IsSettled (disk.device z.segment.device)
         × ((x : List ℕ) → MayLeave (disk.device z.segment.device) x
         → IsFileOf a.segment.index a.segment.count (number_of a + 1) v x)))
-        → (disk.is_honest z.segment.device → OnErr result ((x : List ℕ)
-        → MayLeave (disk.device z.segment.device) x
-        → IsEither a.segment.index a.segment.count (number_of a) (value_of a) v x))
-        → StoresFirst disk v a z
+        → (disk.is_honest z.segment.device → OnErr result ((x : List ℕ) → MayLeave (disk.device z.segment.device) x
+        → IsEither a.segment.index a.segment.count (number_of a) (value_of a) v x)) → StoresFirst disk v a z
     went_on (Ok n) seat advances fails last either = (
       between,
       stores (inl advances.stored) (λ hon x left.
@@ -89,8 +84,7 @@ module _ {D : Type 0} (disk : Disk.Ghosts D) where
     )
 
   -- that is a life
-  pub lived_first : (v : List ℕ) (a z : WriterState D) → StoresFirst disk v a z
-      → HasLived disk a z
+  pub lived_first : (v : List ℕ) (a z : WriterState D) → StoresFirst disk v a z → HasLived disk a z
   lived_first v a z first = (
     first.0 ∷ z ∷ [],
     (
@@ -99,7 +93,6 @@ module _ {D : Type 0} (disk : Disk.Ghosts D) where
     ),
   )
 
-  pub met : (a z : WriterState D) → z.segment ≡ a.segment → Meets a.seat z.seat
-      → HasLived disk a z
+  pub met : (a z : WriterState D) → z.segment ≡ a.segment → Meets a.seat z.seat → HasLived disk a z
   met a z segment meets =
       (z ∷ [], (inl (record { segment_is = segment; grows = meets.grows }), refl))

@@ -18,16 +18,14 @@ number_kept start h rest i none =
 
 pub value_kept : (start : Start) (h rest : List Update) (i : ℕ) → updates_of i rest ≡ 0
     → value_after start (h ++ rest) i ≡ value_after start h i
-value_kept start h rest i none = last-append (start i).1 i h rest
-    ∙ last_none (value_after start h i) i rest none
+value_kept start h rest i none = last-append (start i).1 i h rest ∙ last_none (value_after start h i) i rest none
 
 -- a seat that grew and writes one segment
 
 pub same_grown : (a b : Known) → Grows a b → IsSameSeat a b
 same_grown a b g = record { table = g.table; plan = g.plan; low = g.low; high = g.high }
 
-pub none_own : (a b : Known) (g : Grows a b) → a.high ≡ a.low + 1
-    → updates_of (own_of a) g.later.0 ≡ 0
+pub none_own : (a b : Known) (g : Grows a b) → a.high ≡ a.low + 1 → updates_of (own_of a) g.later.0 ≡ 0
 none_own a b g alone =
     let same : number_in a b.seen a.low ≡ number_in a a.seen a.low =
     g.own a.low (omega arith) (omega arith) in
@@ -49,8 +47,7 @@ value_grown a b g alone = (λ t. value_after (starts (g.plan t)) (g.later.1 t) (
 
 -- a seat that grew and then showed an update
 
-pub ends_with : (a m b : Known) (v : List ℕ) → Grows a m → a.high ≡ a.low + 1 → Shows m b v
-    → EndsWith a b v
+pub ends_with : (a m b : Known) (v : List ℕ) → Grows a m → a.high ≡ a.low + 1 → Shows m b v → EndsWith a b v
 ends_with a m b v g alone s =
     let rest = g.later.0 in
     let own : own_of m ≡ own_of a = g.low in
@@ -90,8 +87,7 @@ number_shown a b v same e =
     number_kept (starts a.plan) a.seen e.between (own_of a) e.others in
     omega arith
 
-pub value_shown : (a b : Known) (v : List ℕ) → IsSameSeat a b → EndsWith a b v
-    → value_in b b.seen (own_of b) ≡ v
+pub value_shown : (a b : Known) (v : List ℕ) → IsSameSeat a b → EndsWith a b v → value_in b b.seen (own_of b) ≡ v
 value_shown a b v same e = let u : Update = record { segment = own_of a; value = v } in
     (λ t. value_after (starts (same.plan t)) (e.seen t) (same.low t))
     ∙ value-push (starts a.plan) (a.seen ++ e.between) u

@@ -28,8 +28,7 @@ module _ {D : Type 0} (disk : Disk.Ghosts D) (only_now : OnlyNow disk) (w : Writ
     never A go = absurd (other (one_rule w k v rule Go judged go))
 
     pub untouched : (told : Result ℕ Refusal) → IsAnswer k rule told
-        → CountsRefusal told (disk.failure_count w.segment.device)
-        (disk.failure_count w.segment.device)
+        → CountsRefusal told (disk.failure_count w.segment.device) (disk.failure_count w.segment.device)
         → IsUpdated disk w w k v told
     untouched told answer count = record {
       count = count;

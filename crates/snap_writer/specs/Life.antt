@@ -51,8 +51,7 @@ module _ {D : Type 0} (disk : Disk.Ghosts D) where
   -- between stores a crash leaves what is stored, or after a failed store perhaps the next number
   -- with the value that was begun
   abbrev pub Rests : WriterState D → Type 0
-  Rests w = disk.is_honest w.segment.device → (b : List ℕ)
-      → MayLeave (disk.device w.segment.device) b
+  Rests w = disk.is_honest w.segment.device → (b : List ℕ) → MayLeave (disk.device w.segment.device) b
       → HoldsOf w.segment b
 
   -- its seat sees more updates, by a look or a meeting, and none of its own segment
@@ -73,8 +72,7 @@ module _ {D : Type 0} (disk : Disk.Ghosts D) where
     }) ⊎ (b.segment ≡ record a.segment { device = b.segment.device; begun = Some v })
     pub rests : Rests b
     pub honest_then : disk.is_honest b.segment.device → disk.is_honest a.segment.device
-    pub any_time : disk.is_honest b.segment.device
-        → LeavesOnly disk a.segment.device b.segment.device
+    pub any_time : disk.is_honest b.segment.device → LeavesOnly disk a.segment.device b.segment.device
         (IsEither a.segment.index a.segment.count a.segment.number a.segment.value v)
 
   -- it shows the update that is stored
@@ -95,8 +93,7 @@ module _ {D : Type 0} (disk : Disk.Ghosts D) where
   -- the place is the writer a, whose seat may have seen more by then: at most what it has seen at
   -- z, and no update of its own segment
   abbrev pub IsAt : WriterState D → WriterState D → Place D → Type 0
-  IsAt z a p = (m : WriterState D) × Sees a m × IsBeginning m.seat.seen z.seat.seen
-      × (p ≡ resting m)
+  IsAt z a p = (m : WriterState D) × Sees a m × IsBeginning m.seat.seen z.seat.seen × (p ≡ resting m)
 
   -- the place is inside the store that a does next
   abbrev pub IsInStore : WriterState D → WriterState D → WriterState D → Place D → Type 0
@@ -112,8 +109,7 @@ module _ {D : Type 0} (disk : Disk.Ghosts D) where
   -- stores, or at any time since a store began
   abbrev pub Leaves : WriterState D → Option (List ℕ × D) → List ℕ → Type 0
   Leaves w None b = disk.is_honest w.segment.device × MayLeave (disk.device w.segment.device) b
-  Leaves w (Some s) b = disk.is_honest s.1
-      × disk.might_have_left s.1 (disk.clock w.segment.device) b
+  Leaves w (Some s) b = disk.is_honest s.1 × disk.might_have_left s.1 (disk.clock w.segment.device) b
 
   abbrev pub CrashLeaves : Place D → List ℕ → Type 0
   CrashLeaves p b = Leaves p.writer p.storing b

@@ -15,8 +15,7 @@ use Rattle.snap_disk.specs.declared.disk.Disk as Disk
 -- ghost items of the trait `Disk` for a device of type D.
 pub record IsUpdated {D : Type 0} (disk : Disk.Ghosts D) (old new : WriterState D) (k : ℕ)
     (v : List ℕ) (told : Result ℕ Refusal) : Type 0 where
-  pub count : CountsRefusal told (disk.failure_count old.segment.device)
-      (disk.failure_count new.segment.device)
+  pub count : CountsRefusal told (disk.failure_count old.segment.device) (disk.failure_count new.segment.device)
   pub honest_then : disk.is_honest new.segment.device → disk.is_honest old.segment.device
   pub same_seat : IsSameSeat old.seat new.seat
   -- its result; all rules but Go change nothing

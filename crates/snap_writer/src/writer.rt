@@ -84,8 +84,7 @@ impl<D: Disk> Writer<D> {
     /// next number with the value whose store failed.
     pub fn is_fenced(&self) -> bool
         ensures fence { IsTrue result ↔ IsSome self.now.segment.begun }
-        ensures kept { D.is_honest self.now.segment.device
-            → IsKept self.now.segment.index self.now.segment.count
+        ensures kept { D.is_honest self.now.segment.device → IsKept self.now.segment.index self.now.segment.count
             (number_of self.now) (value_of self.now) self.now.segment.begun
             self.now.segment.spare_open (D.device self.now.segment.device) }
     {
@@ -157,8 +156,7 @@ impl<D: Disk> Writer<D> {
     fn judge(&self, number: u64, value: &[u8]) -> Judgement
         ensures rule { IsJudged self.now number value.now result }
         ensures shown { IsShown self.now }
-        ensures kept { D.is_honest self.now.segment.device
-            → IsKept self.now.segment.index self.now.segment.count
+        ensures kept { D.is_honest self.now.segment.device → IsKept self.now.segment.index self.now.segment.count
             (number_of self.now) (value_of self.now) self.now.segment.begun
             self.now.segment.spare_open (D.device self.now.segment.device) }
     {
@@ -210,11 +208,9 @@ impl<D: Disk> Writer<D> {
             → LeavesOnly D.Disk self.old.segment.device self.new.segment.device
             (IsEither self.old.segment.index self.old.segment.count
             (number_of self.old) (value_of self.old) value.now) }
-        ensures last { D.is_honest self.new.segment.device
-            → OnOk result (IsSettled (D.device self.new.segment.device)
+        ensures last { D.is_honest self.new.segment.device → OnOk result (IsSettled (D.device self.new.segment.device)
             × ((b : List ℕ) → MayLeave (D.device self.new.segment.device) b
-            → IsFileOf self.old.segment.index self.old.segment.count
-            (number_of self.old + 1) value.now b)) }
+            → IsFileOf self.old.segment.index self.old.segment.count (number_of self.old + 1) value.now b)) }
         ensures either { D.is_honest self.new.segment.device
             → OnErr result ((b : List ℕ) → MayLeave (D.device self.new.segment.device) b
             → IsEither self.old.segment.index self.old.segment.count

@@ -199,10 +199,8 @@ where
         thread::scope_env(),
         rt,
         |scope| -> Result<Exit, ServerFault>
-            requires { IsSync X.row × IsServable order.now
-                × (length devices.items ≡ length order.now.files.items)
-                × All IsUncalled devices.items
-                × (order.now.scanners ≤ process.now.metrics.now.workers)
+            requires { IsSync X.row × IsServable order.now × (length devices.items ≡ length order.now.files.items)
+                × All IsUncalled devices.items × (order.now.scanners ≤ process.now.metrics.now.workers)
                 × (length devices.items ≤ process.now.metrics.now.segments) }
         {
             let mut errors = system.stderr();

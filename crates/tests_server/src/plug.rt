@@ -191,7 +191,12 @@ where
     let (bind, asking) = (&Ready::new(&tcp, address), &mut clients);
     let (seen, ()) = join(
         host,
-        move || host_printing(host, alloc, devices, bind, workers, CLIENTS as u64, &NoGate),
+        move || {
+            let seen = host_printing(host, alloc, devices, bind, workers, CLIENTS as u64, &NoGate);
+            // Who still waits for a server that ended early waits in vain.
+            bind.close();
+            seen
+        },
         move || for_each_mut(host, asking, CLIENTS, &|_, client| client.work(rt, address)),
     );
     course.is_right &= seen?.errors.is_empty();

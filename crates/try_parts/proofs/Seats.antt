@@ -38,15 +38,13 @@ plan_of [] = no_plan
 plan_of (b ∷ rest) = b.plan
 
 first_is : (z : RegistersId) (p : Plan) (rs : List Known) → 0 < length rs
-    → ((k : ℕ) (b : Known) → slice_get rs k ≡ Some b → IsSeatAt z p 0 0 b)
-    → (table_of rs ≡ z) × (plan_of rs ≡ p)
+    → ((k : ℕ) (b : Known) → slice_get rs k ≡ Some b → IsSeatAt z p 0 0 b) → (table_of rs ≡ z) × (plan_of rs ≡ p)
 first_is z p [] some are = absurd (omega arith)
 first_is z p (b ∷ rest) some are = let is = are 0 b refl in (is.table_is, is.plan_is)
 
 -- all seats of a store are of the memory of its scanners
 pub writers_out : {D : Type 0} (ws : List (WriterState D)) (rs : List Known) → AreBack ws rs
-    → (i : ℕ) (w : WriterState D) → slice_get ws i ≡ Some w
-    → IsSeatAt (table_of rs) (plan_of rs) i (i + 1) w.seat
+    → (i : ℕ) (w : WriterState D) → slice_get ws i ≡ Some w → IsSeatAt (table_of rs) (plan_of rs) i (i + 1) w.seat
 writers_out ws rs back i w at =
     let first = first_is back.table back.plan rs back.some_scanner back.scanners_are in
     let is = back.writers_are i w at in
@@ -74,8 +72,7 @@ pub back_again : {D : Type 0} (z : RegistersId) (p : Plan) (ws : List (WriterSta
     (rs : List Known) (b : Known) (n : ℕ)
     → ((i : ℕ) (w : WriterState D) → slice_get ws i ≡ Some w → IsSeatAt z p i (i + 1) w.seat)
     → ((k : ℕ) (s : Known) → slice_get rs k ≡ Some s → IsSeatAt z p 0 0 s)
-    → slice_get rs 0 ≡ Some b → n ≡ segments b.plan → 0 < n → n ≤ MAX_COUNT → length ws ≡ n
-    → AreBack ws rs
+    → slice_get rs 0 ≡ Some b → n ≡ segments b.plan → 0 < n → n ≤ MAX_COUNT → length ws ≡ n → AreBack ws rs
 back_again z p ws rs b n writers scanners at count some few long = record {
   table = z;
   plan = p;

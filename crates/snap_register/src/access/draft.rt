@@ -43,8 +43,7 @@ impl Access {
         requires own { Owns (view_of self.old) i }
         requires buffer { IsFree (view_of self.old) b }
         requires place { (length (draft_of self.old) ≡ 2 + whole)
-            × (8 * whole ≤ length value.now) × (length value.now < 8 * whole + 8)
-            × IsShort value.now }
+            × (8 * whole ≤ length value.now) × (length value.now < 8 * whole + 8) × IsShort value.now }
         requires bytes { bytes_at (draft_of self.old) 2 whole ≡ take (8 * whole) value.now }
         ensures same { HasDrafted self.old self.new (draft_of self.new) }
         ensures prefix { IsPrefix (draft_of self.old) (draft_of self.new) }

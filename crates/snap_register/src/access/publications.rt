@@ -49,8 +49,7 @@ impl Access {
     // ends by its `return`.
     fn find_free(&mut self, i: usize, current: usize, counted: &[u64; MAX_BUFFERS]) -> usize
         requires own { Owns (view_of self.old) i }
-        requires current { (current ≡ (pool_of self.old).current)
-            × (current < buffers (view_of self.old).plan)
+        requires current { (current ≡ (pool_of self.old).current) × (current < buffers (view_of self.old).plan)
             × ((pool_of self.old).found_pinned ≡ 0) }
         requires counted { (b : ℕ) → b < buffers (view_of self.old).plan
             → slice_index counted.now b ≡ slice_index (pool_of self.old).counted b }
@@ -98,8 +97,7 @@ impl Access {
         requires current { (current ≡ (pool_of self.old).current) × (current < buffers (view_of self.old).plan) }
         requires next { IsNumber (number (view_of self.old).plan (view_of self.old).seen i + 1) }
         requires view { IsLegal (view_of self.old).plan (view_of self.old).seen
-            → Follows (view_of self.old).plan (view_of self.old).seen
-            (entry i (draft_of self.old)) }
+            → Follows (view_of self.old).plan (view_of self.old).seen (entry i (draft_of self.old)) }
         ensures shown { Publishes (view_of self.old) (view_of self.new) i result }
         ensures same { IsSameSeat self.old self.new × (self.new.seat.me.1 ≡ self.old.seat.me.1) }
     {

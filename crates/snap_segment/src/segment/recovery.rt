@@ -42,8 +42,7 @@ impl<D: Disk> Segment<D> {
 
         // The segment has what the bytes hold, no place is open, and it isn't fenced.
         ensures opened { IfOk result (λ s. (s.index ≡ index) × (s.count ≡ count) × (s.begun ≡ None)) }
-        ensures holds { IfOk result (λ s. D.is_honest s.device
-            → Head (D.device device).bytes index count
+        ensures holds { IfOk result (λ s. D.is_honest s.device → Head (D.device device).bytes index count
             × Holds (D.device device).bytes s.number s.value) }
         ensures at_rest { IfOk result (λ s. D.is_honest s.device
             → IsAtRest index count s.number s.value s.spare_open (D.device s.device)) }

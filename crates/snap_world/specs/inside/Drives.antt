@@ -29,8 +29,7 @@ pub record IsStoreUnderWay (i n k : ℕ) (u v : List ℕ) (device : Device)
   pub at_stage : IsAtStage i n k u v persist.stage device
 
 -- the device of segment i, whose history has number k and value u, while its writer is in this phase with this update
-abbrev pub IsDriveAt : (i n k : ℕ) (u : List ℕ) → WriterPhase → Pending → Device → PersistState
-    → Type 0
+abbrev pub IsDriveAt : (i n k : ℕ) (u : List ℕ) → WriterPhase → Pending → Device → PersistState → Type 0
 IsDriveAt i n k u writer.Idle pending device persist = IsReady i n k u device persist
 IsDriveAt i n k u writer.Scanning pending device persist = IsReady i n k u device persist
 IsDriveAt i n k u writer.Storing pending device persist =
@@ -38,33 +37,27 @@ IsDriveAt i n k u writer.Storing pending device persist =
 IsDriveAt i n k u writer.Stored pending device persist =
     (v : List ℕ) → pending ≡ Begun v → IsReady i n (k + 1) v device persist
 IsDriveAt i n k u writer.Shown pending device persist = IsReady i n k u device persist
-IsDriveAt i n k u writer.Fenced pending device persist =
-    (v : List ℕ) → pending ≡ Begun v
+IsDriveAt i n k u writer.Fenced pending device persist = (v : List ℕ) → pending ≡ Begun v
     → (b : List ℕ) → MayLeave device b → IsEither i n k u v b
 
 abbrev pub DriveStands : ℕ → List Update → ℕ → WriterPhase → Pending → Drive → Type 0
 DriveStands n h i phase pending d =
-    IsDriveAt i n (number_after from_nothing h i) (value_after from_nothing h i) phase pending
-    (device_of d) d.persist
+    IsDriveAt i n (number_after from_nothing h i) (value_after from_nothing h i) phase pending (device_of d) d.persist
 
 -- `DriveStands` for each segment
 abbrev pub DrivesStand : ℕ → List Update → List WriterState → List WriterPhase → List Drive → Type 0
-DrivesStand n h writers phases drives =
-    (i : ℕ) (d : Drive) (s : WriterState) (phase : WriterPhase)
+DrivesStand n h writers phases drives = (i : ℕ) (d : Drive) (s : WriterState) (phase : WriterPhase)
     → slice_get drives i ≡ Some d → slice_get writers i ≡ Some s → slice_get phases i ≡ Some phase
     → DriveStands n h i phase s.pending d
 
 -- after a crash: whatever one more leaves is the file of number k and value u, or of the next
 -- number with the begun value
 abbrev pub HoldsEither : (i n k : ℕ) (u : List ℕ) → Pending → List ℕ → Type 0
-HoldsEither i n k u pending b =
-    IsFileOf i n k u b ⊎ ((v : List ℕ) × (pending ≡ Begun v) × IsFileOf i n (k + 1) v b)
+HoldsEither i n k u pending b = IsFileOf i n k u b ⊎ ((v : List ℕ) × (pending ≡ Begun v) × IsFileOf i n (k + 1) v b)
 
 abbrev pub DrivesDown : ℕ → List Update → List WriterState → List Drive → Type 0
-DrivesDown n h writers drives =
-    (i : ℕ) (d : Drive) (s : WriterState) → slice_get drives i ≡ Some d
-    → slice_get writers i ≡ Some s
-    → (b : List ℕ) → MayLeave (device_of d) b
+DrivesDown n h writers drives = (i : ℕ) (d : Drive) (s : WriterState) → slice_get drives i ≡ Some d
+    → slice_get writers i ≡ Some s → (b : List ℕ) → MayLeave (device_of d) b
     → HoldsEither i n (number_after from_nothing h i) (value_after from_nothing h i) s.pending b
 
 -- a new device, with number 0, the empty value and a closed spare gate
@@ -84,5 +77,4 @@ pub record IsCrashed (fill : Fill) (d e : Drive) : Type 0 where
 
 -- each device crashed with its fill
 abbrev pub AreCrashed : List Fill → List Drive → List Drive → Type 0
-AreCrashed fills old new =
-    Pairs (λ i d e. (fill : Fill) → slice_get fills i ≡ Some fill → IsCrashed fill d e) old new
+AreCrashed fills old new = Pairs (λ i d e. (fill : Fill) → slice_get fills i ≡ Some fill → IsCrashed fill d e) old new

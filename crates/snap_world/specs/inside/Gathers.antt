@@ -23,8 +23,7 @@ picked set memory = map (value_in memory) (named set)
 
 -- the memory has each segment of the set as it was at moment p
 abbrev pub IsSeen : ℕ → List Update → List (List ℕ) → ℕ → Type 0
-IsSeen set h memory p =
-    (place i : ℕ) → IsAt set place i → slice_get memory i ≡ Some (value_at h p i)
+IsSeen set h memory p = (place i : ℕ) → IsAt set place i → slice_get memory i ≡ Some (value_at h p i)
 
 abbrev pub Gathered : ℕ → List Update → ScanState → List (List ℕ) → Next → Type 0
 Gathered set h s memory (Look j) =
@@ -74,14 +73,12 @@ pub record RegistersStand (n : ℕ) (x : State) (g : ℕ) (rs : List Register) :
 
 -- the registers and the scan represent some state
 abbrev pub MayLook : List Register → Collector → Type 0
-MayLook rs c =
-    ∥ ((n set : ℕ) × (x : State) × (g : ℕ) × (s : ScanState)
+MayLook rs c = ∥ ((n set : ℕ) × (x : State) × (g : ℕ) × (s : ScanState)
     × (g ≤ s.start) × RegistersStand n x g rs × Gathers n set x.history s c) ∥₁
 
 -- The look returned this number: whichever state and scan the registers and the collector
 -- represented, it is a look of the abstract machine, to a scan that the collector represents now.
 abbrev pub IsLookOf : List Register → Collector → ℕ → Collector → Type 0
-IsLookOf rs old number new =
-    (n set : ℕ) (x : State) (g : ℕ) (s : ScanState)
+IsLookOf rs old number new = (n set : ℕ) (x : State) (g : ℕ) (s : ScanState)
     → g ≤ s.start → RegistersStand n x g rs → Gathers n set x.history s old
     → (t : ScanState) × IsLook set x s number t × Gathers n set x.history t new

@@ -18,8 +18,7 @@ pub record IsSized (w : Actors) (x : State) : Type 0 where
   pub least : 0 < w.segments
   pub most : w.segments ≤ MAX_COUNT
   pub registers_n : length w.registers.items ≡ w.segments
-  pub views_n : (i : ℕ) (r : Register) → slice_get w.registers.items i ≡ Some r
-      → length r.view.items ≡ w.segments
+  pub views_n : (i : ℕ) (r : Register) → slice_get w.registers.items i ≡ Some r → length r.view.items ≡ w.segments
   pub writers_n : length w.writers.items ≡ w.segments
   pub writers : length w.writers.items ≡ length x.writers
   pub writers_memory : (i : ℕ) (a : Writer) → slice_get w.writers.items i ≡ Some a
@@ -31,15 +30,13 @@ pub record IsSized (w : Actors) (x : State) : Type 0 where
 -- while it is up, its actors and each device represent the state
 pub record IsUp (actors : Actors) (drives : List Drive) (x : State) : Type 0 where
   pub actors_stand : ActorsStand actors x
-  pub drives_stand : DrivesStand actors.segments x.history x.writers
-      (phases_of_actors actors).writers drives
+  pub drives_stand : DrivesStand actors.segments x.history x.writers (phases_of_actors actors).writers drives
 
 -- all actors are idle
 pub record ActorsRest (w : Actors) (x : State) : Type 0 where
   pub sized : IsSized w x
   pub writers : (i : ℕ) (a : Writer) → slice_get w.writers.items i ≡ Some a → a.phase ≡ writer.Idle
-  pub scanners : (i : ℕ) (a : Scanner) → slice_get w.scanners.items i ≡ Some a
-      → a.phase ≡ scanner.Idle
+  pub scanners : (i : ℕ) (a : Scanner) → slice_get w.scanners.items i ≡ Some a → a.phase ≡ scanner.Idle
 
 -- while it is down
 pub record IsDown (actors : Actors) (drives : List Drive) (x : State) : Type 0 where
@@ -51,8 +48,7 @@ pub record IsDown (actors : Actors) (drives : List Drive) (x : State) : Type 0 w
 pub record IsRecovering (actors : Actors) (drives : List Drive) (x : State)
     (synced read : ℕ) : Type 0 where
   pub down : IsDown actors drives x
-  pub settled : (i : ℕ) (d : Drive) → slice_get drives i ≡ Some d → i < synced
-      → IsSettled (device_of d)
+  pub settled : (i : ℕ) (d : Drive) → slice_get drives i ≡ Some d → i < synced → IsSettled (device_of d)
   pub found : (i : ℕ) (d : Drive) → slice_get drives i ≡ Some d → i < read
       → IsFound i actors.segments (device_of d).bytes d.found
 
@@ -63,8 +59,7 @@ IsRestarting actors drives x i opening.Read = IsRecovering actors drives x (i + 
 abbrev pub IsNodeAt : Actors → List Drive → State → NodePhase → Type 0
 IsNodeAt actors drives x Up = IsUp actors drives x
 IsNodeAt actors drives x Down = IsDown actors drives x
-IsNodeAt actors drives x (Restarting i call) = (i < actors.segments)
-    × IsRestarting actors drives x i call
+IsNodeAt actors drives x (Restarting i call) = (i < actors.segments) × IsRestarting actors drives x i call
 IsNodeAt actors drives x Ready = IsRecovering actors drives x actors.segments actors.segments
 
 pub record NodeStands (w : Node) (x : State) : Type 0 where

@@ -35,16 +35,13 @@ MayStore node w = (node.phase ≡ Up) × WriterIs (phases_of_actors node.actors)
 -- move by their table, and after `NotNow` nothing has changed.
 pub record IsNodeStep (old : Node) (event : Event) (reply : Reply) (new : Node) : Type 0 where
   pub segments : new.actors.segments ≡ old.actors.segments
-  pub step : (x : State) → NodeStands old x
-      → (y : State) × Step old.actors.segments x event reply y
-      × DevicesMove old.actors.segments x (phases_of_node old) (devices_of_node old) event reply y
-      (devices_of_node new)
+  pub step : (x : State) → NodeStands old x → (y : State) × Step old.actors.segments x event reply y
+      × DevicesMove old.actors.segments x (phases_of_node old) (devices_of_node old) event reply y (devices_of_node new)
       × NodeStands new y
   pub comes : (x : State) → NodeStands old x → TellsWhether x (phases_of_node old) event reply
   pub phases : (x : State) → NodeStands old x
       → PhasesMove old.actors.segments x (phases_of_node old) event reply (phases_of_node new)
-  pub gates : (x : State) → NodeStands old x
-      → GatesTold event reply (phases_of_node new) (devices_of_node new)
+  pub gates : (x : State) → NodeStands old x → GatesTold event reply (phases_of_node new) (devices_of_node new)
   pub unchanged : reply ≡ NotNow → new ≡ old
 
 -- the actors with these devices, as a node that is up

@@ -32,5 +32,4 @@ pub record IsRecovered (d : Drive) (r s : Register) : Type 0 where
   pub view : s.view ≡ r.view
 
 abbrev pub AreRecovered : List Drive → List Register → List Register → Type 0
-AreRecovered drives old new =
-    Pairs (λ i r s. (d : Drive) → slice_get drives i ≡ Some d → IsRecovered d r s) old new
+AreRecovered drives old new = Pairs (λ i r s. (d : Drive) → slice_get drives i ≡ Some d → IsRecovered d r s) old new

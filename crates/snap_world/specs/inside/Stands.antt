@@ -31,8 +31,7 @@ IsAtPhase n h g i w s writer.Idle = s.pending ≡ Free
 IsAtPhase n h g i w s writer.Scanning = HasBegun n h g i w.value w.collector s × IsUnderWay w.collector
 IsAtPhase n h g i w s writer.Storing = HasBegun n h g i w.value w.collector s
     × HasAnswer (all_of n) h s.scan w.collector
-IsAtPhase n h g i w s writer.Stored = HasBegun n h g i w.value w.collector s
-    × HasAnswer (all_of n) h s.scan w.collector
+IsAtPhase n h g i w s writer.Stored = HasBegun n h g i w.value w.collector s × HasAnswer (all_of n) h s.scan w.collector
 IsAtPhase n h g i w s writer.Shown = (v : List ℕ) × (s.pending ≡ Shown v)
 IsAtPhase n h g i w s writer.Fenced = (v : List ℕ) × (s.pending ≡ Begun v)
 
@@ -48,11 +47,9 @@ pub record WriterStands (n : ℕ) (h : List Update) (g i : ℕ) (w : Writer)
 
 abbrev pub IsScannerAt : ℕ → List Update → ℕ → Scanner → ScannerState → ScannerPhase → Type 0
 IsScannerAt n h g c s scanner.Idle = s ≡ Closed
-IsScannerAt n h g c s scanner.Scanning =
-    (scan : ScanState) × (s ≡ Opened c.asked scan) × (g ≤ scan.start)
+IsScannerAt n h g c s scanner.Scanning = (scan : ScanState) × (s ≡ Opened c.asked scan) × (g ≤ scan.start)
     × Gathers n (set_of n c.asked) h scan c.collector × IsUnderWay c.collector
-IsScannerAt n h g c s scanner.Ready =
-    (scan : ScanState) × (s ≡ Opened c.asked scan) × (scan.last ≤ length h)
+IsScannerAt n h g c s scanner.Ready = (scan : ScanState) × (s ≡ Opened c.asked scan) × (scan.last ≤ length h)
     × HasAnswer (set_of n c.asked) h scan c.collector
 
 pub record ScannerStands (n : ℕ) (h : List Update) (g i : ℕ) (c : Scanner)

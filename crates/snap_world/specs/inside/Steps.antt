@@ -22,6 +22,5 @@ asking i (Only set) = Pick i set
 -- the reply has, of this memory, the segments that were asked for
 abbrev pub IsReplyOf : Asked → List (List ℕ) → Reply → Type 0
 IsReplyOf All memory (Memory m) = map (λ v. v.items) m.items ≡ memory
-IsReplyOf (Only set) memory (Part m) =
-    map pair_of m.items ≡ map (entry_in memory) (named set.bits)
+IsReplyOf (Only set) memory (Part m) = map pair_of m.items ≡ map (entry_in memory) (named set.bits)
 IsReplyOf asked memory reply = ⊥

@@ -83,8 +83,7 @@ impl Actors {
         ensures segments { self.new.segments ≡ self.old.segments }
         ensures registers { self.new.registers ≡ self.old.registers }
         ensures stands { (x : State) → ActorsStand self.old x
-            → WriterIs (phases_of_actors self.old) segment WriterPhase.Storing
-            → ActorsStand self.new x }
+            → WriterIs (phases_of_actors self.old) segment WriterPhase.Storing → ActorsStand self.new x }
         ensures phases { phases_of_actors self.new ≡ writer_to (phases_of_actors self.old) segment WriterPhase.Stored }
     {
         self.writers[segment].phase = WriterPhase::Stored;
@@ -96,10 +95,8 @@ impl Actors {
         requires within { segment < self.old.segments }
         ensures segments { self.new.segments ≡ self.old.segments }
         ensures stands { (x : State) → ActorsStand self.old x
-            → (s : WriterState) (v : List ℕ) → slice_get x.writers segment ≡ Some s
-            → s.pending ≡ Begun v
-            → ActorsStand self.new
-            (with_writer x segment (record s { fenced = true })) }
+            → (s : WriterState) (v : List ℕ) → slice_get x.writers segment ≡ Some s → s.pending ≡ Begun v
+            → ActorsStand self.new (with_writer x segment (record s { fenced = true })) }
         ensures phases { phases_of_actors self.new ≡ writer_to (phases_of_actors self.old) segment WriterPhase.Fenced }
     {
         self.writers[segment].phase = WriterPhase::Fenced;

@@ -32,6 +32,11 @@ impl<'a> Ready<'a> {
     pub(crate) fn new(tcp: &'a Tcp, address: SocketAddr) -> Ready<'a> {
         Ready { tcp, address }
     }
+
+    /// Closes the listener, and with it the connections that nobody accepted.
+    pub(crate) fn close(&self) {
+        self.tcp.close();
+    }
 }
 
 impl Listen for Shared<'_> {

@@ -21,8 +21,7 @@ loop-word-preserved c =
           (more_numbers (slice_get (map {A = Bor (List ℕ)} (λ w. w.now) c.args.words.now)) items
           c.in-Some.segment c.loop-word.word-index c.loop-word.invariant.0
           (subst (λ (o : Option Text). IsNumberOf o c.in-Some.segment)
-          (sym (word_at c.args.words.now c.loop-word.word-index _ (grind arith))) read.1)
-          c.loop-word.invariant.2),
+          (sym (word_at c.args.words.now c.loop-word.word-index _ (grind arith))) read.1) c.loop-word.invariant.2),
     )
 
 pub returns-in_default : goal.returns-in_default

@@ -20,12 +20,7 @@ returns g c =
     let parsed = c.in-Ok-try_get_matches_from.ensures in
     let taken = sym (ap (λ (a : App). fault_of a words) c.in-Ok.ensures)
     ∙ parsed.kinds (ap is_simple_and_free c.in-Ok.ensures ∙ simple_and_free) in
-    let command = command_met words _ c.in-Ok.ensures c.in-Ok-try_get_matches_from.matches
-    c.in-Some.matches.now parsed.matches c.in-Some.command.now c.in-Some.ensures.name
-    c.in-Some.ensures.rows in
+    let command = command_met words _ c.in-Ok.ensures c.in-Ok-try_get_matches_from.matches c.in-Some.matches.now
+    parsed.matches c.in-Some.command.now c.in-Some.ensures.name c.in-Some.ensures.rows in
     let read = meant words c.in-Some.command.now c.in-Some.matches.now taken command c.order_of.result
-    c.order_of.ensures in record {
-      limits = read.0;
-      read = read.1;
-      told = λ some. absurd (some taken);
-    }
+    c.order_of.ensures in record { limits = read.0; read = read.1; told = λ some. absurd (some taken) }

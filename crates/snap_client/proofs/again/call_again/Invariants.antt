@@ -8,10 +8,8 @@ invariant-loop-left g l = record {
   callable : goal.F-IsAlwaysCallable g l.connect;
   some : 1 ≤ l.left;
   rest : (result : Result Reply ClientFault) (last : _)
-      → TriesUpTo l.left (goal.F-step g) g.R.Read.remaining g.W.Write.contents l.request l.connect
-      result last
-      → TriesUpTo l.tries (goal.F-step g) g.R.Read.remaining g.W.Write.contents l.request
-      l.fn.connect result last;
+      → TriesUpTo l.left (goal.F-step g) g.R.Read.remaining g.W.Write.contents l.request l.connect result last
+      → TriesUpTo l.tries (goal.F-step g) g.R.Read.remaining g.W.Write.contents l.request l.fn.connect result last;
 }
 
 abbrev pub decreases-loop-left : goal.decreases-loop-left

@@ -6,8 +6,7 @@ pub returns-in-Ok : goal.returns-in-Ok
 returns-in-Ok g c = (
   1,
   c.try_once.new.connect,
-  tries_last (goal.F-step g) _ _ _ c.args.connect.now c.try_once.new.connect _
-      c.in-Ok.ensures,
+  tries_last (goal.F-step g) _ _ _ c.args.connect.now c.try_once.new.connect _ c.in-Ok.ensures,
   inl (tt, refl),
 )
 

@@ -53,16 +53,14 @@ loop-n-preserved g c =
     record {
       going = ap (λ (z : Held). z.failure) next.1;
       partial = rw (ap (λ (z : Held). z.bytes) next.1) next.0;
-      bytes = subst IsBytes (sym held)
-          (bytes-append _ piece c.loop-n.invariant.bytes c.all_bytes.ensures);
+      bytes = subst IsBytes (sym held) (bytes-append _ piece c.loop-n.invariant.bytes c.all_bytes.ensures);
       read = read_more _ _ _ _ _ _ c.loop-n.invariant.read c.in-Ok.ensures.bytes.0 held;
     }
 
 pub returns-in-Err-BadReply : goal.returns-in-Err-BadReply
 returns-in-Err-BadReply g c =
     let pushed = c.in-Ok-push.ensures.ok.1 in
-    let said = subst (λ e. IsNextReply c.push.new.self.bytes (Err e) c.next.new.self)
-    c.in-Err-BadReply.field-0-is
+    let said = subst (λ e. IsNextReply c.push.new.self.bytes (Err e) c.next.new.self) c.in-Err-BadReply.field-0-is
     (c.in-Err-BadReply.ensures.next (ap (λ (z : Held). z.failure) pushed)) in
     let read = read_more _ _ _ _ _ c.push.new.self.bytes c.loop-n.invariant.read
     c.in-Ok.ensures.bytes.0 (ap (λ (z : Held). z.bytes) pushed) in
@@ -73,8 +71,7 @@ returns-in-Err-Failed-TooLarge g c =
     let pushed = c.in-Ok-push.ensures.ok.1 in
     let here = c.in-Err-Failed-TooLarge in
     let why : here.field-0-0 ≡ TooLarge = rw here.field-0-is at here.field-0-0-is in
-    let said = subst (λ e. IsNextReply c.push.new.self.bytes (Err e) c.next.new.self)
-    (here.field-0-is ∙ ap Failed why)
+    let said = subst (λ e. IsNextReply c.push.new.self.bytes (Err e) c.next.new.self) (here.field-0-is ∙ ap Failed why)
     (here.ensures.next (ap (λ (z : Held). z.failure) pushed)) in
     let read = read_more _ _ _ _ _ c.push.new.self.bytes c.loop-n.invariant.read
     c.in-Ok.ensures.bytes.0 (ap (λ (z : Held). z.bytes) pushed) in

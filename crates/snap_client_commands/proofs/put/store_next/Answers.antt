@@ -5,8 +5,7 @@ pub go_on-requires-clause-told : goal.go_on-requires-clause-told
 go_on-requires-clause-told g c = tries_say _ _ _ _ _ _ _ _ c.answer_to-told.ensures
 
 pub go_on-requires-clause-callable : goal.go_on-requires-clause-callable
-go_on-requires-clause-callable g c =
-    tries_leave g.F.FnMut _ _ _ _ _ _ _ c.requires.callable c.answer_to-told.ensures
+go_on-requires-clause-callable g c = tries_leave g.F.FnMut _ _ _ _ _ _ _ c.requires.callable c.answer_to-told.ensures
 
 pub returns : goal.returns
 returns g c = (

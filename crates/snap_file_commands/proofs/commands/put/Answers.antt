@@ -7,8 +7,7 @@ use Rattle.snap_file_commands.specs.{Effects.LeavesNoMore, declared.fault.Comman
 use Rattle.snap_file_commands.proofs.commands.put.Goals as goal
 
 pub returns-in-Err-open-clause-count : goal.returns-in-Err-open-clause-count
-returns-in-Err-open-clause-count g c =
-    refused_count c.in-Err-open.why _ _ c.in-Err-open.ensures.count_err
+returns-in-Err-open-clause-count g c = refused_count c.in-Err-open.why _ _ c.in-Err-open.ensures.count_err
 
 pub returns-in-Err-open-clause-ends : goal.returns-in-Err-open-clause-ends
 returns-in-Err-open-clause-ends g c =
@@ -19,11 +18,10 @@ returns-in-Err-open-clause-ends g c =
     let answer = c.in-Err-open.ensures in
     let why = c.in-Err-open.why in
     let v = take c.in-Ok.len c.read_up_to.new.buffer in
-    store_ends_put honest c.args.index c.args.count (g.R.Read.remaining c.args.reader.now) v
-    (device c.args.disk) (device c.in-Err-open.disk) out out (Err (Refused why))
-    (had _ _ v came.came (came.ended (search rules)))
-    (refused_open honest c.args.index c.args.count v (device c.args.disk)
-    (device c.in-Err-open.disk) out out why answer.refusals answer.refused (Keeps-refl out))
+    store_ends_put honest c.args.index c.args.count (g.R.Read.remaining c.args.reader.now) v (device c.args.disk)
+    (device c.in-Err-open.disk) out out (Err (Refused why)) (had _ _ v came.came (came.ended (search rules)))
+    (refused_open honest c.args.index c.args.count v (device c.args.disk) (device c.in-Err-open.disk) out out why
+    answer.refusals answer.refused (Keeps-refl out))
 
 pub returns-in-Err-open-clause-keeps : goal.returns-in-Err-open-clause-keeps
 returns-in-Err-open-clause-keeps g c =
@@ -33,11 +31,10 @@ returns-in-Err-open-clause-keeps g c =
     let answer = c.in-Err-open.ensures in
     let why = c.in-Err-open.why in
     let kept = LeavesNoMore g.D.Disk c.args.disk c.in-Err-open.disk in
-    put_keeps honest (c.in-Err-open.disk ≡ c.args.disk) kept kept c.args.index c.args.count []
-    (device c.args.disk) (device c.in-Err-open.disk) out out (Err (Refused why)) (λ k. k)
-    (refused_open honest c.args.index c.args.count [] (device c.args.disk)
-    (device c.in-Err-open.disk) out out why answer.refusals answer.refused (Keeps-refl out))
-    (refused_keeps kept why (λ other. answer.any_time_err))
+    put_keeps honest (c.in-Err-open.disk ≡ c.args.disk) kept kept c.args.index c.args.count [] (device c.args.disk)
+    (device c.in-Err-open.disk) out out (Err (Refused why)) (λ k. k)
+    (refused_open honest c.args.index c.args.count [] (device c.args.disk) (device c.in-Err-open.disk) out out why
+    answer.refusals answer.refused (Keeps-refl out)) (refused_keeps kept why (λ other. answer.any_time_err))
 
 pub returns-clause-honest : goal.returns-clause-honest
 returns-clause-honest g c = λ honest. c.in-Ok-open.ensures.honest_ok
@@ -68,9 +65,8 @@ returns-clause-keeps g c =
     let is = c.into_device.ensures.device ∙ ap (λ s. s.device) same in
     rw is (opened.any_time_ok (rw is at honest)))
     (c.store-end.ensures.ends device (λ honest. held c.args.index c.args.count
-    segment.index segment.count segment.number segment.value device.bytes
-    opened.opened.0 opened.opened.1 opened.file_length (opened.holds honest)))
-    c.store-end.ensures.keeps
+    segment.index segment.count segment.number segment.value device.bytes opened.opened.0 opened.opened.1
+    opened.file_length (opened.holds honest))) c.store-end.ensures.keeps
 
 pub returns-clause-wrong_length : goal.returns-clause-wrong_length
 returns-clause-wrong_length g c = λ other. absurd (other c.in-Ok-open.ensures.file_length)

@@ -16,5 +16,4 @@ returns-in-Ok-false-clause-ends g c =
     keeping _ _ _ (g.D.Disk.device c.args.disk) (g.D.Disk.device c.is_blank.new.disk)
     (g.D.Disk.device c.keep.result.0) c.keep.result.1
     (λ honest. looked.unchanged (c.keep.ensures.honest honest)) (λ honest.
-    rw c.in-Ok-false.field-0-test at (looked.says (c.keep.ensures.honest honest)))
-    c.keep.ensures.ends
+    rw c.in-Ok-false.field-0-test at (looked.says (c.keep.ensures.honest honest))) c.keep.ensures.ends

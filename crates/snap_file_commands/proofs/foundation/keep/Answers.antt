@@ -3,8 +3,7 @@ use Rattle.snap_file_commands.proofs.Founded.{kept, unopened, unopened_count}
 use Rattle.snap_file_commands.proofs.foundation.keep.Goals as goal
 
 pub returns-in-Err-clause-count : goal.returns-in-Err-clause-count
-returns-in-Err-clause-count g c =
-    rw c.of_formatted.ensures (unopened_count c.in-Err.why _ _ c.in-Err.ensures.count_err)
+returns-in-Err-clause-count g c = rw c.of_formatted.ensures (unopened_count c.in-Err.why _ _ c.in-Err.ensures.count_err)
 
 pub returns-in-Err-clause-ends : goal.returns-in-Err-clause-ends
 returns-in-Err-clause-ends g c =

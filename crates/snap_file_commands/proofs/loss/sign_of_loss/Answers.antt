@@ -5,8 +5,7 @@ use Rattle.snap_file_commands.proofs.loss.sign_of_loss.Goals as goal
 pub loop-at-preserved : goal.loop-at-preserved
 loop-at-preserved c =
     All-more (λ number. number ≡ 0) c.args.numbers.now c.loop-at.at 0 (omega (arith, c.loop-at-test.true))
-    c.loop-at.invariant
-    (omega (arith, c.if-number-gt0.false))
+    c.loop-at.invariant (omega (arith, c.if-number-gt0.false))
 
 pub returns-clause-none : goal.returns-clause-none
 returns-clause-none c = λ _ _.

@@ -1,5 +1,5 @@
 use Rattle.std.proofs.Common.{ap₂, List, ℕ, Err, refl}
-use Rattle.snap_disk.specs.{Device.MayLeave, Time.LeavesOnly, declared.refusal.Refusal.Refusal}
+use Rattle.snap_disk.specs.{Time.LeavesOnly, declared.refusal.Refusal.Refusal}
 use Rattle.snap_disk.specs.declared.refusal.Refusal.TheVariants.{DeviceFailed}
 use Rattle.snap_segment.specs.declared.migration.Which.{Which, TheVariants.Old}
 use Rattle.snap_file_commands.specs.Migration.{IsMigrated, MigrationLeaves}
@@ -16,13 +16,10 @@ returns-in-Err-clause-new_any_time g c = λ old_honest new_honest.
     let new = g.N.Disk.device c.args.new in
     let index = c.args.order.now.index in
     let count = c.args.order.now.count in
-    let now : (x : List ℕ) → disk.might_have_left c.args.new (disk.clock c.args.new) x
-    → MayLeave new x =
-    λ x l. g.met.N.Disk.only_now c.args.new x (answer.honest_new new_honest) l in
+    let now = λ (x : List ℕ). g.met.N.Disk.only_now c.args.new x (answer.honest_new new_honest) in
     by_refusal (LeavesOnly disk c.args.new c.migrate.new.new
     (MigrationLeaves index count old new)) c.in-Err.which c.in-Err.why answer.refusals
-    (λ is_old. untouched_leaves disk c.args.new c.migrate.new.new index count old new
-    (answer.new_untouched is_old) now)
+    (λ is_old. untouched_leaves disk c.args.new c.migrate.new.new index count old new (answer.new_untouched is_old) now)
     (λ is_new is_wrong. untouched_leaves disk c.args.new c.migrate.new.new index count old new
     (answer.wrong_new_same (ap₂ (λ (w : Which) (y : Refusal). Err (w, y)) is_new is_wrong)).1 now)
     (λ past. made_leaves disk c.args.new c.migrate.new.new index count old new
@@ -55,18 +52,15 @@ returns-in-Ok-write_whole-clause-ends g c =
     let at = (goal.at.returns-in-Ok-write_whole-clause-ends g c).After-write_whole in
     (c.in-Ok-migrate.number, refl, carried g at)
 
-pub returns-in-Ok-write_whole-clause-new_any_time :
-    goal.returns-in-Ok-write_whole-clause-new_any_time
+pub returns-in-Ok-write_whole-clause-new_any_time : goal.returns-in-Ok-write_whole-clause-new_any_time
 returns-in-Ok-write_whole-clause-new_any_time g c =
     leaves g (goal.at.returns-in-Ok-write_whole-clause-new_any_time g c).After-write_whole
 
 pub returns-clause-ends : goal.returns-clause-ends
-returns-clause-ends g c =
-    (c.in-Ok-migrate.number, carried g (goal.at.returns-clause-ends g c).After-write_whole)
+returns-clause-ends g c = (c.in-Ok-migrate.number, carried g (goal.at.returns-clause-ends g c).After-write_whole)
 
 pub returns-clause-new_any_time : goal.returns-clause-new_any_time
-returns-clause-new_any_time g c =
-    leaves g (goal.at.returns-clause-new_any_time g c).After-write_whole
+returns-clause-new_any_time g c = leaves g (goal.at.returns-clause-new_any_time g c).After-write_whole
 
 pub returns-in-Err-clause-reads : goal.returns-in-Err-clause-reads
 returns-in-Err-clause-reads g c =
@@ -78,7 +72,6 @@ pub returns-in-Err-clause-keeps : goal.returns-in-Err-clause-keeps
 returns-in-Err-clause-keeps g c =
     let answer = c.in-Err.ensures in
     migration_keeps _ _ _ c.in-Err.which c.in-Err.why answer.new_untouched
-    (λ is_new is_wrong. answer.wrong_new_same
-    (ap₂ (λ (w : Which) (y : Refusal). Err (w, y)) is_new is_wrong))
+    (λ is_new is_wrong. answer.wrong_new_same (ap₂ (λ (w : Which) (y : Refusal). Err (w, y)) is_new is_wrong))
     (λ is_new is_taken honest. answer.kept honest (answer.taken honest
     (ap₂ (λ (w : Which) (y : Refusal). Err (w, y)) is_new is_taken)).0)

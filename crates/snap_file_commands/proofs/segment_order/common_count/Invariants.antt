@@ -5,5 +5,4 @@ use Rattle.snap_file_commands.proofs.segment_order.common_count.Given as goal
 
 -- the headers of the files so far have the count of the first one
 abbrev pub invariant-loop-file : goal.invariant-loop-file
-invariant-loop-file l =
-    All (λ p. IsOneOf l.first.count p × (p.count ≤ MAX_COUNT)) (take l.file l.places)
+invariant-loop-file l = All (λ p. IsOneOf l.first.count p × (p.count ≤ MAX_COUNT)) (take l.file l.places)

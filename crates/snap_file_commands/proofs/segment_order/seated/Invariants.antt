@@ -4,6 +4,5 @@ use Rattle.snap_file_commands.proofs.segment_order.seated.Given as goal
 
 -- the files of the segments so far, each of which has one
 abbrev pub invariant-loop-index : goal.invariant-loop-index
-invariant-loop-index l = (length l.order.items ≡ l.index)
-    × (sum_by file_count (take l.index l.seats) ≡ l.index)
+invariant-loop-index l = (length l.order.items ≡ l.index) × (sum_by file_count (take l.index l.seats) ≡ l.index)
     × ((i : ℕ) → i < l.index → get_or l.seats i None ≡ Some (get_or l.order.items i 0))

@@ -10,8 +10,7 @@ told c = at_end c.args.codec c.decode_eof.new.self c.decode_eof.new.src.items c.
 
 pub returns-in-Ok-None : goal.returns-in-Ok-None
 returns-in-Ok-None c = (
-  λ _. (told (goal.at.returns-in-Ok-None c).After-decode_eof).0
-      (c.in-Ok-None.is ∙ ap Ok c.in-Ok-None.field-0-is),
+  λ _. (told (goal.at.returns-in-Ok-None c).After-decode_eof).0 (c.in-Ok-None.is ∙ ap Ok c.in-Ok-None.field-0-is),
   λ _. refl,
 )
 
@@ -19,8 +18,7 @@ pub returns-in-Ok-Some : goal.returns-in-Ok-Some
 returns-in-Ok-Some c =
     let both = told (goal.at.returns-in-Ok-Some c).After-decode_eof in (
       λ wrong. absurd cc,
-      λ none. let e = sym (both.1 none) ∙ c.in-Ok-Some.is in let more =
-          c.in-Ok-Some.field-0-is in absurd cc,
+      λ none. let e = sym (both.1 none) ∙ c.in-Ok-Some.is in let more = c.in-Ok-Some.field-0-is in absurd cc,
     )
 
 pub returns : goal.returns

@@ -16,10 +16,9 @@ returns-in-OutOfMemory-clause-found c =
     c.in-Err.ensures.next).0 (sym c.kind.ensures ∙ c.in-OutOfMemory.is)
 
 pub returns-in_default : goal.returns-in_default
-returns-in_default c =
-    record {
-      found = (refused c.args.codec.now c.decode-decoded.new.self c.args.bytes.now.items
-          c.decode-decoded.new.src.items c.in-Err.error c.requires c.all_bytes.ensures
-          c.in-Err.ensures.next).1 (λ same. c.in_default.not-OutOfMemory (c.kind.ensures ∙ same));
-      ready = tt;
-    }
+returns-in_default c = record {
+  found = (refused c.args.codec.now c.decode-decoded.new.self c.args.bytes.now.items
+      c.decode-decoded.new.src.items c.in-Err.error c.requires c.all_bytes.ensures
+      c.in-Err.ensures.next).1 (λ same. c.in_default.not-OutOfMemory (c.kind.ensures ∙ same));
+  ready = tt;
+}

@@ -34,6 +34,5 @@ returns-clause-some g c =
     let none : length c.loop.rest ≡ 0 =
     eqb-true (length c.loop.rest) 0 (sym c.is_empty.ensures ∙ c.if-not-is_empty.false) in
     let read = flat_map g.E.Entry.bytes c.loop.entries.items in
-    let split = c.loop.invariant.split ∙ ap (λ xs. read ++ xs) (nil_from_length c.loop.rest none)
-    ∙ append-nil read in
+    let split = c.loop.invariant.split ∙ ap (λ xs. read ++ xs) (nil_from_length c.loop.rest none) ∙ append-nil read in
     (omega arith, c.loop.invariant.read, split)

@@ -13,5 +13,4 @@ pub returns : goal.returns
 returns g c =
     let ds = c.args.devices.items in
     let told = c.in-Err.ensures in
-    come_through g.D.Disk g.met.D.Disk.counts_now ds _ told.kept_err
-    (backs_stopped g.D.Disk ds _ _ _ told.stopped)
+    come_through g.D.Disk g.met.D.Disk.counts_now ds _ told.kept_err (backs_stopped g.D.Disk ds _ _ _ told.stopped)

@@ -3,8 +3,7 @@ use Rattle.snap_laws.proofs.Again.{still_headroom}
 use Rattle.snap_laws.proofs.crashes.open_twice.Goals as goal
 
 pub reopen-requires-clause-writers : goal.reopen-requires-clause-writers
-reopen-requires-clause-writers g c =
-    (c.in-Ok.ensures.crash.plan, c.in-Ok.ensures.crash.writers_are)
+reopen-requires-clause-writers g c = (c.in-Ok.ensures.crash.plan, c.in-Ok.ensures.crash.writers_are)
 
 pub reopen-requires-clause-headroom : goal.reopen-requires-clause-headroom
 reopen-requires-clause-headroom g c =

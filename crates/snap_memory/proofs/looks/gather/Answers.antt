@@ -12,8 +12,7 @@ not_both v j clean borrow = cc
 -- if the numbers are clean, no place of the set is borrowed from
 no_borrow : (set : ℕ) (told : List ℕ) (v : Next) → IsNext set told v → v ≡ Clean → (p : ℕ)
     → IsBorrow (size set) told p → ⊥
-no_borrow set told v decides clean p b = not_both v _ clean
-    ((decides.borrow _).1 (p, at_some set p b.segment, b))
+no_borrow set told v decides clean p b = not_both v _ clean ((decides.borrow _).1 (p, at_some set p b.segment, b))
 
 pub looks-init : goal.looks-init
 looks-init g c =
@@ -32,8 +31,7 @@ pub look-number-requires-clause-segment : goal.look-number-requires-clause-segme
 look-number-requires-clause-segment g c =
     let gathers = c.looks.invariant.gathers in
     let turn = c.next.ensures.decides.look c.in-Look.segment c.in-Look.is in
-    rw gathers.grows.plan
-    (at_below c.looks.scan.set _ turn.0 c.in-Look.segment gathers.among turn.1)
+    rw gathers.grows.plan (at_below c.looks.scan.set _ turn.0 c.in-Look.segment gathers.among turn.1)
 
 pub bounds-numbers-segment : goal.bounds-numbers-segment
 bounds-numbers-segment g c =
@@ -58,8 +56,7 @@ looks-preserved g c =
     record {
       gathers = rw (c.told.ensures.set, c.told.ensures.told)
           (Gathers-look _ _ _ _ _ _ _ _ c.looks.invariant.gathers turn.0 turn.1 turn.2 look.seen look.number
-          (c.next.ensures.decides.bound c.in-Look.segment c.in-Look.is) look.looked look.sights look.left
-          look.below);
+          (c.next.ensures.decides.bound c.in-Look.segment c.in-Look.is) look.looked look.sights look.left look.below);
       set = c.told.ensures.set ∙ c.looks.invariant.set;
     }
 
@@ -79,14 +76,12 @@ pub returns-in-Clean-clause-left : goal.returns-in-Clean-clause-left
 returns-in-Clean-clause-left g c =
     let gathers = c.looks.invariant.gathers in
     rw (← c.looks.invariant.set)
-    (takes_looks _ _ _ _ _ gathers
-    (clean_some _ _ _ _ _ gathers (c.next.ensures.decides.clean.0 c.in-Clean.is)))
+    (takes_looks _ _ _ _ _ gathers (clean_some _ _ _ _ _ gathers (c.next.ensures.decides.clean.0 c.in-Clean.is)))
 
 pub returns-in-Clean-clause-numbers : goal.returns-in-Clean-clause-numbers
 returns-in-Clean-clause-numbers g c = λ _ i l named.
     numbers_are _ _ _ _ _ c.looks.invariant.gathers (c.next.ensures.decides.clean.0 c.in-Clean.is)
-    (no_borrow _ _ _ c.next.ensures.decides c.in-Clean.is) i l
-    (rw c.looks.invariant.set named)
+    (no_borrow _ _ _ c.next.ensures.decides c.in-Clean.is) i l (rw c.looks.invariant.set named)
 
 pub returns-in-Borrow-clause-below : goal.returns-in-Borrow-clause-below
 returns-in-Borrow-clause-below g c =
@@ -103,5 +98,4 @@ pub returns-in-Borrow-clause-left : goal.returns-in-Borrow-clause-left
 returns-in-Borrow-clause-left g c =
     let from = (c.next.ensures.decides.borrow c.in-Borrow.segment).0 c.in-Borrow.is in
     let gathers = c.looks.invariant.gathers in
-    rw (← c.looks.invariant.set)
-    (takes_looks _ _ _ _ _ gathers (borrow_some _ _ _ _ _ gathers from.0 from.2))
+    rw (← c.looks.invariant.set) (takes_looks _ _ _ _ _ gathers (borrow_some _ _ _ _ _ gathers from.0 from.2))

@@ -5,8 +5,7 @@ use Rattle.snap_memory.proofs.looks.gather.Given as goal
 
 abbrev pub invariant-looks : goal.invariant-looks
 invariant-looks g l = record {
-  gathers : Gathers (g.L.Looker.known l.fn.seat) (g.L.Looker.known l.seat) l.scan.set l.scan.told
-      l.numbers;
+  gathers : Gathers (g.L.Looker.known l.fn.seat) (g.L.Looker.known l.seat) l.scan.set l.scan.told l.numbers;
   set : l.scan.set ≡ l.fn.set.bits;
 }
 

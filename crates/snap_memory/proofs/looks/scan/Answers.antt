@@ -4,8 +4,7 @@ use Rattle.snap_memory.proofs.looks.scan.Goals as goal
 
 pub scan_some-requires-clause-set : goal.scan_some-requires-clause-set
 scan_some-requires-clause-set g c =
-    all_set (g.L.Looker.known c.args.seat.now) _ _ c.segments.ensures.count c.all.ensures.all
-    c.segments.ensures.some.0
+    all_set (g.L.Looker.known c.args.seat.now) _ _ c.segments.ensures.count c.all.ensures.all c.segments.ensures.some.0
 
 pub scan_some-requires-clause-left : goal.scan_some-requires-clause-left
 scan_some-requires-clause-left g c =
@@ -24,5 +23,4 @@ returns-clause-snapshot g c =
 pub returns-clause-left : goal.returns-clause-left
 returns-clause-left g c =
     let n = c.segments.ensures in
-    rw (all_count (g.L.Looker.known c.args.seat.now) _ _ n.count c.all.ensures.all n.some.1)
-    at c.scan_some.ensures.left
+    rw (all_count (g.L.Looker.known c.args.seat.now) _ _ n.count c.all.ensures.all n.some.1) at c.scan_some.ensures.left

@@ -1,10 +1,9 @@
-use Rattle.std.proofs.Common.{◌≡◌, [], ◌∷◌, ◌++◌, None, map, Some, refl, ap, ◌∙◌, arith}
+use Rattle.std.proofs.Common.{◌≡◌, [], ◌∷◌, ◌++◌, map, refl, ap, ◌∙◌, arith}
 use Rattle.std.proofs.lemmas.{Bool.iff_false, List.length-set, List.map-append}
 use Rattle.snap_register.specs.{Rule.segments}
 use Rattle.snap_scan.proofs.Sets.{list_named, list_unnamed, named_all}
 use Rattle.snap_scan.specs.{Sets.named_below, Values.pair_of}
-use Rattle.snap_memory.specs.Rooms.{IsEntry}
-use Rattle.snap_memory.proofs.{Kept.kept_of, Kept.kept_in, ScanAnswer.entries_short}
+use Rattle.snap_memory.{specs.Rooms.IsEntry, proofs.Kept.kept_of, proofs.Kept.kept_in, proofs.ScanAnswer.entries_short}
 use Rattle.snap_memory.proofs.room.list.Goals.{then-has+in_ok-entry+in_ok-push, else-has}
 use Rattle.snap_memory.proofs.room.list.Goals as goal
 
@@ -16,34 +15,28 @@ loop-i-init g c = record {
   found = refl;
   room = refl;
   kept = c.requires.kept;
-  entries = rw c.in_ok-values.ensures.items (record {
-    count = refl;
-    each = λ p i at. absurd (let none : None ≡ Some i = at in cc);
-  });
+  entries = rw c.in_ok-values.ensures.items (record { count = refl; each = λ p i at. absurd (cc at) });
 }
 
 -- the segment's cached entry was seen
 pub take_entry-requires-clause-kept : goal.take_entry-requires-clause-kept
 take_entry-requires-clause-kept g c =
     let inv = c.loop-i.invariant in
-    kept_of (g.L.Looker.known c.args.seat.now) (g.L.Looker.known c.loop-i.seat) _ _ _ _ inv.room
-    c.requires.room c.segments-i-end.ensures.count c.loop-i-test.true c.index_mut.result.now inv.same
-    inv.kept c.index_mut.ensures.value
+    kept_of (g.L.Looker.known c.args.seat.now) (g.L.Looker.known c.loop-i.seat) _ _ _ _ inv.room c.requires.room
+    c.segments-i-end.ensures.count c.loop-i-test.true c.index_mut.result.now inv.same inv.kept c.index_mut.ensures.value
 
 -- the entry cached in its stead was seen
 pub returns-in_err-entry-clause-kept : goal.returns-in_err-entry-clause-kept
 returns-in_err-entry-clause-kept g c =
     let inv = c.loop-i.invariant in
-    kept_in (g.L.Looker.known c.args.seat.now) (g.L.Looker.known c.loop-i.seat) _ _ _ _ inv.room
-    c.requires.room c.segments-i-end.ensures.count c.loop-i-test.true c.take_entry.new.kept inv.same
-    inv.kept c.take_entry.ensures.kept
+    kept_in (g.L.Looker.known c.args.seat.now) (g.L.Looker.known c.loop-i.seat) _ _ _ _ inv.room c.requires.room
+    c.segments-i-end.ensures.count c.loop-i-test.true c.take_entry.new.kept inv.same inv.kept c.take_entry.ensures.kept
 
 pub returns-in_err-push-clause-kept : goal.returns-in_err-push-clause-kept
 returns-in_err-push-clause-kept g c =
     let inv = c.loop-i.invariant in
-    kept_in (g.L.Looker.known c.args.seat.now) (g.L.Looker.known c.loop-i.seat) _ _ _ _ inv.room
-    c.requires.room c.segments-i-end.ensures.count c.loop-i-test.true c.take_entry.new.kept inv.same
-    inv.kept c.take_entry.ensures.kept
+    kept_in (g.L.Looker.known c.args.seat.now) (g.L.Looker.known c.loop-i.seat) _ _ _ _ inv.room c.requires.room
+    c.segments-i-end.ensures.count c.loop-i-test.true c.take_entry.new.kept inv.same inv.kept c.take_entry.ensures.kept
 
 pub loop-i-preserved : goal.loop-i-preserved
 loop-i-preserved g c =
@@ -54,19 +47,19 @@ loop-i-preserved g c =
       | then-has+in_ok-entry+in_ok-push w ↦ (
           let entry = rw inv.same at w.in_ok-entry.ensures.entry in
           let listed = list_named (IsEntry a c.args.found) c.args.set.bits c.loop-i.i before
-          (c.has.ensures.names.0 w.if-has.true) (pair_of w.in_ok-entry.entry) entry
-          (inv.entries.count, inv.entries.each) in
+          (c.has.ensures.names.0 w.if-has.true)
+          (pair_of w.in_ok-entry.entry) entry (inv.entries.count, inv.entries.each) in
           let values : map pair_of w.push.new.self.items ≡ before ++ pair_of w.in_ok-entry.entry ∷ [] =
-          ap (map pair_of) w.in_ok-push.ensures.items
-          ∙ map-append pair_of c.loop-i.values.items (w.in_ok-entry.entry ∷ []) in
+          ap (map pair_of) w.in_ok-push.ensures.items ∙ map-append pair_of c.loop-i.values.items
+          (w.in_ok-entry.entry ∷ []) in
           rw w.seat-is (rw w.room-is (rw w.values-is (record {
             same = w.take_entry.ensures.same ∙ inv.same;
             set = refl;
             found = refl;
             room = length-set c.loop-i.room.items c.loop-i.i w.take_entry.new.kept ∙ inv.room;
             kept = kept_in a (g.L.Looker.known c.loop-i.seat) _ _ _ _ inv.room c.requires.room
-                c.segments-i-end.ensures.count c.loop-i-test.true w.take_entry.new.kept inv.same
-                inv.kept w.take_entry.ensures.kept;
+                c.segments-i-end.ensures.count c.loop-i-test.true w.take_entry.new.kept inv.same inv.kept
+                w.take_entry.ensures.kept;
             entries = rw values (record { count = listed.0; each = listed.1 });
           }))))
       | else-has w ↦ (
@@ -88,11 +81,8 @@ returns g c =
     let inv = c.loop-i.invariant in
     let count = c.segments-i-end.ensures.count in
     let few = c.segments-i-end.ensures.some.1 in
-    let done = c.loop-i-test.false in
-    let end = c.loop-i.auto.i-end in
-    let is : c.loop-i.i ≡ segments a.plan = omega arith in
-    let entries = rw (is, named_all c.args.set.bits (segments a.plan) (omega arith) c.requires.set)
-    at inv.entries in
+    let is : c.loop-i.i ≡ segments a.plan = omega (arith, c.loop-i-test.false, c.loop-i.auto.i-end) in
+    let entries = rw (is, named_all c.args.set.bits (segments a.plan) (omega arith) c.requires.set) at inv.entries in
     record {
       entries = entries;
       short = entries_short c.args.set.bits a a c.args.found c.loop-i.values.items entries;

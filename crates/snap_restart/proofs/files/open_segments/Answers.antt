@@ -2,8 +2,7 @@ use Rattle.std.proofs.Common.{rules, ◌≡◌, ℕ, suc, ◌+◌, length, take,
 use Rattle.std.proofs.lemmas.List.{length_push, length-take-le}
 use Rattle.snap_history.proofs.Removals.{taken, all_taken}
 use Rattle.snap_register.proofs.Pairs.{Pairs-push}
-use Rattle.snap_restart.specs.Opened.{IsOpened}
-use Rattle.snap_restart.proofs.Removals.{one_fewer, none_comes}
+use Rattle.snap_restart.{specs.Opened.IsOpened, proofs.Removals.one_fewer, proofs.Removals.none_comes}
 use Rattle.snap_restart.proofs.Refusals.{back_later, returned_here, stopped_at}
 use Rattle.snap_restart.proofs.files.open_segments.Goals as goal
 
@@ -63,11 +62,9 @@ returns-in-Err-clause-stopped g c =
     let low = next.inside in
     let index : c.len-index.result ≡ k = search rules in
     let back = back_later g.D.Disk g.met.D.Disk.counts_now d e o.honest_err o.any_time_err in
-    let here = returned_here g.D.Disk c.len-count.result c.len-index.result why d e back
-    o.count_err o.refused in
-    stopped_at g.D.Disk g.met.D.Disk.only_now why ds c.returned.result.items ss d e _ c.len-index.result
-    index (rw index next.head) (omega arith) (rw index inv.opened) o.refusals (rw (← inv.count) here)
-    c.returned.ensures
+    let here = returned_here g.D.Disk c.len-count.result c.len-index.result why d e back o.count_err o.refused in
+    stopped_at g.D.Disk g.met.D.Disk.only_now why ds c.returned.result.items ss d e _ c.len-index.result index
+    (rw index next.head) (omega arith) (rw index inv.opened) o.refusals (rw (← inv.count) here) c.returned.ensures
 
 pub returns-clause-opened : goal.returns-clause-opened
 returns-clause-opened g c =

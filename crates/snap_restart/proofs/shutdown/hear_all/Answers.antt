@@ -7,10 +7,8 @@ use Rattle.snap_restart.proofs.Meetings.{together_grown, heard_step, met_more}
 use Rattle.snap_restart.proofs.shutdown.hear_all.Goals as goal
 use Rattle.snap_restart.proofs.shutdown.hear_all.Goals.{After-index_mut}
 
-at : (g : _) (c : After-index_mut g)
-    → slice_get c.loop-k.scanners.items c.loop-k.k ≡ Some c.index_mut.result.now
-at g c = slice_get_read c.loop-k.scanners.items (length c.loop-k.scanners.items) c.loop-k.k
-    c.index_mut.result.now refl (search rules) (search rules)
+at : (g : _) (c : After-index_mut g) → slice_get c.loop-k.scanners.items c.loop-k.k ≡ Some c.index_mut.result.now
+at g c = slice_get_read _ (length c.loop-k.scanners.items) _ _ refl (search rules) (search rules)
 
 -- the scanner to be met next: at first, and now
 next : (g : _) (c : After-index_mut g) → (b : Known)
@@ -32,14 +30,11 @@ loop-k-preserved g c =
     let b = next g now in
     let grows = c.meet.ensures.scanner.grows in
     record {
-      writer = met_more c.args.writer.now c.loop-k.writer c.meet.new.self inv.writer
+      writer = met_more _ _ _ inv.writer
           (record { segment_is = c.meet.ensures.segment; grows = c.meet.ensures.writer.grows });
-      scanners = pairs_moved Grows grows_more c.args.scanners.now.items c.loop-k.scanners.items
-          c.loop-k.k c.index_mut.result.now c.meet.new.scanner (at g now) grows inv.scanners;
-      heard = heard_step c.args.scanners.now.items c.loop-k.k b.0 c.meet.new.scanner
-          c.loop-k.writer.seat c.meet.new.self.seat b.1 inv.heard
-          (grows_more b.0 c.index_mut.result.now c.meet.new.scanner b.2 grows)
-          c.meet.ensures.writer.grows c.meet.ensures.met;
+      scanners = pairs_moved Grows grows_more _ _ _ _ _ (at g now) grows inv.scanners;
+      heard = heard_step _ _ b.0 _ _ _ b.1 inv.heard (grows_more b.0 _ _ b.2 grows) c.meet.ensures.writer.grows
+          c.meet.ensures.met;
     }
 
 pub returns-clause-heard : goal.returns-clause-heard

@@ -13,9 +13,8 @@ heard : (g : _) (c : After-index_mut-scanner g) → Pairs (λ _. HasMet) c.args.
     (slice_set c.args.writers.now.items 0 c.hear_all.new.writer)
 heard g c =
     let w0 = c.args.writers.now.items in
-    first_met w0 c.index_mut.result.now c.hear_all.new.writer
-    (slice_get_read w0 (length w0) 0 c.index_mut.result.now refl c.requires.back.some
-    c.index_mut.ensures.value) c.hear_all.ensures.writer
+    first_met w0 _ _ (slice_get_read w0 (length w0) 0 _ refl c.requires.back.some c.index_mut.ensures.value)
+    c.hear_all.ensures.writer
 
 -- the first scanner: at first, and after that
 scanner : (g : _) (c : After-index_mut-scanner g) → (b : Known)
@@ -33,8 +32,7 @@ meet_all-requires g c =
     let now = (goal.at.meet_all-requires g c).After-index_mut-scanner in
     let b = scanner g now in
     record {
-      together = together_after c.args.writers.now.items _ c.args.scanners.now.items b.0
-          c.index_mut-scanner.result.now c.requires.back b.1 (heard g now) b.2;
+      together = together_after _ _ _ b.0 _ c.requires.back b.1 (heard g now) b.2;
     }
 
 pub meet_all-requires-2 : goal.meet_all-requires-2
@@ -42,12 +40,9 @@ meet_all-requires-2 g c =
     let now = (goal.at.meet_all-requires-2 g c).After-index_mut-scanner in
     let b = scanner g now in
     record {
-      together = together_after c.args.writers.now.items _ c.args.scanners.now.items b.0
-          c.meet_all.new.scanner c.requires.back b.1
-          (pairs_more HasMet met_more c.args.writers.now.items _ c.meet_all.new.writers.items
-          (heard g now) c.meet_all.ensures.writers)
-          (grows_more b.0 c.index_mut-scanner.result.now c.meet_all.new.scanner b.2
-          c.meet_all.ensures.scanner);
+      together = together_after _ _ _ b.0 _ c.requires.back b.1
+          (pairs_more HasMet met_more _ _ _ (heard g now) c.meet_all.ensures.writers)
+          (grows_more b.0 _ _ b.2 c.meet_all.ensures.scanner);
     }
 
 pub returns-clause-met : goal.returns-clause-met
@@ -61,8 +56,6 @@ returns-clause-met g c =
 pub returns-clause-history : goal.returns-clause-history
 returns-clause-history g c =
     let w0 = c.args.writers.now.items in
-    history_told w0 _ _ c.args.scanners.now.items c.hear_all.new.writer
-    c.index_mut-scanner.result.now c.meet_all.new.scanner c.meet_all-2.new.scanner c.requires.back
-    (heard g (goal.at.returns-clause-history g c).After-index_mut-scanner)
+    history_told w0 _ _ _ _ _ _ _ c.requires.back (heard g (goal.at.returns-clause-history g c).After-index_mut-scanner)
     c.meet_all.ensures.writers c.meet_all.ensures.told c.meet_all-2.ensures.told
-    (get-set_same w0 0 c.hear_all.new.writer c.requires.back.some) c.hear_all.ensures.heard
+    (get-set_same w0 0 _ c.requires.back.some) c.hear_all.ensures.heard

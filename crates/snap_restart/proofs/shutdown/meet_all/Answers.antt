@@ -7,10 +7,8 @@ use Rattle.snap_restart.{specs.Closed.HasMet, proofs.Pairs.partner_of, proofs.Pa
 use Rattle.snap_restart.proofs.shutdown.meet_all.Goals as goal
 use Rattle.snap_restart.proofs.shutdown.meet_all.Goals.{After-index_mut}
 
-at : (g : _) (c : After-index_mut g)
-    → slice_get c.loop-i.writers.items c.loop-i.i ≡ Some c.index_mut.result.now
-at g c = slice_get_read c.loop-i.writers.items (length c.loop-i.writers.items) c.loop-i.i
-    c.index_mut.result.now refl (search rules) (search rules)
+at : (g : _) (c : After-index_mut g) → slice_get c.loop-i.writers.items c.loop-i.i ≡ Some c.index_mut.result.now
+at g c = slice_get_read _ (length c.loop-i.writers.items) _ _ refl (search rules) (search rules)
 
 -- the writer to be met next: at first, and now
 next : (g : _) (c : After-index_mut g) → (w : WriterState g.row.D.Denot)
@@ -21,9 +19,8 @@ pub meet-requires : goal.meet-requires
 meet-requires g c =
     let w = next g (goal.at.meet-requires g c).After-index_mut in
     record {
-      together = together_grown c.args.scanner.now w.0.seat c.loop-i.scanner
-          c.index_mut.result.now.seat (c.requires.together c.loop-i.i w.0 w.1)
-          c.loop-i.invariant.scanner w.2.grows;
+      together = together_grown c.args.scanner.now w.0.seat c.loop-i.scanner c.index_mut.result.now.seat
+          (c.requires.together c.loop-i.i w.0 w.1) c.loop-i.invariant.scanner w.2.grows;
     }
 
 pub loop-i-preserved : goal.loop-i-preserved
@@ -35,12 +32,10 @@ loop-i-preserved g c =
     record { segment_is = c.meet.ensures.segment; grows = c.meet.ensures.writer.grows } in
     let grows = c.meet.ensures.scanner.grows in
     record {
-      writers = pairs_moved HasMet met_more c.args.writers.now.items c.loop-i.writers.items
-          c.loop-i.i c.index_mut.result.now c.meet.new.self (at g now) met inv.writers;
-      scanner = grows_more c.args.scanner.now c.loop-i.scanner c.meet.new.scanner inv.scanner grows;
-      told = told_step c.args.writers.now.items c.loop-i.i w.0 c.args.scanner.now
-          c.loop-i.scanner c.meet.new.scanner c.meet.new.self.seat w.1 inv.told inv.scanner grows
-          (met_more w.0 c.index_mut.result.now c.meet.new.self w.2 met).grows c.meet.ensures.met;
+      writers = pairs_moved HasMet met_more _ _ _ _ _ (at g now) met inv.writers;
+      scanner = grows_more _ _ _ inv.scanner grows;
+      told = told_step _ _ w.0 _ _ _ _ w.1 inv.told inv.scanner grows (met_more w.0 _ _ w.2 met).grows
+          c.meet.ensures.met;
     }
 
 pub returns-clause-told : goal.returns-clause-told

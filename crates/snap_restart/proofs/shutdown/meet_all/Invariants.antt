@@ -8,6 +8,5 @@ abbrev pub invariant-loop-i : goal.invariant-loop-i
 invariant-loop-i g l = record {
   writers : Pairs (λ _. HasMet) l.fn.writers.items l.writers.items;
   scanner : Grows l.fn.scanner l.scanner;
-  told : (j : ℕ) (w : _) → slice_get l.fn.writers.items j ≡ Some w → j < l.i
-      → IsTold w.seat l.fn.scanner l.scanner;
+  told : (j : ℕ) (w : _) → slice_get l.fn.writers.items j ≡ Some w → j < l.i → IsTold w.seat l.fn.scanner l.scanner;
 }

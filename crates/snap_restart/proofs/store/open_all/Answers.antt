@@ -10,8 +10,7 @@ use Rattle.snap_restart.proofs.store.open_all.Goals as goal
 pub place_writers-requires-clause-starts : goal.place_writers-requires-clause-starts
 place_writers-requires-clause-starts g c =
     let had = c.in-Ok-take_memory.ensures in
-    starts_are had.seats.0 had.seats.1 c.in-Ok.opened.0.items _ had.seats.2 had.seats.3
-    had.counts.0
+    starts_are had.seats.0 had.seats.1 c.in-Ok.opened.0.items _ had.seats.2 had.seats.3 had.counts.0
 
 pub returns-in-Ok-take_memory-clause-opened : goal.returns-in-Ok-take_memory-clause-opened
 returns-in-Ok-take_memory-clause-opened g c = rw c.place_writers.ensures.segments c.in-Ok.ensures.opened
@@ -19,8 +18,7 @@ returns-in-Ok-take_memory-clause-opened g c = rw c.place_writers.ensures.segment
 pub returns-in-Ok-take_memory-clause-starts : goal.returns-in-Ok-take_memory-clause-starts
 returns-in-Ok-take_memory-clause-starts g c =
     let had = c.in-Ok-take_memory.ensures in
-    paired_are had.seats.0 had.seats.1 c.in-Ok.opened.0.items _ had.seats.2 had.seats.3
-    had.counts.0 c.place_scanners.result.items c.place_writers.result.items
+    paired_are had.seats.0 had.seats.1 _ _ had.seats.2 had.seats.3 had.counts.0 c.place_scanners.result.items _
     c.place_writers.ensures.seats c.place_writers.ensures.segments
 
 pub returns-in-Ok-take_memory-clause-fresh : goal.returns-in-Ok-take_memory-clause-fresh
@@ -39,25 +37,19 @@ returns-in-Ok-take_memory-clause-back g c =
 
 pub returns-in-Ok-take_memory-clause-crash : goal.returns-in-Ok-take_memory-clause-crash
 returns-in-Ok-take_memory-clause-crash g c =
-    opened g.D.Disk c.args.devices.items c.place_writers.result.items
-    c.place_scanners.result.items (returns-in-Ok-take_memory-clause-fresh g c)
-    (returns-in-Ok-take_memory-clause-opened g c) (returns-in-Ok-take_memory-clause-starts g c)
-    (returns-in-Ok-take_memory-clause-back g c)
+    opened g.D.Disk _ _ _ (returns-in-Ok-take_memory-clause-fresh g c) (returns-in-Ok-take_memory-clause-opened g c)
+    (returns-in-Ok-take_memory-clause-starts g c) (returns-in-Ok-take_memory-clause-back g c)
 
 pub returns-in-Ok-take_memory-clause-stays : goal.returns-in-Ok-take_memory-clause-stays
 returns-in-Ok-take_memory-clause-stays g c =
-    stay_stored g.D.Disk g.met.D.Disk.only_now c.args.devices.items c.place_writers.result.items
-    (returns-in-Ok-take_memory-clause-crash g c)
+    stay_stored g.D.Disk g.met.D.Disk.only_now _ _ (returns-in-Ok-take_memory-clause-crash g c)
 
 pub returns-in-Ok-take_memory-clause-kept_ok : goal.returns-in-Ok-take_memory-clause-kept_ok
 returns-in-Ok-take_memory-clause-kept_ok g c =
-    stay_kept g.D.Disk c.args.devices.items _ (backs_opened g.D.Disk c.args.devices.items
-    c.place_writers.result.items (returns-in-Ok-take_memory-clause-opened g c))
+    stay_kept g.D.Disk _ _ (backs_opened g.D.Disk _ _ (returns-in-Ok-take_memory-clause-opened g c))
 
 pub returns-in-Err-clause-kept_err : goal.returns-in-Err-clause-kept_err
-returns-in-Err-clause-kept_err g c =
-    stay_kept g.D.Disk c.args.devices.items _ (backs_stopped g.D.Disk c.args.devices.items _ _ _
-    c.in-Err.ensures.stopped)
+returns-in-Err-clause-kept_err g c = stay_kept g.D.Disk _ _ (backs_stopped g.D.Disk _ _ _ _ c.in-Err.ensures.stopped)
 
 pub returns-in-Ok-take_memory-clause-report : goal.returns-in-Ok-take_memory-clause-report
 returns-in-Ok-take_memory-clause-report g c =
@@ -75,15 +67,13 @@ returns-in-Err-take_memory-clause-stopped g c =
 
 pub returns-in-Err-take_memory-clause-kept_err : goal.returns-in-Err-take_memory-clause-kept_err
 returns-in-Err-take_memory-clause-kept_err g c =
-    stay_kept g.D.Disk c.args.devices.items _ (backs_stopped g.D.Disk c.args.devices.items
-    c.release.new.devices.items NoMemory _ (returns-in-Err-take_memory-clause-stopped g c))
+    stay_kept g.D.Disk _ _ (backs_stopped g.D.Disk _ _ NoMemory _ (returns-in-Err-take_memory-clause-stopped g c))
 
 pub take_memory-requires-clause-count : goal.take_memory-requires-clause-count
 take_memory-requires-clause-count g c = rw (← c.in-Ok.ensures.opened.size) c.requires.count
 
 pub place_scanners-requires-clause-room : goal.place_scanners-requires-clause-room
-place_scanners-requires-clause-room g c =
-    rw c.in-Ok-take_memory.ensures.counts.1 c.in-Ok-take_memory.ensures.scanners.1
+place_scanners-requires-clause-room g c = rw c.in-Ok-take_memory.ensures.counts.1 c.in-Ok-take_memory.ensures.scanners.1
 
 pub release-requires : goal.release-requires
 release-requires g c =

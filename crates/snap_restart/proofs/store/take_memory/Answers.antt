@@ -1,5 +1,4 @@
-use Rattle.std.proofs.Common.{length, ap, arith}
-use Rattle.std.proofs.lemmas.List.{length-map}
+use Rattle.std.proofs.{Common.length, Common.ap, Common.arith, lemmas.List.length-map}
 use Rattle.snap_restart.proofs.store.take_memory.Goals as goal
 
 pub open-requires-clause-count : goal.open-requires-clause-count

@@ -39,9 +39,7 @@ pub returns : goal.returns
 returns g c =
     let inv = c.loop-segment.invariant in
     record {
-      contents = inv.contents
-          ∙ all_of contents c.loop-segment.segment-index c.deref-segment-items.result.now
-          c.args.segments.now.items c.loop-segment-test.false c.deref-segment-items.ensures.value;
+      contents = inv.contents ∙ all_of contents _ _ _ c.loop-segment-test.false c.deref-segment-items.ensures.value;
       numbers = inv.numbers;
       sizes = inv.sizes;
     }

@@ -15,6 +15,5 @@ returns-clause-clean c n number entry b e told latest rising kept pos is clean n
     clean_moment (List ℕ) n number entry b e told latest is rising kept pos clean none
 
 pub returns-clause-borrow : goal.returns-clause-borrow
-returns-clause-borrow c n number entry b e t told latest j p rising end is turn borrowed none pl
-    before = borrow_moment (List ℕ) n number entry b e told latest is rising t j end turn borrowed p
-    pl before none
+returns-clause-borrow c n number entry b e t told latest j p rising end is turn borrowed none pl before = borrow_moment
+    (List ℕ) n number entry b e told latest is rising t j end turn borrowed p pl before none

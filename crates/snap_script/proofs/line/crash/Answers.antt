@@ -14,9 +14,4 @@ loop-rest-preserved c =
     c.in-Some-2.fill (rw c.in-Some-2.is at c.in_ok-fill.ensures))
 
 pub returns : goal.returns
-returns c = (
-  _,
-  refl,
-  some_word c.args.operands.now,
-  read_whole c.loop-rest.invariant c.in_default.not-Some,
-)
+returns c = (_, refl, some_word c.args.operands.now, read_whole c.loop-rest.invariant c.in_default.not-Some)

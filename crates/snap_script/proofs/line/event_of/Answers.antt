@@ -5,21 +5,6 @@ use Rattle.snap_world.specs.declared.event.Event.{Event}
 use Rattle.snap_script.specs.declared.verb.Verb.TheVariants as verb
 use Rattle.snap_script.proofs.line.event_of.Goals as goal
 
-pub returns-in-Begin : goal.returns-in-Begin
-returns-in-Begin c = rw c.in-Begin.is c.begin.ensures
-
-pub returns-in-Fail : goal.returns-in-Fail
-returns-in-Fail c = rw c.in-Fail.is c.fail.ensures
-
-pub returns-in-Crash : goal.returns-in-Crash
-returns-in-Crash c = rw c.in-Crash.is c.crash.ensures
-
-pub returns-in-RestartFail : goal.returns-in-RestartFail
-returns-in-RestartFail c = rw c.in-RestartFail.is c.restart_fail.ensures
-
-pub returns-in-Look : goal.returns-in-Look
-returns-in-Look c = rw c.in-Look.is c.look.ensures
-
 -- the verbs that no word follows
 bare : (v : Verb) (line : List ℕ) → (v ≡ verb.Restart) ⊎ ((v ≡ verb.RestartCall) ⊎ (v ≡ verb.Serve))
     → (e : Event) → HasForm v (words_of line) e → ⊥

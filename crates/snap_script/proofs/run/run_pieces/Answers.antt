@@ -21,11 +21,8 @@ returns-in-Err g c = runs_cut c.loop.invariant.2 c.in-Err.error c.in-Err.ensures
 pub returns-in-Err-take : goal.returns-in-Err-take
 returns-in-Err-take g c =
     let fed = c.loop.invariant.2 in
-    let piece = take c.in-Ok.len c.read.new.buf in (
-      _,
-      read_on fed _ piece c.in-Ok.ensures.bytes.0,
-      c.in-Err-take.ensures.err fed.taken _ _ fed.has_taken,
-    )
+    let piece = take c.in-Ok.len c.read.new.buf in
+    (_, read_on fed _ piece c.in-Ok.ensures.bytes.0, c.in-Err-take.ensures.err fed.taken _ _ fed.has_taken)
 
 pub loop-preserved : goal.loop-preserved
 loop-preserved g c =

@@ -1,8 +1,7 @@
-use Rattle.std.proofs.Common.{◌≡◌, inl, inr, ℕ, Bool, true, List, Result, Ok, Err, is_ok, sym, subst, rules, arith}
-use Rattle.std.proofs.lemmas.Grind.{common_steps}
+use Rattle.std.proofs.Common.{◌≡◌, inl, inr, ℕ, Bool, true, List, Result, Ok, Err, is_ok, rules}
 use Rattle.std.specs.Prelude.{IsTrue, ◌↔◌, OnOk}
 use Rattle.snap_disk.specs.Device.{IsSettled, IsSynced}
-use Rattle.snap_slot.{specs.Layout.IsUnformatted, proofs.Blank.gate_leaves, proofs.Blank.formatted}
+use Rattle.snap_slot.{proofs.Blank.gate_leaves, proofs.Blank.formatted, specs.Layout.IsUnformatted}
 use Rattle.snap_segment.specs.{Calls.Leaves, Calls.LeavesAsBefore, Creation.IsMadeOrLeft}
 use Rattle.snap_segment.proofs.{Leaves.then, Leaves.weaker, Made.made_bytes}
 use Rattle.snap_disk.specs.declared.disk.Disk as Disk
@@ -17,59 +16,36 @@ on_ok_too (Err e) (Ok y) same more holds = absurd cc
 on_ok_too (Err e) (Err f) same more holds = tt
 
 -- after the gate was read and found closed, and the front was written
-front_leaves : {D : Type 0} (disk : Disk.Ghosts D) (i n k : ℕ) (v : List ℕ) (old looked front : D)
-    (found : Bool) → LeavesAsBefore disk old looked → IsSynced (disk.device old) (disk.device looked)
-    → found ≡ true → IsTrue found ↔ IsUnformatted (disk.device old).bytes
-    → (IsSettled (disk.device looked) → IsUnformatted (disk.device looked).bytes
-    → Leaves disk looked front IsUnformatted)
-    → Leaves disk old front (IsMadeOrLeft i n k v (disk.device old))
-front_leaves disk i n k v old looked front found kept synced closed tells leaves =
-    then disk kept (leaves synced.settled (subst IsUnformatted (sym synced.same) (tells.0 closed)))
-    (λ b was. inl was) (λ b closed. inr (inl closed))
+front_leaves : {D : Type 0} (disk : Disk.Ghosts D) (i n k : ℕ) (v : List ℕ) (old looked front : D) (found : Bool)
+    → LeavesAsBefore disk old looked → IsSynced (disk.device old) (disk.device looked) → found ≡ true → IsTrue found
+    ↔ IsUnformatted (disk.device old).bytes → (IsSettled (disk.device looked) → IsUnformatted (disk.device looked).bytes
+    → Leaves disk looked front IsUnformatted) → Leaves disk old front (IsMadeOrLeft i n k v (disk.device old))
+front_leaves disk i n k v old looked front found kept synced closed tells leaves = search rules
 
 pub returns-in-Err-clause-leaves : goal.returns-in-Err-clause-leaves
-returns-in-Err-clause-leaves g c honest =
-    weaker g.D.Disk (c.is_unformatted.ensures.kept honest) (λ b left. inl left)
+returns-in-Err-clause-leaves g c honest = weaker g.D.Disk (c.is_unformatted.ensures.kept honest) (λ b left. inl left)
 
 pub returns-in-Err-write_front-clause-leaves : goal.returns-in-Err-write_front-clause-leaves
-returns-in-Err-write_front-clause-leaves g c honest =
-    let looked = c.write_front.ensures.honest honest in
-    front_leaves g.D.Disk _ _ _ _ _ _ _ _ (c.is_unformatted.ensures.kept looked)
-    (c.in-Ok-true.ensures.settled looked) c.in-Ok-true.field-0-test
-    (c.in-Ok-true.ensures.unformatted looked) (c.write_front.ensures.leaves honest)
+returns-in-Err-write_front-clause-leaves g c honest = search (rules, front_leaves)
 
 pub returns-clause-leaves : goal.returns-clause-leaves
 returns-clause-leaves g c honest =
     let front = c.write_synced.ensures.honest honest in
     let looked = c.write_front.ensures.honest front in
-    then g.D.Disk
-    (front_leaves g.D.Disk _ _ _ _ _ _ _ _ (c.is_unformatted.ensures.kept looked)
-    (c.in-Ok-true.ensures.settled looked) c.in-Ok-true.field-0-test
-    (c.in-Ok-true.ensures.unformatted looked) (c.write_front.ensures.leaves front))
+    then g.D.Disk (front_leaves g.D.Disk _ _ _ _ _ _ _ _ (c.is_unformatted.ensures.kept looked)
+    (c.in-Ok-true.ensures.settled looked) c.in-Ok-true.field-0-test (c.in-Ok-true.ensures.unformatted looked)
+    (c.write_front.ensures.leaves front))
     (record { any_time = c.write_synced.ensures.any_time honest; now = c.write_synced.ensures.now honest })
-    (λ b p. p) (λ b left. inr (gate_leaves c.args.index c.args.count c.args.number c.args.value.now
-    c.requires.below c.requires.few c.requires.number c.requires.fits _
-    (c.in-Ok.ensures.prepared front) b left))
+    (λ b p. p) (λ b left. inr (gate_leaves c.args.index c.args.count c.args.number c.args.value.now c.requires.below
+    c.requires.few c.requires.number c.requires.fits _ (c.in-Ok.ensures.prepared front) b left))
 
 pub returns-clause-last : goal.returns-clause-last
-returns-clause-last g c honest =
-    on_ok_too c.write_synced.result c.map_err.result c.map_err.ensures.variant
-    (formatted c.args.index c.args.count c.args.number c.args.value.now c.requires.below
-    c.requires.few c.requires.number c.requires.fits _
-    (c.in-Ok.ensures.prepared (c.write_synced.ensures.honest honest))
-    (g.D.Disk.device c.write_synced.new.device)) (c.write_synced.ensures.written honest)
+returns-clause-last g c honest = search (rules, on_ok_too, formatted)
 
 pub returns-clause-bytes : goal.returns-clause-bytes
-returns-clause-bytes g c honest =
-    on_ok_too c.write_synced.result c.map_err.result c.map_err.ensures.variant
-    (made_bytes c.args.index c.args.count c.args.number c.args.value.now _
-    (g.D.Disk.device c.write_synced.new.device)
-    (c.in-Ok.ensures.prepared (c.write_synced.ensures.honest honest)))
-    (c.write_synced.ensures.written honest)
+returns-clause-bytes g c honest = on_ok_too c.write_synced.result c.map_err.result c.map_err.ensures.variant
+    (made_bytes c.args.index c.args.count c.args.number c.args.value.now _ (g.D.Disk.device c.write_synced.new.device)
+    (c.in-Ok.ensures.prepared (c.write_synced.ensures.honest honest))) (c.write_synced.ensures.written honest)
 
 pub returns-clause-gate : goal.returns-clause-gate
-returns-clause-gate g c = record {
-  taken_calls = search rules;
-  taken = grind (arith, common_steps);
-  unformatted = search rules;
-}
+returns-clause-gate g c = search rules

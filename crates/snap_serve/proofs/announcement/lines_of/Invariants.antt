@@ -3,5 +3,4 @@ use Rattle.snap_serve.specs.Serve.{listening_line}
 use Rattle.snap_serve.proofs.announcement.lines_of.Given as goal
 
 abbrev pub invariant-places : goal.invariant-places
-invariant-places l =
-    string_bytes l.lines ≡ flat_map listening_line (take l.endpoint-index l.fn.endpoints)
+invariant-places l = string_bytes l.lines ≡ flat_map listening_line (take l.endpoint-index l.fn.endpoints)

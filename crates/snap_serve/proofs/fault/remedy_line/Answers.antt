@@ -3,8 +3,7 @@ use Rattle.std.proofs.Common.{slice_get, string_bytes, sym, ◌∙◌}
 use Rattle.std.proofs.lemmas.Option.{IfSome_then, same_Some, slice_get_read, slice_get_within}
 use Rattle.snap_serve.proofs.fault.remedy_line.Goals as goal
 
-none_there : {A : Type 0} (xs ys : List A) (k : ℕ) (x : A) → xs ≡ ys → length xs ≤ k
-    → slice_get ys k ≡ Some x → ⊥
+none_there : {A : Type 0} (xs ys : List A) (k : ℕ) (x : A) → xs ≡ ys → length xs ≤ k → slice_get ys k ≡ Some x → ⊥
 none_there xs ys k x same out at =
     let inside = slice_get_within ys k x at in let long = ap length same in omega arith
 

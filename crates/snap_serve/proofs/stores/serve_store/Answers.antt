@@ -8,13 +8,11 @@ serve_memory-requires-clause-writers g c = λ κs within.
     (writers_of c.args.store.writers.items c.args.store.scanners.items c.requires.back)
 
 pub serve_memory-requires-clause-scanners : goal.serve_memory-requires-clause-scanners
-serve_memory-requires-clause-scanners g c = λ κs within.
-    rw c.into_parts-writers.ensures.scanners
+serve_memory-requires-clause-scanners g c = λ κs within. rw c.into_parts-writers.ensures.scanners
     (scanners_of c.args.store.writers.items c.args.store.scanners.items c.requires.back)
 
 pub serve_memory-requires-clause-opened : goal.serve_memory-requires-clause-opened
-serve_memory-requires-clause-opened g c = λ κs within.
-    rw c.into_parts-writers.ensures.writers c.requires.opened
+serve_memory-requires-clause-opened g c = λ κs within. rw c.into_parts-writers.ensures.writers c.requires.opened
 
 pub serve_memory-requires-clause-requests : goal.serve_memory-requires-clause-requests
 serve_memory-requires-clause-requests g c = λ κs within. elim [
@@ -25,6 +23,5 @@ serve_memory-requires-clause-requests g c = λ κs within. elim [
 ]
 
 pub serve_memory-requires-clause-memory : goal.serve_memory-requires-clause-memory
-serve_memory-requires-clause-memory g c = λ κs within.
-    rw c.into_parts-writers.ensures.scanners
+serve_memory-requires-clause-memory g c = λ κs within. rw c.into_parts-writers.ensures.scanners
     (serves_first g.L.Listen.may_serve c.args.store.scanners.items c.requires.back.some_scanner c.requires.memory)

@@ -1,37 +1,22 @@
-use Rattle.std.proofs.Common.{◌≡◌, ◌∷◌, length, not, ap, inr, refl, sym, ◌∙◌, arith}
+use Rattle.std.proofs.Common.{◌≡◌, ◌∷◌, length, not, ap, sym, ◌∙◌, arith}
 use Rattle.std.specs.{List.range_with_len, Vec.Iter.into_iter_items}
 use Rattle.snap_server.proofs.Made.{made_more, made_all, made_len, numbered_more, pushed, pushed_len}
 use Rattle.snap_server.proofs.server.open_workers.Goals as goal
-
-pub returns-then-is_err : goal.returns-then-is_err
-returns-then-is_err g c = record {
-  workers = tt;
-  senders = tt;
-  places = tt;
-  theirs = tt;
-  faults = inr refl;
-}
 
 pub services-preserved : goal.services-preserved
 services-preserved g c =
     let next : into_iter_items c.services.service-iterator ≡ c.in-Some.service ∷ into_iter_items
     c.next.new.self =
     c.in-Some.ensures.steps.0 in
-    let one_more = pushed _ _ _ _ c.push.ensures.items
-    (c.is_err.ensures.negation ∙ ap not c.if-is_err.false) in
+    let one_more = pushed _ _ _ _ c.push.ensures.items (c.is_err.ensures.negation ∙ ap not c.if-is_err.false) in
     let door_more = pushed _ _ _ _ c.push-else-is_err.ensures.items
     (c.is_err-else-is_err.ensures.negation ∙ ap not c.if-is_err-2.false) in
     record {
-      made = made_more _ c.services.workers.items _ c.in_ok-worker.worker _ _ _
-          c.services.invariant.made
-          one_more
-          (next ∙ ap (λ s. s ∷ into_iter_items c.next.new.self)
-          (sym c.in_ok-worker.ensures.service));
-      places = numbered_more _ c.services.workers.items _ c.in_ok-worker.worker
-          c.services.invariant.places one_more
+      made = made_more _ c.services.workers.items _ c.in_ok-worker.worker _ _ _ c.services.invariant.made one_more
+          (next ∙ ap (λ s. s ∷ into_iter_items c.next.new.self) (sym c.in_ok-worker.ensures.service));
+      places = numbered_more _ c.services.workers.items _ c.in_ok-worker.worker c.services.invariant.places one_more
           (c.in_ok-worker.ensures.mailbox ∙ c.len-place.ensures ∙ c.services.workers.ok.0);
-      theirs = numbered_more _ c.services.senders.items _ c.in_ok-worker.sender
-          c.services.invariant.theirs door_more
+      theirs = numbered_more _ c.services.senders.items _ c.in_ok-worker.sender c.services.invariant.theirs door_more
           (c.in_ok-worker.ensures.sender ∙ c.len-place.ensures ∙ c.services.workers.ok.0
           ∙ sym c.services.invariant.senders);
       senders = pushed_len _ _ _ _ _ _ c.services.invariant.senders door_more one_more;
@@ -43,16 +28,12 @@ services-smaller g c = omega (arith, c.in-Some.ensures.steps.1)
 
 pub returns : goal.returns
 returns g c =
-    let made = made_all _ _ _ _ c.services.invariant.made
-    (sym c.services.invariant.long ∙ c.in-None.ensures.steps.0) in
+    let made = made_all _ _ _ _ c.services.invariant.made (sym c.services.invariant.long ∙ c.in-None.ensures.steps.0) in
     record {
       workers = made;
-      senders = c.services.senders.ok.0 ∙ c.services.invariant.senders ∙ made_len _ _ _ made
-          ∙ sym c.args.services.ok.0;
-      places = c.services.invariant.places
-          ∙ ap (range_with_len 0) (made_len _ _ _ made ∙ sym c.args.services.ok.0);
-      theirs = c.services.invariant.theirs
-          ∙ ap (range_with_len 0) (c.services.invariant.senders ∙ made_len _ _ _ made
+      senders = c.services.senders.ok.0 ∙ c.services.invariant.senders ∙ made_len _ _ _ made ∙ sym c.args.services.ok.0;
+      places = c.services.invariant.places ∙ ap (range_with_len 0) (made_len _ _ _ made ∙ sym c.args.services.ok.0);
+      theirs = c.services.invariant.theirs ∙ ap (range_with_len 0) (c.services.invariant.senders ∙ made_len _ _ _ made
           ∙ sym c.args.services.ok.0);
       faults = tt;
     }

@@ -15,8 +15,7 @@ returns-in-Ok-listed-clause-limits c =
     let same = c.in-Ok-listed.ensures.values in
     named_listed set a b
     (subst (λ (p : Plan). set < 2 ^ segments p) (sym seen.plan) (subst (λ n. set < 2 ^ n) count
-    (c.is_among.ensures.below.0 c.if-not-is_among.false)))
-    c.in-Ok.ensures.below list
-    (all_grown a b seen c.segments-segments.result count c.segments-segments.ensures.some.1)
-    c.requires.some (subst (IsPart set a b) (sym same) c.in-Ok.ensures.part)
-    c.in-Ok-listed.ensures.segments (short_as list c.in-Ok.values.items same c.in-Ok.ensures.short)
+    (c.is_among.ensures.below.0 c.if-not-is_among.false))) c.in-Ok.ensures.below list
+    (all_grown a b seen c.segments-segments.result count c.segments-segments.ensures.some.1) c.requires.some
+    (subst (IsPart set a b) (sym same) c.in-Ok.ensures.part) c.in-Ok-listed.ensures.segments
+    (short_as list c.in-Ok.values.items same c.in-Ok.ensures.short)

@@ -7,10 +7,8 @@ use Rattle.snap_service.proofs.Lines.{listed}
 use Rattle.snap_service.proofs.scans.answer_scan.Goals as goal
 
 pub scan-requires : goal.scan-requires
-scan-requires c = record {
-  set = all_set c.args.scanner.now c.segments.result c.all-all.result.bits c.segments.ensures.count
-      c.all-all.ensures.all c.segments.ensures.some.0;
-}
+scan-requires c =
+    record { set = all_set _ _ _ c.segments.ensures.count c.all-all.ensures.all c.segments.ensures.some.0 }
 
 pub returns-in-Ok-clause-answer : goal.returns-in-Ok-clause-answer
 returns-in-Ok-clause-answer c =
@@ -20,14 +18,10 @@ returns-in-Ok-clause-answer c =
     let count = c.segments.ensures.count in
     let few = c.segments.ensures.some.1 in
     let values = map pair_of c.in-Ok.values.items in (
-      snapshot_listed a b (all_grown a b seen c.segments.result count few) values
-          (subst (λ v. IsPart v a b values) (all_is a c.segments.result c.all-all.result.bits count
+      snapshot_listed a b (all_grown a b seen _ count few) values
+          (subst (λ v. IsPart v a b values) (all_is a _ _ count
           c.all-all.ensures.all ∙ all_same a b seen) c.in-Ok.ensures.part),
-      (
-        seen,
-        subst (λ n. TakesLooksOf n a b) (all_count a c.segments.result
-            c.all-all.result.bits count c.all-all.ensures.all few) c.in-Ok.ensures.left,
-      ),
+      (seen, subst (λ n. TakesLooksOf n a b) (all_count a _ _ count c.all-all.ensures.all few) c.in-Ok.ensures.left),
     )
 
 pub returns-in-Ok-clause-limits : goal.returns-in-Ok-clause-limits
@@ -35,19 +29,15 @@ returns-in-Ok-clause-limits c =
     let a = c.args.scanner.now in
     let b = c.scan.new.self in
     let seen = c.in-Ok.ensures.seen in
-    let set = all_set a c.segments.result c.all-all.result.bits c.segments.ensures.count
-    c.all-all.ensures.all c.segments.ensures.some.0 in
-    listed c.all-all.result.bits a b
-    (subst (λ (p : Plan). c.all-all.result.bits < 2 ^ segments p) (sym seen.plan) set.among)
-    c.in-Ok.ensures.below c.in-Ok.values.items
-    (all_grown a b seen c.segments.result c.segments.ensures.count c.segments.ensures.some.1)
-    set.some c.in-Ok.ensures.part c.in-Ok.ensures.short
+    let set = all_set a _ _ c.segments.ensures.count c.all-all.ensures.all c.segments.ensures.some.0 in
+    listed _ a b (subst (λ (p : Plan). c.all-all.result.bits < 2 ^ segments p) (sym seen.plan) set.among)
+    c.in-Ok.ensures.below _ (all_grown a b seen _ c.segments.ensures.count c.segments.ensures.some.1) set.some
+    c.in-Ok.ensures.part c.in-Ok.ensures.short
 
 pub returns-in-Err-clause-answer : goal.returns-in-Err-clause-answer
 returns-in-Err-clause-answer c =
     let a = c.args.scanner.now in (
       refl,
-      subst (λ n. MayRefuse n a c.in-Err.why c.scan.new.self) (all_count a c.segments.result
-          c.all-all.result.bits c.segments.ensures.count c.all-all.ensures.all
-          c.segments.ensures.some.1) c.in-Err.ensures.refused,
+      subst (λ n. MayRefuse n a c.in-Err.why c.scan.new.self) (all_count a _ _ c.segments.ensures.count
+          c.all-all.ensures.all c.segments.ensures.some.1) c.in-Err.ensures.refused,
     )

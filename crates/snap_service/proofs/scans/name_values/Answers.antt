@@ -1,8 +1,7 @@
 use Rattle.std.proofs.Common.{◌≡◌, ℕ, suc, ◌+◌, [], ◌∷◌, ◌++◌, length, map, take, Some, slice_get, get_or, refl, ap}
 use Rattle.std.proofs.Common.{sym, subst, ◌∙◌, arith}
-use Rattle.std.proofs.lemmas.List.{length-map, length_push, map-append}
-use Rattle.std.proofs.lemmas.Option.{slice_get-map, slice_get_read}
-use Rattle.std.{proofs.lemmas.Bool.iff_false, specs.Option.option_map, proofs.Math.Seq.take-length}
+use Rattle.std.proofs.lemmas.{List.length-map, List.length_push, List.map-append, Option.slice_get-map, Bool.iff_false}
+use Rattle.std.{proofs.lemmas.Option.slice_get_read, specs.Option.option_map, proofs.Math.Seq.take-length}
 use Rattle.snap_register.proofs.Pairs.{take_next}
 use Rattle.snap_scan.specs.{Sets.Names, Sets.named_below, Values.pair_of}
 use Rattle.snap_scan.proofs.Sets.{with, without}
@@ -13,8 +12,7 @@ use Rattle.snap_service.proofs.scans.name_values.Goals as goal
 
 pub loop-segment-init : goal.loop-segment-init
 unfolding named_below
-loop-segment-init c =
-    rw c.in_ok-list.ensures.items (record { set = refl; names = refl; values = refl })
+loop-segment-init c = rw c.in_ok-list.ensures.items (record { set = refl; names = refl; values = refl })
 
 pub index-entry-requires : goal.index-entry-requires
 index-entry-requires c =
@@ -42,17 +40,14 @@ loop-segment-preserved c =
           let x : NamedValue = record {
             segment = k;
             number = w.index-entry.result.now.number;
-            value =
-                w.in_ok-clone.field-0;
+            value = w.in_ok-clone.field-0;
           } in
           let entry = w.index-entry.result.now in
-          let here : slice_get values (length items) ≡ Some entry =
-          (let n = ap length inv.names in
+          let here : slice_get values (length items) ≡ Some entry = (let n = ap length inv.names in
           let m = length-map items segment_of in
           let more = counts set k c.loop-segment-test.true named in
           let all = c.requires.each in
-          let same : w.len-then-has.result ≡ length items =
-          (let l = w.len-then-has.ensures in omega arith) in
+          let same : w.len-then-has.result ≡ length items = (let l = w.len-then-has.ensures in omega arith) in
           slice_get_read values (length values) (length items) entry refl (omega arith)
           (w.index-entry.ensures ∙ ap (λ n. get_or values n entry) same)) in
           let copied : w.in_ok-clone.field-0 ≡ entry.value = w.in_ok-clone.ensures.cases in
@@ -61,9 +56,8 @@ loop-segment-preserved c =
           ∙ ap (λ v. Some (entry.number, v)) (sym copied) in
           rw w.list-is (record {
             set = refl;
-            names = ap (map segment_of) w.in_ok-push.ensures.items
-                ∙ map-append segment_of items (x ∷ []) ∙ ap (λ l. l ++ k ∷ []) inv.names
-                ∙ sym (with set k named) ∙ ap (named_below set) up;
+            names = ap (map segment_of) w.in_ok-push.ensures.items ∙ map-append segment_of items (x ∷ [])
+                ∙ ap (λ l. l ++ k ∷ []) inv.names ∙ sym (with set k named) ∙ ap (named_below set) up;
             values = ap (map named_pair) w.in_ok-push.ensures.items
                 ∙ map-append named_pair items (x ∷ []) ∙ ap (λ l. l ++ named_pair x ∷ []) inv.values
                 ∙ sym (take_next (length items) (map pair_of values) (named_pair x) at)

@@ -4,8 +4,8 @@ use Rattle.snap_service.proofs.settlement.settle.Goals as goal
 
 pub reply_told-requires : goal.reply_told-requires
 reply_told-requires g c = record {
-  together = still_together c.args.scanner.now c.args.writer.now c.update-told.new.writer
-      c.requires.together c.update-told.ensures.updated.same_seat;
+  together = still_together c.args.scanner.now c.args.writer.now c.update-told.new.writer c.requires.together
+      c.update-told.ensures.updated.same_seat;
 }
 
 pub returns-clause-told : goal.returns-clause-told
@@ -19,16 +19,14 @@ returns-clause-told g c = record {
 
 pub returns-clause-settled : goal.returns-clause-settled
 returns-clause-settled g c =
-    let P : ℕ → Type 0 = λ i. IsSettledAt c.reply_told.new.scanner i c.args.number
-    c.args.value.now c.reply_told.result in
+    let P : ℕ → Type 0 = λ i. IsSettledAt c.reply_told.new.scanner i c.args.number c.args.value.now c.reply_told.result
+    in
     subst P (c.update-told.ensures.updated.same_seat.low ∙ c.requires.own)
-    (c.reply_told.ensures.settled c.args.number c.args.value.now
-    c.update-told.ensures.tellable)
+    (c.reply_told.ensures.settled _ _ c.update-told.ensures.tellable)
 
 pub returns-clause-limits : goal.returns-clause-limits
-returns-clause-limits g c = c.reply_told.ensures.limits c.args.number c.args.value.now
-    c.update-told.ensures.tellable
+returns-clause-limits g c = c.reply_told.ensures.limits c.args.number c.args.value.now c.update-told.ensures.tellable
 
 pub returns-clause-seat : goal.returns-clause-seat
-returns-clause-seat g c = still_seated c.args.writer.now c.update-told.new.writer
-    c.reply_told.new.writer c.update-told.ensures.updated.same_seat c.reply_told.ensures.writer
+returns-clause-seat g c = still_seated c.args.writer.now c.update-told.new.writer c.reply_told.new.writer
+    c.update-told.ensures.updated.same_seat c.reply_told.ensures.writer

@@ -6,11 +6,9 @@ pub returns-clause-tellable : goal.returns-clause-tellable
 returns-clause-tellable g c = let u = c.update-told.ensures.updated in
     let before = c.number-before.ensures in
     let after = c.number-after.ensures in
-    told_fits c.args.writer.now c.update-told.new.self c.args.number c.args.value.now
-    c.update-told.result c.requires.size (omega (arith, before.number, before.low))
-    (sym before.stored ∙ before.number) (sym after.stored ∙ after.number)
-    (sym c.value-value.ensures.stored ∙ c.value-value.ensures.value)
-    u.judged u.unchanged u.advances u.fails
+    told_fits _ _ _ _ _ c.requires.size (omega (arith, before.number, before.low)) (sym before.stored ∙ before.number)
+    (sym after.stored ∙ after.number) (sym c.value-value.ensures.stored ∙ c.value-value.ensures.value) u.judged
+    u.unchanged u.advances u.fails
 
 pub returns-clause-shown : goal.returns-clause-shown
 returns-clause-shown g c =

@@ -17,10 +17,9 @@ use Rattle.snap_session.proofs.turns.proceed.Goals as goal
 use Rattle.snap_session.proofs.turns.proceed.Goals.{After-send_owed, After-answer, After-read}
 
 -- the invariant still holds after a read that returned nothing
-stood_reads : {S : Type 0} {gives : S → Request → Reply → S → Type 0} {hands_over one : Type 0}
-    {more : ℕ} {s t : S} {old new : Talk} {r0 r1 r2 w0 w1 : Option (List ℕ)}
-    → Stood gives hands_over one more s t old new r0 r1 w0 w1 → Consumes r1 r2 []
-    → Stood gives hands_over one more s t old new r0 r2 w0 w1
+stood_reads : {S : Type 0} {gives : S → Request → Reply → S → Type 0} {hands_over one : Type 0} {more : ℕ} {s t : S}
+    {old new : Talk} {r0 r1 r2 w0 w1 : Option (List ℕ)} → Stood gives hands_over one more s t old new r0 r1 w0 w1
+    → Consumes r1 r2 [] → Stood gives hands_over one more s t old new r0 r2 w0 w1
 stood_reads {gives = gives} stood read = record {
   turns = then_ends gives _ _ _ _ _ _ _ _ _ stood.turns read;
   bounded = stood.bounded;
@@ -30,10 +29,9 @@ stood_reads {gives = gives} stood read = record {
 }
 
 -- the clauses of a turn with this result
-ends : {S : Type 0} {gives : S → Request → Reply → S → Type 0} {hands_over one : Type 0}
-    {more : ℕ} {s t : S} {old new : Talk} {r0 r1 w0 w1 : Option (List ℕ)}
-    → Stood gives hands_over one more s t old new r0 r1 w0 w1 → (turn : Polled)
-    → TakesRounds gives more turn (scene s old r0 w0) (scene t new r1 w1) → StandsAt turn new r1
+ends : {S : Type 0} {gives : S → Request → Reply → S → Type 0} {hands_over one : Type 0} {more : ℕ} {s t : S}
+    {old new : Talk} {r0 r1 w0 w1 : Option (List ℕ)} → Stood gives hands_over one more s t old new r0 r1 w0 w1
+    → (turn : Polled) → TakesRounds gives more turn (scene s old r0 w0) (scene t new r1 w1) → StandsAt turn new r1
     → record {
       goes : Turns Stays gives s t old r0 r1 w0 w1 new;
       stands : StandsAt turn new r1;
@@ -58,18 +56,14 @@ ends {new = new} {r1 = r1} stood turn rounds stands = record {
 -- `Stood` after the bytes that are owed are written.
 sent_on : (g : _) (c : After-send_owed g) → Stood g.S.Service.gives g.S.Service.hands_over
     (g.S.Service.hands_over_under c.args.key) (length c.args.piece.now) c.args.service.now
-    c.loop.service c.args.session.now
-    c.send_owed.new.session (g.R.Read.remaining c.args.reader.now)
+    c.loop.service c.args.session.now c.send_owed.new.session (g.R.Read.remaining c.args.reader.now)
     (g.R.Read.remaining c.loop.reader) (g.W.Write.contents c.args.writer.now)
     (g.W.Write.contents c.send_owed.new.writer)
-sent_on g c = stood_sent g.S.Service.gives _ _ _ _ _ _ _ _ _ _ _ _ _ c.loop.invariant.stood
-    c.send_owed.ensures.sends
+sent_on g c = stood_sent g.S.Service.gives _ _ _ _ _ _ _ _ _ _ _ _ _ c.loop.invariant.stood c.send_owed.ensures.sends
 
 -- `Stood` after frames are answered: no request is handed over then, or one that may be.
-answered_on : (g : _) (c : After-answer g) → (c.answer.new.self.asked ≡ None)
-    ⊎ (c.send_owed.new.session.asked ≡ None
-    → g.S.Service.hands_over × g.S.Service.hands_over_under c.args.key)
-    → Stood g.S.Service.gives g.S.Service.hands_over
+answered_on : (g : _) (c : After-answer g) → (c.answer.new.self.asked ≡ None) ⊎ (c.send_owed.new.session.asked ≡ None
+    → g.S.Service.hands_over × g.S.Service.hands_over_under c.args.key) → Stood g.S.Service.gives g.S.Service.hands_over
     (g.S.Service.hands_over_under c.args.key) (length c.args.piece.now) c.args.service.now
     c.answer.new.service c.args.session.now c.answer.new.self (g.R.Read.remaining c.args.reader.now)
     (g.R.Read.remaining c.loop.reader) (g.W.Write.contents c.args.writer.now)
@@ -81,8 +75,7 @@ answered_on g c asked = record {
       (few_left _ _ _ c.send_owed.ensures.sends.owed (c.loop.invariant.stood.bounded few));
   free = λ no at. elim asked [
     | inl none ↦ none
-    | inr handed ↦ absurd (no (handed (c.send_owed.ensures.sends.asked
-        ∙ c.loop.invariant.stood.free no at)).0)
+    | inr handed ↦ absurd (no (handed (c.send_owed.ensures.sends.asked ∙ c.loop.invariant.stood.free no at)).0)
   ];
   under = λ free. elim asked [
     | inl none ↦ on_none _ _ none
@@ -100,29 +93,22 @@ few_sent : (g : _) (c : After-send_owed g) → FewRounds g.S.Service.gives (leng
     (g.W.Write.contents c.args.writer.now))
     (scene c.loop.service c.send_owed.new.session (g.R.Read.remaining c.loop.reader)
     (g.W.Write.contents c.send_owed.new.writer))
-few_sent g c = and_last g.S.Service.gives _ c.loop.counter _ _ _ (omega arith)
-    c.loop.invariant.rounds
+few_sent g c = and_last g.S.Service.gives _ c.loop.counter _ _ _ (omega arith) c.loop.invariant.rounds
     (only_sends g.S.Service.gives _ _ _ _ _ _ _ c.send_owed.ensures.sends)
 
 -- the rounds, if the last one ends after a read that returned nothing
-few_read : (g : _) (c : After-answer g) (left : Option (List ℕ))
-    → Consumes (g.R.Read.remaining c.loop.reader) left []
+few_read : (g : _) (c : After-answer g) (left : Option (List ℕ)) → Consumes (g.R.Read.remaining c.loop.reader) left []
     → FewRounds g.S.Service.gives (length c.args.piece.now)
     (scene c.args.service.now c.args.session.now (g.R.Read.remaining c.args.reader.now)
-    (g.W.Write.contents c.args.writer.now))
-    (scene c.answer.new.service c.answer.new.self left
+    (g.W.Write.contents c.args.writer.now)) (scene c.answer.new.service c.answer.new.self left
     (g.W.Write.contents c.send_owed.new.writer))
-few_read g c left read = and_last g.S.Service.gives _ c.loop.counter _ _ _ (omega arith)
-    c.loop.invariant.rounds
-    (reads_nothing g.S.Service.gives _ _ _ _ _ _ _ _ _ _ c.send_owed.ensures.sends
-    c.answer.ensures.few read)
+few_read g c left read = and_last g.S.Service.gives _ c.loop.counter _ _ _ (omega arith) c.loop.invariant.rounds
+    (reads_nothing g.S.Service.gives _ _ _ _ _ _ _ _ _ _ c.send_owed.ensures.sends c.answer.ensures.few read)
 
 -- a round with progress, in which frames were answered and nothing was read
-goes_on : (g : _) (c : After-answer g) → (c.answer.new.self.asked ≡ None)
-    ⊎ (c.send_owed.new.session.asked ≡ None
+goes_on : (g : _) (c : After-answer g) → (c.answer.new.self.asked ≡ None) ⊎ (c.send_owed.new.session.asked ≡ None
     → g.S.Service.hands_over × g.S.Service.hands_over_under c.args.key)
-    → (c.answer.new.self.over ≡ None → c.answer.new.self.owed ≡ [] → ⊥)
-    → record {
+    → (c.answer.new.self.over ≡ None → c.answer.new.self.owed ≡ [] → ⊥) → record {
       stood : Stood g.S.Service.gives g.S.Service.hands_over
           (g.S.Service.hands_over_under c.args.key) (length c.args.piece.now) c.args.service.now
           c.answer.new.service c.args.session.now c.answer.new.self
@@ -173,15 +159,12 @@ loop-preserved-in-Outcome-2 g c = goes_on g (goal.at.loop-preserved-in-Outcome-2
 
 pub loop-preserved-then-not-is_empty : goal.loop-preserved-then-not-is_empty
 loop-preserved-then-not-is_empty g c =
-    goes_on g (goal.at.loop-preserved-then-not-is_empty g c).After-answer
-    (inl c.in-Bytes.ensures.wants.1)
-    (λ going. some_owed _ _ _ c.if-not-is_empty.true c.is_empty-in-loop.ensures
-    c.owed-in-loop.ensures)
+    goes_on g (goal.at.loop-preserved-then-not-is_empty g c).After-answer (inl c.in-Bytes.ensures.wants.1)
+    (λ going. some_owed _ _ _ c.if-not-is_empty.true c.is_empty-in-loop.ensures c.owed-in-loop.ensures)
 
 pub loop-preserved : goal.loop-preserved
 loop-preserved g c =
-    let answered = answered_on g (goal.at.loop-preserved g c).After-answer
-    (inl c.in-Bytes.ensures.wants.1) in
+    let answered = answered_on g (goal.at.loop-preserved g c).After-answer (inl c.in-Bytes.ensures.wants.1) in
     let said = all_said g (goal.at.loop-preserved g c).After-read in
     let piece = take c.in-Ok.n c.read.new.buf in
     let many : length piece ≡ c.in-Ok.n = sym c.in-Ok.ensures.bound.1 in
@@ -264,15 +247,13 @@ returns-in-Ok-eq0-2 g c =
     let at = (goal.at.returns-in-Ok-eq0-2 g c).After-answer in
     let read = rw c.in-Ok-eq0-2.is at c.read.ensures.bytes in
     let zero = sym c.in-Ok-eq0-2.field-0-is ∙ c.in-Ok-eq0.field-0-test in
-    let none : take c.in-Ok-eq0-2.field-0 c.read.new.buf ≡ [] = ap (λ k. take k c.read.new.buf) zero
-    in
+    let none : take c.in-Ok-eq0-2.field-0 c.read.new.buf ≡ [] = ap (λ k. take k c.read.new.buf) zero in
     let nothing = subst (Consumes _ _) none read.0 in
     let said = all_said g (goal.at.returns-in-Ok-eq0-2 g c).After-read in
     ends (stood_reads (answered_on g at (inl said.2)) nothing) (Over Truncated)
     (few_read g at _ nothing) (
       said,
-      λ empty. true≢false (sym (c.is_between.ensures.1 (said.0, empty))
-          ∙ c.if-is_between.false),
+      λ empty. true≢false (sym (c.is_between.ensures.1 (said.0, empty)) ∙ c.if-is_between.false),
       read.1 zero (rw (c.read.auto.buf ∙ c.loop.auto.piece) c.requires.room),
     )
 

@@ -13,8 +13,7 @@ loop-init g c = (
 pub loop-preserved : goal.loop-preserved
 loop-preserved g c = (
   (tt, tt),
-  then_turns g.S.Service.gives _ _ _ _ _ _ _ _ _ _ _ _ c.loop.invariant.1
-      c.proceed.ensures.goes,
+  then_turns g.S.Service.gives _ _ _ _ _ _ _ _ _ _ _ _ c.loop.invariant.1 c.proceed.ensures.goes,
   c.proceed.ensures.free c.requires.alone c.loop.invariant.2,
 )
 
@@ -30,5 +29,4 @@ returns-in-NeedsRoom g c =
 
 pub returns-in-Over : goal.returns-in-Over
 returns-in-Over g c =
-    serves g.S.Service.gives _ _ _ _ _ _ _ _ _ _ _ _ c.loop.invariant.1 c.proceed.ensures.goes
-    c.in-Over.ensures.stands
+    serves g.S.Service.gives _ _ _ _ _ _ _ _ _ _ _ _ c.loop.invariant.1 c.proceed.ensures.goes c.in-Over.ensures.stands

@@ -4,8 +4,7 @@ use Rattle.snap_stream.specs.Streams.{AppendsBeginning, refused_line}
 use Rattle.snap_stream.proofs.Lines.{beginning_more, whole_more, beginning_behind, on_ok}
 use Rattle.snap_stream.proofs.complaint.complain_twice.Goals as goal
 
-pub returns-then-not-complain_of_refusal-clause-says :
-    goal.returns-then-not-complain_of_refusal-clause-says
+pub returns-then-not-complain_of_refusal-clause-says : goal.returns-then-not-complain_of_refusal-clause-says
 returns-then-not-complain_of_refusal-clause-says g c = λ line is. (
   beginning_more _ _ (refused_line c.args.why) line c.complain_of_refusal.ensures.beginning,
   (λ whole. absurd (cc)),
@@ -20,14 +19,11 @@ returns-in-Some-clause-says g c = λ line is.
     let same : string_bytes c.in-Some.line ≡ line =
     subst (λ (o : Option (String Global)). IfSome o (λ m. string_bytes m ≡ line)) c.in-Some.is is in
     let bytes : c.as_bytes.result.now ≡ line = c.as_bytes.ensures.value ∙ same in
-    let came : Appends old mid first =
-    c.complain_of_refusal.ensures.whole c.if-not-complain_of_refusal.false in (
+    let came : Appends old mid first = c.complain_of_refusal.ensures.whole c.if-not-complain_of_refusal.false in (
       beginning_behind old mid new first line came
           (subst (λ (l : List ℕ). AppendsBeginning mid new l) bytes c.write_whole.ensures.beginning),
-      (λ told. Appends-trans old mid new first line came
-          (subst (λ (l : List ℕ). Appends mid new l) bytes
-          (on_ok c.write_whole.result _ c.write_whole.ensures.whole
-          (sym c.is_ok.ensures.value ∙ told)))),
+      (λ told. Appends-trans old mid new first line came (subst (λ (l : List ℕ). Appends mid new l) bytes
+          (on_ok c.write_whole.result _ c.write_whole.ensures.whole (sym c.is_ok.ensures.value ∙ told)))),
     )
 
 pub returns-in-None-clause-says : goal.returns-in-None-clause-says

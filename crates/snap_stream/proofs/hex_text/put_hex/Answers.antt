@@ -4,14 +4,8 @@ use Rattle.snap_stream.proofs.Digits.{digits_on, digits_end, hex_text-some}
 use Rattle.snap_stream.proofs.hex_text.put_hex.Goals as goal
 
 pub loop-rest-preserved : goal.loop-rest-preserved
-loop-rest-preserved c =
-    rw (
-      c.in_ok-put_piece.ensures,
-      c.split_at.ensures.front,
-      c.split_at.ensures.back,
-    )
-    (digits_on c.loop-rest.out.items c.args.out.now.items c.loop-rest.rest.now _ c.min.result
-    c.loop-rest.invariant)
+loop-rest-preserved c = rw (c.in_ok-put_piece.ensures, c.split_at.ensures.front, c.split_at.ensures.back)
+    (digits_on c.loop-rest.out.items c.args.out.now.items c.loop-rest.rest.now _ c.min.result c.loop-rest.invariant)
 
 pub returns : goal.returns
 returns c =

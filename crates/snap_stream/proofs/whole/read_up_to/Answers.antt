@@ -8,8 +8,5 @@ loop-len-preserved g c =
     let len = c.loop-len.len in
     let buffer = c.loop-len.buffer in
     let put = take_put len (length buffer - len) c.in-Ok.n buffer c.read.new.buf
-    c.loop-len.invariant.0 c.in-Ok.ensures.bound.0 in (
-      search rules,
-      subst (Consumes _ _) put
-          (Consumes-trans _ _ _ _ _ c.loop-len.invariant.1 c.in-Ok.ensures.bytes.0),
-    )
+    c.loop-len.invariant.0 c.in-Ok.ensures.bound.0 in
+    (search rules, subst (Consumes _ _) put (Consumes-trans _ _ _ _ _ c.loop-len.invariant.1 c.in-Ok.ensures.bytes.0))

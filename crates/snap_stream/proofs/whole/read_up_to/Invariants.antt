@@ -4,8 +4,7 @@ use Rattle.snap_stream.proofs.whole.read_up_to.Given as goal
 
 abbrev pub invariant-loop-len : goal.invariant-loop-len
 invariant-loop-len g l =
-    (l.len ≤ length l.buffer)
-    × Consumes (g.R.Read.remaining l.fn.reader) (g.R.Read.remaining l.reader)
+    (l.len ≤ length l.buffer) × Consumes (g.R.Read.remaining l.fn.reader) (g.R.Read.remaining l.reader)
     (take l.len l.buffer)
 
 abbrev pub decreases-loop-len : goal.decreases-loop-len

@@ -1,10 +1,9 @@
-use Rattle.std.proofs.Common.{◌≡◌, ℕ, suc, ◌+◌, ◌<◌, List, [], ◌∷◌, ◌++◌, length, map, refl, ap, sym, ◌∙◌, arith}
-use Rattle.std.proofs.{lemmas.Bool.iff_false, lemmas.List.map_push}
-use Rattle.std.proofs.lemmas.Option.{slice_get_read, get_or_from_slice_get}
-use Rattle.snap_scan.{specs.Sets.named_below, proofs.Sets.with, proofs.Sets.without, proofs.Sets.named_at}
-use Rattle.snap_world.specs.{Answers.pair_of, declared.event.PartEntry.PartEntry}
-use Rattle.snap_world.specs.inside.Gathers.{entry_in, value_in}
+use Rattle.std.proofs.Common.{rules, ◌≡◌, ℕ, suc, ◌+◌, ◌<◌, List, [], ◌∷◌, ◌++◌, length, map, refl, ap, sym, ◌∙◌, arith}
+use Rattle.std.proofs.lemmas.{Option.slice_get_read, Option.get_or_from_slice_get, Bool.iff_false, List.map_push}
+use Rattle.snap_scan.{proofs.Sets.with, proofs.Sets.without, proofs.Sets.named_at, specs.Sets.named_below}
 use Rattle.snap_world.proofs.collector.entries_of.Goals.{then-has+in_ok-value+in_ok-push, else-has}
+use Rattle.snap_world.specs.{declared.event.PartEntry.PartEntry, inside.Gathers.entry_in, inside.Gathers.value_in}
+use Rattle.snap_world.specs.Answers.{pair_of}
 use Rattle.snap_world.proofs.collector.entries_of.Goals as goal
 
 -- one more entry
@@ -16,12 +15,7 @@ unfolding named_below
 loop-segment-init c = record { set = refl; entries = ap (map pair_of) c.new-part.ensures.items }
 
 pub index-requires : goal.index-requires
-index-requires c =
-    let k = c.loop-segment.segment in
-    let l : k < 16 = omega (arith, c.loop-segment-test.true) in
-    let at = named_at c.args.set.bits k l (c.has.ensures.names.0 c.if-has.true) in
-    let there : k < length c.args.values.now.items = c.requires.within at.0 k at.1 in
-    omega (arith, c.args.values.now.ok.0)
+index-requires c = search (rules, named_at)
 
 pub loop-segment-preserved : goal.loop-segment-preserved
 loop-segment-preserved c =
@@ -37,25 +31,20 @@ loop-segment-preserved c =
           let at = named_at set k l names in
           let there : k < length memory = c.requires.within at.0 k at.1 in
           let v = w.index.result.now in
-          let value : v ≡ value_in memory k =
-          sym (get_or_from_slice_get memory k v []
+          let value : v ≡ value_in memory k = sym (get_or_from_slice_get memory k v []
           (slice_get_read memory (length memory) k v refl there w.index.ensures)) in
           let entry : PartEntry = record { segment = k; value = w.in_ok-value.value } in
           record {
             set = refl;
-            entries = ap (λ p. map pair_of p.items) w.part-is
-                ∙ ap (map pair_of) w.in_ok-push.ensures.items
-                ∙ map_push pair_of c.loop-segment.part.items entry
-                ∙ ap (λ xs. xs ++ pair_of entry ∷ []) inv.entries
-                ∙ ap (behind (map (entry_in memory) (named_below set k)) k)
-                (w.in_ok-value.ensures ∙ value)
+            entries = ap (λ p. map pair_of p.items) w.part-is ∙ ap (map pair_of) w.in_ok-push.ensures.items
+                ∙ map_push pair_of c.loop-segment.part.items entry ∙ ap (λ xs. xs ++ pair_of entry ∷ []) inv.entries
+                ∙ ap (behind (map (entry_in memory) (named_below set k)) k) (w.in_ok-value.ensures ∙ value)
                 ∙ sym (map_push (entry_in memory) (named_below set k) k)
                 ∙ ap (map (entry_in memory)) (sym (with set k names) ∙ ap (named_below set) one);
           })
       | else-has w ↦ record {
         set = refl;
-        entries = ap (λ p. map pair_of p.items) w.part-is ∙ inv.entries
-            ∙ ap (map (entry_in memory)) (sym (without set k
+        entries = ap (λ p. map pair_of p.items) w.part-is ∙ inv.entries ∙ ap (map (entry_in memory)) (sym (without set k
             (iff_false c.has.ensures.names w.if-has.false)) ∙ ap (named_below set) one);
       }
     ]

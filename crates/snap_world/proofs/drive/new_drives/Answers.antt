@@ -1,7 +1,7 @@
 use Rattle.std.proofs.Common.{◌≡◌, ℕ, ◌+◌, length, Some, slice_get, ap, sym, ◌∙◌, subst}
 use Rattle.std.proofs.lemmas.List.{length_push}
 use Rattle.snap_history.proofs.Lists.{get-push_at}
-use Rattle.snap_world.specs.{inside.Drives.IsFormatted, declared.drive.Drive.Drive}
+use Rattle.snap_world.specs.{declared.drive.Drive.Drive, inside.Drives.IsFormatted}
 use Rattle.snap_world.proofs.drive.new_drives.Goals as goal
 
 pub loop-i-preserved : goal.loop-i-preserved
@@ -12,7 +12,6 @@ loop-i-preserved c =
       count = ap length c.in_ok-push.ensures.items ∙ length_push c.loop-i.drives.items _
           ∙ ap (λ k. k + 1) c.loop-i.invariant.count;
       each = λ i x e. get-push_at P c.loop-i.drives.items _ c.loop-i.invariant.each
-          (subst (λ j. P j c.in_ok-format.field-0)
-          (sym c.loop-i.invariant.count) c.in_ok-format.ensures) i x
+          (subst (λ j. P j c.in_ok-format.field-0) (sym c.loop-i.invariant.count) c.in_ok-format.ensures) i x
           (subst (λ v. slice_get v i ≡ Some x) c.in_ok-push.ensures.items e);
     }

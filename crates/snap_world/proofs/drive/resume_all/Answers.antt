@@ -1,4 +1,4 @@
-use Rattle.std.proofs.{Math.Logic.∥∥₁_elim, Props.props, Common.arith}
+use Rattle.std.proofs.{Math.Logic.∥∥₁_elim, Common.arith, Props.props}
 use Rattle.snap_world.proofs.Sweep.{swept-next, swept-more, swept-all}
 use Rattle.snap_world.proofs.drive.resume_all.Goals as goal
 

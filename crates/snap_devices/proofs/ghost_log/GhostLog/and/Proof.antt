@@ -87,8 +87,7 @@ module _ (A : RattleType) where
         abbrev passed : Fml
         passed = owns (types_at ended.signature.params κs) a (before ∷ [], (items ∷ [], tt))
 
-        walk : length a.1.0.now < 2 ^ 64
-            → ent 𝓤 (on_entry 𝓛 ended.signature κs qs a (before ∷ [], (items ∷ [], tt)))
+        walk : length a.1.0.now < 2 ^ 64 → ent 𝓤 (on_entry 𝓛 ended.signature κs qs a (before ∷ [], (items ∷ [], tt)))
             (WpFn 𝓤 H C Λ function (before ∷ items ∷ []) ((walk_of 𝓛 ended stayed held).post bound))
         walk fits =
             qed 𝓛 (raw (alive 𝓛 ended.signature κs qs) ∷ ‵ passed ∷ []) ∵ enter ! C Λ function
@@ -110,15 +109,11 @@ module _ (A : RattleType) where
             move ! (1 ∷ 2 ∷ 0 ∷ []) $ done !)
 
       walks : Walks 𝓛 ended stayed (WpFn 𝓤 H C Λ function) held
-      walks =
-          walked 𝓛 ended stayed held (WpFn 𝓤 H C Λ function) (λ κs.
-          (shr_vals, (shr_slice_vals, tt)))
+      walks = walked 𝓛 ended stayed held (WpFn 𝓤 H C Λ function) (λ κs. (shr_vals, (shr_slice_vals, tt)))
           (λ κs. (shr_Tells (named 0) κs.0 row, (shr_slice_Tells (named 1) κs.1.0 (param 0 A), tt)))
-          (λ κs qs bounds a g are.
-          via 𝓤 _ (fst∗ 𝓤 _ ((held κs a).requires g)) (walk κs qs bounds a are.1.0.0.1.0))
+          (λ κs qs bounds a g are. via 𝓤 _ (fst∗ 𝓤 _ ((held κs a).requires g)) (walk κs qs bounds a are.1.0.0.1.0))
 
-    meets : (𝓣 : Tables 𝓤 H) → Meets 𝓛 ended.signature (WpFn 𝓤 H 𝓣.C 𝓣.Λ function)
-        (closing 𝓛 ended held)
+    meets : (𝓣 : Tables 𝓤 H) → Meets 𝓛 ended.signature (WpFn 𝓤 H 𝓣.C 𝓣.Λ function) (closing 𝓛 ended held)
     meets 𝓣 =
         walk_Meets 𝓛 ended stayed (
           Goes-none_ref 𝓛 ended.signature.lifetimes (0

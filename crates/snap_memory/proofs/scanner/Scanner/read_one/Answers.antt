@@ -12,7 +12,6 @@ invariant_of-self c =
 pub returns-clause-value : goal.returns-clause-value
 returns-clause-value c =
     let b = c.look-number.new.self in
-    value_told b c.args.j c.look-number.result
-    (take c.value-length.result c.value-length.new.out) b.seen c.value-length.ensures.value
-    c.look-number.ensures.looked.here (beginning-self b.seen) c.look-number.ensures.number
+    value_told b c.args.j c.look-number.result (take c.value-length.result c.value-length.new.out) b.seen
+    c.value-length.ensures.value c.look-number.ensures.looked.here (beginning-self b.seen) c.look-number.ensures.number
     ∙ ap (λ (z : Known). value_in z z.seen c.args.j) (sym c.value-length.ensures.same)

@@ -9,12 +9,10 @@ use Rattle.snap_register.proofs.access.Access.copy_borrowed.Goals.{In-loop}
 
 -- the words read are those of the record that the seat pins
 words_are : (c : In-loop) → held (view_of c.loop.self) c.args.j ≡ held (view_of c.args.self.now) c.args.j
-words_are c = held_drafted c.size_at-from.new.self.seat.me c.loop.self.seat.me c.args.j
-    c.loop.invariant.copied.same.3
+words_are c = held_drafted c.size_at-from.new.self.seat.me c.loop.self.seat.me c.args.j c.loop.invariant.copied.same.3
     ∙ ap (λ (m : Mine). held m.0 c.args.j) c.size_at-from.ensures.same.2
 
-from_is : (c : In-loop) → c.loop.from
-    ≡ behind (held (view_of c.args.self.now) c.args.j)
+from_is : (c : In-loop) → c.loop.from ≡ behind (held (view_of c.args.self.now) c.args.j)
     (size_at (held (view_of c.args.self.now) c.args.j) 0) c.loop.counter
 from_is c = c.loop.invariant.from
     ∙ ap (λ (m : Mine). behind (held m.0 c.args.j) (size_at (held m.0 c.args.j) 0) c.loop.counter)
@@ -31,8 +29,7 @@ whole c =
     (view_whole a c.args.j c.loop.counter c.size_at-from.ensures.legal can.2 can.0 lt)
 
 pub copy_block-count-requires-clause-block : goal.copy_block-count-requires-clause-block
-copy_block-count-requires-clause-block c =
-    whole (goal.at.copy_block-count-requires-clause-block c).In-loop
+copy_block-count-requires-clause-block c = whole (goal.at.copy_block-count-requires-clause-block c).In-loop
 
 pub overflow_add-from : goal.overflow_add-from
 overflow_add-from c =

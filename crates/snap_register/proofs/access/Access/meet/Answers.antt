@@ -98,8 +98,7 @@ self_is c = search rules
 
 self_later : (c : After-split_seat-answer)
     → IsPrefix (view_of c.args.self.now).seen c.split_seat-answer.new.seat.me.0.seen
-self_later c =
-    rw c.split_seat-messenger.ensures.4 at (told_by c).received
+self_later c = rw c.split_seat-messenger.ensures.4 at (told_by c).received
 
 pub invariant_of-self : goal.invariant_of-self
 invariant_of-self c =

@@ -26,8 +26,7 @@ third_is : (c : After-copy_view)
     → view_of c.copy_view.new.self ≡ WithPool (view_of c.args.self.now) (pool_of c.copy_view.new.self)
 third_is c = search rules
 
-may_follow : (c : After-copy_view)
-    → IsLegal (view_of c.args.self.now).plan (view_of c.args.self.now).seen
+may_follow : (c : After-copy_view) → IsLegal (view_of c.args.self.now).plan (view_of c.args.self.now).seen
     → Follows (view_of c.args.self.now).plan (view_of c.args.self.now).seen
     (entry c.args.i (draft_of c.copy_view.new.self))
 may_follow c legal =

@@ -13,8 +13,7 @@ lies c = rw c.read-length.ensures.same.2 c.place-place.ensures.place
 -- the value is within the record
 fits : (c : After-read-length) → c.args.at + 2 + (c.read-length.result + 7) / 8
     ≤ length (held (view_of c.read-length.new.self) c.args.j)
-fits c =
-    rw c.read-length.ensures.same.2 (omega (arith, c.read-length.ensures.word, c.requires.block.inside))
+fits c = rw c.read-length.ensures.same.2 (omega (arith, c.read-length.ensures.word, c.requires.block.inside))
 
 pub copy_value-requires : goal.copy_value-requires
 copy_value-requires c =

@@ -15,8 +15,7 @@ use Rattle.snap_register.proofs.access.Access.view.Goals.{In-loop-k}
 words_are : (c : In-loop-k) → held (view_of c.loop-k.self) c.args.j ≡ held (view_of c.args.self.now) c.args.j
 words_are c = search rules
 
-at_is : (c : In-loop-k) → c.loop-k.at
-    ≡ behind (held (view_of c.args.self.now) c.args.j)
+at_is : (c : In-loop-k) → c.loop-k.at ≡ behind (held (view_of c.args.self.now) c.args.j)
     (size_at (held (view_of c.args.self.now) c.args.j) 0) c.loop-k.k
 at_is c = search rules
 
@@ -30,8 +29,7 @@ whole c =
     (view_whole a c.args.j c.loop-k.k c.size_at-at.ensures.legal found.1 c.requires.segment lt)
 
 pub read_named-at-requires-clause-block : goal.read_named-at-requires-clause-block
-read_named-at-requires-clause-block c =
-    whole (goal.at.read_named-at-requires-clause-block c).In-loop-k
+read_named-at-requires-clause-block c = whole (goal.at.read_named-at-requires-clause-block c).In-loop-k
 
 pub overflow_add-at : goal.overflow_add-at
 overflow_add-at c =

@@ -22,8 +22,7 @@ returns-then-has_moved_twice-clause-told c = λ told st.
 
 pub keep-requires : goal.keep-requires
 keep-requires c =
-    let fits = turn_fits c.args.self.now c.args.segment c.args.number c.requires.turn
-    c.requires.stands in
+    let fits = turn_fits c.args.self.now c.args.segment c.args.number c.requires.turn c.requires.stands in
     record { place = fits.0; headroom = omega (arith, fits.1) }
 
 pub overflow_add-segment : goal.overflow_add-segment

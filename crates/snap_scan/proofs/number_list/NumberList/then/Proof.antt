@@ -35,10 +35,8 @@ use Rattle.snap_scan.proofs.number_list.NumberList.then.Statement as stated
 use Rattle.snap_scan.proofs.number_list.NumberList.then.Code as code
 
 abbrev stayed : Stays (it.ended).signature.params (it.ended).kept
-stayed = (
-  stay_none_ref (0 ∷ []) tt (plain (λ _. T.the_row)) yes,
-  (stay_none_ref (1 ∷ []) tt (plain (λ _. u64)) yes, tt),
-)
+stayed =
+    (stay_none_ref (0 ∷ []) tt (plain (λ _. T.the_row)) yes, (stay_none_ref (1 ∷ []) tt (plain (λ _. u64)) yes, tt))
 
 module _ {M : Type 1} {𝓤 : Ura M} (𝓛 : Logic 𝓤) (at_mem : Memory → SProp 𝓤) (run : Routine
     → Fun 𝓤) (C : Calls 𝓤 𝓛.H) (Λ : Loops 𝓤 𝓛.H) where
@@ -63,43 +61,30 @@ module _ {M : Type 1} {𝓤 : Ura M} (𝓛 : Logic 𝓤) (at_mem : Memory → SP
     walk : ent 𝓤 (on_entry 𝓛 it.signature κs qs a (before ∷ [], (number ∷ [], tt)))
         (WpFn 𝓤 H C Λ code.function (before ∷ number
         ∷ []) ((walk_of 𝓛 it.ended stayed (it.clauses 𝓛 at_mem run)).post bound))
-    walk =
-        qed 𝓛 (raw (alive 𝓛 it.signature κs qs) ∷ ‵ passed ∷ []) ∵ enter ! C Λ code.function (before
-        ∷ number ∷ []) _ $
-        alloc_all ! (λ l. pass_all ! refl (
-          (tt, tt),
-          ((tt, tt), tt),
-        ) $ sets ! (agg ! (no_more !)) refl (tt, tt) $
-        returns ! (look_at ! 0 refl) $ free_all ! refl $
-        suffices ! _ (ends_at 𝓛 it.ended stayed (it.clauses 𝓛 at_mem run) bound
-        (vstruct vnil) longer (tt, (tt, tt)) (tt, (tt, tt))) $
-        says ! refl $ pure_i ! ((T.the_row).own_val longer (vstruct vnil ∷ [])) (
-          (λ vss. (tt, tt)),
-          tt,
-        ) ((tt, (refl, tt)), tt) $
-        move ! (1 ∷ 2 ∷ 0 ∷ []) $ done !)
+    walk = qed 𝓛 (raw (alive 𝓛 it.signature κs qs) ∷ ‵ passed ∷ []) ∵ enter ! C Λ code.function
+        (before ∷ number ∷ []) _ $ alloc_all ! (λ l. pass_all ! refl ((tt, tt), ((tt, tt), tt)) $ sets !
+        (agg ! (no_more !)) refl (tt, tt) $ returns ! (look_at ! 0 refl) $ free_all ! refl $ suffices ! _
+        (ends_at 𝓛 it.ended stayed (it.clauses 𝓛 at_mem run) bound (vstruct vnil) longer (tt, (tt, tt))
+        (tt, (tt, tt))) $ says ! refl $ pure_i ! ((T.the_row).own_val longer (vstruct vnil ∷ []))
+        ((λ vss. (tt, tt)), tt) ((tt, (refl, tt)), tt) $ move ! (1 ∷ 2 ∷ 0 ∷ []) $ done !)
 
   walks : Walks 𝓛 it.ended stayed (WpFn 𝓤 H C Λ code.function) (it.clauses 𝓛 at_mem run)
   walks =
-      walked 𝓛 it.ended stayed (it.clauses 𝓛 at_mem run) (WpFn 𝓤 H C Λ code.function) (λ κs.
-      (shr_vals, (shr_vals, tt)))
+      walked 𝓛 it.ended stayed (it.clauses 𝓛 at_mem run) (WpFn 𝓤 H C Λ code.function) (λ κs. (shr_vals, (shr_vals, tt)))
       (λ κs. (shr_Tells (named 0) κs.0 T.the_row, (shr_Tells (named 1) κs.1.0 u64, tt)))
       (λ κs qs bounds a g are. via 𝓤 _ (fst∗ 𝓤 _ (emp 𝓤)) (walk κs qs a))
 
 meets : {M : Type 1} {𝓤 : Ura M} (𝓛 : Logic 𝓤) (at_mem : Memory → SProp 𝓤) (run : Routine → Fun 𝓤) (𝓣 : Tables 𝓤 𝓛.H)
     → Meets 𝓛 it.signature (WpFn 𝓤 𝓛.H 𝓣.C 𝓣.Λ code.function) (it.spec 𝓛 at_mem run)
-meets {𝓤 = 𝓤} 𝓛 at_mem run 𝓣 =
-    walk_Meets 𝓛 it.ended stayed (
-      Goes-none_ref 𝓛 2 (0 ∷ []) tt (plain (λ _. T.the_row)) yes,
-      (Goes-none_ref 𝓛 2 (1 ∷ []) tt (plain (λ _. u64)) yes, tt),
-    ) (it.clauses 𝓛 at_mem run)
-    (WpFn 𝓤 𝓛.H 𝓣.C 𝓣.Λ code.function)
-    (WpFn-mono 𝓤 𝓛.H 𝓛.laws 𝓣 code.function) (walks 𝓛 at_mem run 𝓣.C 𝓣.Λ)
+meets {𝓤 = 𝓤} 𝓛 at_mem run 𝓣 = walk_Meets 𝓛 it.ended stayed (
+  Goes-none_ref 𝓛 2 (0 ∷ []) tt (plain (λ _. T.the_row)) yes,
+  (Goes-none_ref 𝓛 2 (1 ∷ []) tt (plain (λ _. u64)) yes, tt),
+) (it.clauses 𝓛 at_mem run) (WpFn 𝓤 𝓛.H 𝓣.C 𝓣.Λ code.function) (WpFn-mono 𝓤 𝓛.H 𝓛.laws 𝓣 code.function)
+    (walks 𝓛 at_mem run 𝓣.C 𝓣.Λ)
 
 pub then_spec : {M : Type 1} → stated.statement M
 unfolding tables_of
 then_spec 𝓤 𝓛 𝓜 𝓡 wired =
-    entered 𝓤 𝓛.H (triple_of 𝓛 it.signature (it.spec 𝓛 𝓜.mem 𝓡.returns))
-    (tables 𝓤 𝓛.H 𝓜 𝓡 𝓡.env).C (tables 𝓤 𝓛.H 𝓜 𝓡 𝓡.env).Λ key code.function
-    (code.unfolded 𝓤 𝓛.H 𝓜 𝓡 wired)
+    entered 𝓤 𝓛.H (triple_of 𝓛 it.signature (it.spec 𝓛 𝓜.mem 𝓡.returns)) (tables 𝓤 𝓛.H 𝓜 𝓡 𝓡.env).C
+    (tables 𝓤 𝓛.H 𝓜 𝓡 𝓡.env).Λ key code.function (code.unfolded 𝓤 𝓛.H 𝓜 𝓡 wired)
     (meets 𝓛 𝓜.mem 𝓡.returns (tables_of 𝓤 𝓛.H 𝓜 (tables 𝓤 𝓛.H 𝓜 𝓡 𝓡.env)))

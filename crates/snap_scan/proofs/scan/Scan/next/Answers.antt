@@ -22,9 +22,8 @@ pub returns-in-Borrow : goal.returns-in-Borrow
 returns-in-Borrow c =
     let s = c.self.inside in
     let inv = c.self.invariant in
-    let is = ap (next_at s.set.bits) (sym c.next.ensures ∙ c.in-Borrow.is)
-    ∙ ap Borrow (listed s.set.bits _ c.in-Borrow.place c.at-in-Borrow.result inv.1.list
-    c.at-in-Borrow.ensures.at) in
+    let is = ap (next_at s.set.bits) (sym c.next.ensures ∙ c.in-Borrow.is) ∙ ap Borrow
+    (listed s.set.bits _ c.in-Borrow.place c.at-in-Borrow.result inv.1.list c.at-in-Borrow.ensures.at) in
     record {
       same = sym is ∙ ap (λ (v : Course). v.next) c.self.view_is;
       decides = next_is s.set.bits s.machine s.numbers.list _ _ inv.1.count inv.0 c.self.view_is is;

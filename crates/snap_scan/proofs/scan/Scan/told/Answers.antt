@@ -35,6 +35,5 @@ invariant_of-self c = (
 pub returns-clause-next : goal.returns-clause-next
 returns-clause-next c =
     says_next c.self.inside.set.bits c.told.new.self c.then-self-inside.result.list
-    (c.told.ensures.size ∙ c.self.invariant.1.count)
-    (subst (StandsFor c.told.new.self) (sym c.then-self-inside.ensures)
+    (c.told.ensures.size ∙ c.self.invariant.1.count) (subst (StandsFor c.told.new.self) (sym c.then-self-inside.ensures)
     (c.told.ensures.told c.self.inside.numbers.list c.self.invariant.0))

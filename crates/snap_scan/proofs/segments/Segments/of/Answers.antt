@@ -6,13 +6,7 @@ use Rattle.snap_scan.proofs.segments.Segments.of.Goals as goal
 
 pub loop-segment-init : goal.loop-segment-init
 unfolding named_below
-loop-segment-init c = record {
-  list = refl;
-  set = refl;
-  few = omega arith;
-  wide = refl;
-  most = omega arith;
-}
+loop-segment-init c = record { list = refl; set = refl; few = omega arith; wide = refl; most = omega arith }
 
 pub loop-segment-preserved : goal.loop-segment-preserved
 loop-segment-preserved c =

@@ -1,12 +1,8 @@
 use Rattle.std.proofs.Common.{◌<◌, length, arith, inl}
 use Rattle.std.proofs.lemmas.Bool.Decides.{nat_tests}
-use Rattle.snap_script.proofs.Steps.{done_empty, done_on, empty_list, prints, prints_part, some_list, unreadable}
+use Rattle.snap_script.proofs.Steps.{done_empty, done_on, prints, prints_part, some_list, unreadable}
 use Rattle.snap_script.specs.Script.{full_lines}
 use Rattle.snap_script.proofs.line_buffer.LineBuffer.do_line.Goals as goal
-
-pub returns-then-is_empty-clause-empty : goal.returns-then-is_empty-clause-empty
-returns-then-is_empty-clause-empty g c =
-    empty_list c.args.self.now.line.items (grind (arith, nat_tests))
 
 pub returns-then-is_empty-clause-ok : goal.returns-then-is_empty-clause-ok
 returns-then-is_empty-clause-ok g c = λ done old is h.
@@ -24,9 +20,8 @@ returns-in-Err-clause-err g c = λ done old is h.
     let some : 0 < length c.args.self.now.line.items = grind (arith, nat_tests) in
     let part = rw c.deref-2.ensures.value at c.in-Err.ensures.beginning in (
       (λ after left whole. (is, whole)),
-      prints_part h c.args.self.now.line.items some c.line.new.self.world
-          c.line.new.self.text.items (rw c.deref.ensures.value at c.in-Ok.ensures.ok) _ part.0
-          part.1,
+      prints_part h c.args.self.now.line.items some c.line.new.self.world c.line.new.self.text.items
+          (rw c.deref.ensures.value at c.in-Ok.ensures.ok) _ part.0 part.1,
     )
 
 pub returns-in-Err-Fault-clause-err : goal.returns-in-Err-Fault-clause-err

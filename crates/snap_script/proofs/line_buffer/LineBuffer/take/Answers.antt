@@ -12,11 +12,9 @@ piece_on taken piece i l = append_assoc taken (take i piece) (get_or piece i 0 �
 -- that byte, and all that follows it
 piece_cut : (taken piece : List ℕ) (i : ℕ) → i < length piece
     → (taken ++ take i piece) ++ get_or piece i 0 ∷ drop (i + 1) piece ≡ taken ++ piece
-piece_cut taken piece i l =
-    sym (append_assoc (taken ++ take i piece) (get_or piece i 0 ∷ []) (drop (i + 1) piece))
-    ∙ ap (λ t. t ++ drop (i + 1) piece) (piece_on taken piece i l)
-    ∙ append_assoc taken (take (i + 1) piece) (drop (i + 1) piece)
-    ∙ ap (λ p. taken ++ p) (take-append-drop (i + 1) piece)
+piece_cut taken piece i l = sym (append_assoc (taken ++ take i piece) (get_or piece i 0 ∷ []) (drop (i + 1) piece))
+    ∙ ap (λ t. t ++ drop (i + 1) piece) (piece_on taken piece i l) ∙ append_assoc taken (take (i + 1) piece)
+    (drop (i + 1) piece) ∙ ap (λ p. taken ++ p) (take-append-drop (i + 1) piece)
 
 pub loop-byte-init : goal.loop-byte-init
 loop-byte-init g c = λ taken old t. rw (append-nil taken) t

@@ -21,8 +21,7 @@ returns-then-byte-eq10-clause-ok g c =
     (taken_line t _ _ none (ok t.done old t.is_line t.has_done)))
 
 pub returns-then-byte-eq10-clause-err : goal.returns-then-byte-eq10-clause-err
-returns-then-byte-eq10-clause-err g c =
-    IfErr-weaker c.do_line.result _ _ (λ end err taken rest left old t.
+returns-then-byte-eq10-clause-err g c = IfErr-weaker c.do_line.result _ _ (λ end err taken rest left old t.
     let halts = err t.done old t.is_line t.has_done in
     rw c.if-byte-eq10.true record {
       done = t.done;

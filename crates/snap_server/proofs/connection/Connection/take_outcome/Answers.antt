@@ -6,8 +6,7 @@ use Rattle.snap_server.proofs.connection.Connection.take_outcome.Goals.{then-is_
 pub returns-clause-goes : goal.returns-clause-goes
 returns-clause-goes g c = elim c.if-is_none.branch [
   | then-is_none w ↦
-      rw w.self-is (rw w.service-is
-      (then_answers g.S.Service.gives _ _ _ _ _ _ None None None None
+      rw w.self-is (rw w.service-is (then_answers g.S.Service.gives _ _ _ _ _ _ None None None None
       (begins g.S.Service.gives _ _ None None) w.finish.ensures.goes))
   | else-is_none w ↦ rw w.self-is (rw w.service-is (begins g.S.Service.gives _ _ None None))
 ]

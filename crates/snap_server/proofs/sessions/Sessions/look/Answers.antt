@@ -6,8 +6,7 @@ use Rattle.snap_server.proofs.sessions.Sessions.look.Goals as goal
 
 pub invariant_of-self-in-Break-branch-2 : goal.invariant_of-self-in-Break-branch-2
 invariant_of-self-in-Break-branch-2 g c =
-    still_holds c.args.self.now _
-    (written _ c.args.key _ c.look.new.self (sym c.in_ok-connection.ensures.value))
+    still_holds c.args.self.now _ (written _ c.args.key _ c.look.new.self (sym c.in_ok-connection.ensures.value))
     (no_turn g.S.Service.gives _ _ _ c.look.ensures.session) (same_stage c.look.ensures.stage)
 
 pub invariant_of-self-2 : goal.invariant_of-self-2
@@ -20,12 +19,6 @@ invariant_of-self-2 g c =
 
 pub returns-clause-ended : goal.returns-clause-ended
 returns-clause-ended g c =
-    let over : Connection =
-    record c.look.new.self { stage = Over; socket = c.end.new.self.socket } in
-    let step = written c.args.self.now.connections c.args.key c.in_ok-connection.connection.now over
-    (sym c.in_ok-connection.ensures.value) in
-    rw c.end.ensures.over (
-      over,
-      step.behind,
-      (refl, c.end.ensures.peer, rw c.end.ensures.how c.in_ok-how.ensures.may),
-    )
+    let over : Connection = record c.look.new.self { stage = Over; socket = c.end.new.self.socket } in
+    let step = written c.args.self.now.connections c.args.key _ over (sym c.in_ok-connection.ensures.value) in
+    rw c.end.ensures.over (over, step.behind, (refl, c.end.ensures.peer, rw c.end.ensures.how c.in_ok-how.ensures.may))

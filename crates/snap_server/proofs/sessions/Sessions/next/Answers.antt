@@ -1,5 +1,5 @@
-use Rattle.std.proofs.Common.{arith, sym, ap, subst, ◌∙◌, refl, Some, ◌∷◌, ◌≡◌, List, ℕ}
-use Rattle.snap_server.proofs.Step.{written, none_there, of_old, of_new}
+use Rattle.std.proofs.Common.{arith, sym, ap, subst, ◌∷◌, ◌≡◌, List, ℕ}
+use Rattle.snap_server.proofs.Step.{written}
 use Rattle.snap_server.proofs.TurnList.{lists_rest, none_first}
 use Rattle.snap_server.proofs.SharedService.{turned_are, no_turn}
 use Rattle.snap_server.specs.{declared.connection.Connection.Connection, TurnList.Lists}
@@ -8,15 +8,13 @@ use Rattle.snap_server.proofs.sessions.Sessions.next.Goals as goal
 
 pub invariant_of-self-in-Some : goal.invariant_of-self-in-Some
 invariant_of-self-in-Some g c =
-    let step = written c.args.self.now.connections c.in_ok-key.key c.in-Some.connection.now
-    c.delist.new.self (sym c.in-Some.ensures.value) in
+    let step = written c.args.self.now.connections c.in_ok-key.key _ c.delist.new.self (sym c.in-Some.ensures.value) in
     record {
       are = ∥∥₁_map c.args.self.now.are (turned_are g.S.Service.gives _ _ step
           (no_turn g.S.Service.gives _ _ _ (ap (λ (z : Connection). z.session) c.delist.ensures)));
-      lists = ∥∥₁_map c.args.self.now.lists (λ lists.
-          lists_rest _ step (ap (λ (z : Connection). z.stage) c.delist.ensures)
-          (subst (λ (keys : List ℕ). Lists keys c.args.self.now.connections)
-          c.in_ok-key.ensures.items lists));
+      lists = ∥∥₁_map c.args.self.now.lists (λ lists. lists_rest _ step
+          (ap (λ (z : Connection). z.stage) c.delist.ensures)
+          (subst (λ (keys : List ℕ). Lists keys c.args.self.now.connections) c.in_ok-key.ensures.items lists));
       room = omega (arith, c.args.self.now.room, c.pop_front.ensures.capacity, step.count);
     }
 
@@ -28,38 +26,3 @@ invariant_of-self-in_default-clause-lists g c =
     absurd (none_first c.in_ok-key.key _ c.args.self.now.connections
     (subst (λ (keys : List ℕ). Lists keys c.args.self.now.connections) items lists)
     (sym c.in_default.ensures.value)))
-
-pub invariant_of-self-in_default-clause-room : goal.invariant_of-self-in_default-clause-room
-invariant_of-self-in_default-clause-room g c = omega (
-  arith,
-  c.args.self.now.room,
-  c.pop_front.ensures.capacity,
-)
-
-pub returns-in-Some : goal.returns-in-Some
-returns-in-Some g c =
-    let step = written c.args.self.now.connections c.in_ok-key.key c.in-Some.connection.now
-    c.delist.new.self (sym c.in-Some.ensures.value) in
-    record {
-      service = refl;
-      first = c.in_ok-key.ensures.items;
-      idle = of_new _ step (ap (λ (z : Connection). z.stage) c.delist.ensures);
-      sessions = of_old _ step (step.behind ∙ ap Some c.delist.ensures);
-      others = step.others;
-      nobody = tt;
-      none = tt;
-    }
-
-pub returns-in_default : goal.returns-in_default
-returns-in_default g c =
-    let off = none_there c.args.self.now.connections c.in_ok-key.key
-    (sym c.in_default.ensures.value) in
-    record {
-      service = refl;
-      first = c.in_ok-key.ensures.items;
-      idle = λ d new. absurd (off d new);
-      sessions = λ b old. absurd (off b old);
-      others = λ other apart. refl;
-      nobody = tt;
-      none = tt;
-    }

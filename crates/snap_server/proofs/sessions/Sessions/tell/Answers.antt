@@ -1,6 +1,6 @@
 use Rattle.std.proofs.Common.{sym, ap, ◌∙◌, ◌≡◌, [], refl, true≢false, is_some}
 use Rattle.snap_server.proofs.SharedService.{moved, removed_are, turned_are, still_holds}
-use Rattle.snap_server.proofs.Step.{written, then_listed, somebody, none_there, of_old, of_new, of_both, same_stage}
+use Rattle.snap_server.proofs.Step.{written, then_listed, somebody, of_old, of_new, of_both, same_stage}
 use Rattle.snap_server.proofs.Step.{over_off}
 use Rattle.snap_server.proofs.TurnList.{lists_step, lists_removed, enlisted_going}
 use Rattle.snap_server.specs.{declared.connection.ConnectionState.TheVariants.Over, TurnList.listed_behind}
@@ -10,8 +10,7 @@ use Rattle.snap_server.proofs.sessions.Sessions.tell.Goals as goal
 pub invariant_of-self-then-take_outcome : goal.invariant_of-self-then-take_outcome
 invariant_of-self-then-take_outcome g c =
     still_holds c.args.self.now _ (written _ c.args.key _ c.take_outcome.new.self
-    (sym c.in-Some.ensures.value)) c.take_outcome.ensures.goes
-    (same_stage c.take_outcome.ensures.stage)
+    (sym c.in-Some.ensures.value)) c.take_outcome.ensures.goes (same_stage c.take_outcome.ensures.stage)
 
 pub invariant_of-self-2-clause-are : goal.invariant_of-self-2-clause-are
 invariant_of-self-2-clause-are g c = ∥∥₁_map c.args.self.now.are (λ are.
@@ -23,29 +22,13 @@ pub invariant_of-self-2-clause-lists : goal.invariant_of-self-2-clause-lists
 invariant_of-self-2-clause-lists g c =
     let told = c.take_outcome.new.self in
     let same = c.take_outcome.ensures.stage in
-    let step = written c.args.self.now.connections c.args.key c.in-Some.connection.now told
-    (sym c.in-Some.ensures.value) in
+    let step = written c.args.self.now.connections c.args.key _ told (sym c.in-Some.ensures.value) in
     ∥∥₁_map c.args.self.now.lists (λ lists. lists_removed _ _ _ c.args.key told step.behind
     (over_off told.stage (same ∙ c.take_outcome.ensures.ended.0 c.if-take_outcome.false))
     c.try_remove.ensures.updates (lists_step _ step (same_stage same) lists))
 
-pub returns-in_default : goal.returns-in_default
-returns-in_default g c =
-    let off = none_there c.args.self.now.connections c.args.key (sym c.in_default.ensures.value) in
-    record {
-      answered = λ b d old new going. absurd (off b old);
-      turn = λ b d old new. absurd (off b old);
-      last = λ b old. absurd (off b old);
-      moves = ([], [], refl);
-      nobody = λ none. refl;
-      held = λ b d old new. absurd (off b old);
-      listed = λ d new. absurd (off d new);
-      behind = λ b old. absurd (off b old);
-      unlisted = λ none. refl;
-      gone = λ b old over. absurd (off b old);
-      kept = λ b old going. absurd (off b old);
-      others = λ other apart. refl;
-    }
+pub returns-in_default-clause-moves : goal.returns-in_default-clause-moves
+returns-in_default-clause-moves g c = ([], [], refl)
 
 pub returns-then-take_outcome : goal.returns-then-take_outcome
 returns-then-take_outcome g c =
@@ -53,8 +36,7 @@ returns-then-take_outcome g c =
     let same = c.take_outcome.ensures.stage in
     let going = λ (over : c.in-Some.connection.now.stage ≡ Over).
     true≢false (sym c.if-take_outcome.true ∙ c.take_outcome.ensures.ended.1 over) in
-    let there = written c.args.self.now.connections c.args.key c.in-Some.connection.now told
-    (sym c.in-Some.ensures.value) in
+    let there = written c.args.self.now.connections c.args.key _ told (sym c.in-Some.ensures.value) in
     let step = then_listed there c.list.new.self.connections
     (enlisted_going told.stage (λ over. going (sym same ∙ over)))
     c.list.ensures.listed c.list.ensures.others c.list.ensures.count in
@@ -73,24 +55,3 @@ returns-then-take_outcome g c =
       kept = λ b old still. ap is_some step.behind;
       others = step.others;
     })
-
-pub returns : goal.returns
-returns g c =
-    let over = c.take_outcome.ensures.ended.0 c.if-take_outcome.false in
-    let step = written c.args.self.now.connections c.args.key c.in-Some.connection.now
-    c.take_outcome.new.self (sym c.in-Some.ensures.value) in
-    let off = none_there c.try_remove.new.self c.args.key c.try_remove.ensures.updates.changed in
-    record {
-      answered = λ b d old new going. absurd (off d new);
-      turn = λ b d old new. absurd (off d new);
-      last = of_old _ step (c.take_outcome.new.self.session, c.take_outcome.ensures.goes);
-      moves = moved g.S.Service.gives _ _ _ _ c.take_outcome.ensures.goes;
-      nobody = λ none. absurd (somebody step none);
-      held = λ b d old new. absurd (off d new);
-      listed = λ d new. absurd (off d new);
-      behind = of_old _ step (rw over refl);
-      unlisted = λ none. absurd (somebody step none);
-      gone = λ b old over. c.try_remove.ensures.updates.changed;
-      kept = of_old _ step (λ going. absurd (going over));
-      others = λ o apart. c.try_remove.ensures.updates.others o apart ∙ step.others o apart;
-    }

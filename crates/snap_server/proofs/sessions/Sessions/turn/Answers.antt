@@ -2,16 +2,15 @@ use Rattle.std.proofs.Common.{arith, sym, ap, subst, ◌∙◌, ◌≡◌, ◌�
 use Rattle.std.proofs.lemmas.Grind.{common_steps}
 use Rattle.snap_session.specs.declared.turns.Polled.TheVariants.{NeedsInput, NeedsRoom, NeedsOutcome}
 use Rattle.snap_session.specs.{Talk.Talk, Turns.StandsAt, declared.turns.Polled.Polled}
-use Rattle.snap_server.proofs.Step.{written, then_listed, somebody, none_there, of_new, of_both, same_stage, ends_idle}
+use Rattle.snap_server.proofs.Step.{written, then_listed, somebody, of_new, of_both, same_stage, ends_idle}
 use Rattle.snap_server.specs.{declared.connection.Connection.Connection, TurnList.enlisted, ConnectionStates.Waits}
 use Rattle.snap_server.specs.{declared.connection.ConnectionState.TheVariants.Over, TurnList.listed_behind}
 use Rattle.snap_server.proofs.SharedService.{moved, still_holds}
 use Rattle.snap_server.proofs.sessions.Sessions.turn.Goals as goal
 
 -- the connection waits for one of the three
-waiting : (turn : Polled) (t : Talk)
-    → (turn ≡ NeedsInput) ⊎ ((turn ≡ NeedsRoom) ⊎ (turn ≡ NeedsOutcome)) → StandsAt turn t None
-    → Waits t
+waiting : (turn : Polled) (t : Talk) → (turn ≡ NeedsInput) ⊎ ((turn ≡ NeedsRoom) ⊎ (turn ≡ NeedsOutcome))
+    → StandsAt turn t None → Waits t
 waiting turn t (inl is) at = inl (subst (λ (r : Polled). StandsAt r t None) is at)
 waiting turn t (inr (inl is)) at = inr (inl (subst (λ (r : Polled). StandsAt r t None) is at))
 waiting turn t (inr (inr is)) at = inr (inr (subst (λ (r : Polled). StandsAt r t None) is at))
@@ -35,26 +34,10 @@ invariant_of-self-in-Over g c =
 pub returns-in_err-connection-clause-moves : goal.returns-in_err-connection-clause-moves
 returns-in_err-connection-clause-moves g c = ([], [], refl)
 
-pub returns-in_err-connection-clause-waits : goal.returns-in_err-connection-clause-waits
-returns-in_err-connection-clause-waits g c = rw c.from_residual.ensures (λ d new.
-    absurd (none_there c.args.self.now.connections c.args.key
-    (sym c.in_err-connection.ensures.value) d new))
-
-pub returns-in_err-connection-clause-turn : goal.returns-in_err-connection-clause-turn
-returns-in_err-connection-clause-turn g c = λ b d old new.
-    absurd (none_there c.args.self.now.connections c.args.key
-    (sym c.in_err-connection.ensures.value) b old)
-
-pub returns-in_err-connection-clause-under : goal.returns-in_err-connection-clause-under
-returns-in_err-connection-clause-under g c = λ b d old new free.
-    absurd (none_there c.args.self.now.connections c.args.key
-    (sym c.in_err-connection.ensures.value) b old)
-
 pub returns-in-Again : goal.returns-in-Again
 returns-in-Again g c =
     let at = sym c.in_ok-connection.ensures.value in
-    let there = written c.args.self.now.connections c.args.key c.in_ok-connection.connection.now
-    c.go_on.new.self at in
+    let there = written c.args.self.now.connections c.args.key _ c.go_on.new.self at in
     let idle = c.go_on.ensures.stage ∙ c.requires.idle _ at in
     let step = then_listed there c.list.new.self.connections (ap enlisted idle)
     c.list.ensures.listed c.list.ensures.others c.list.ensures.count in
@@ -77,13 +60,11 @@ returns-in-Again g c =
 pub returns-in-NeedsInput : goal.returns-in-NeedsInput
 returns-in-NeedsInput g c =
     let at = sym c.in_ok-connection.ensures.value in
-    let step = written c.args.self.now.connections c.args.key c.in_ok-connection.connection.now
-    c.go_on.new.self at in
+    let step = written c.args.self.now.connections c.args.key _ c.go_on.new.self at in
     let idle = c.go_on.ensures.stage ∙ c.requires.idle _ at in
     record {
       ended = tt;
-      waits = of_new _ step
-          (inr (waiting _ _ c.in-NeedsInput.is c.go_on.ensures.stands));
+      waits = of_new _ step (inr (waiting _ _ c.in-NeedsInput.is c.go_on.ensures.stands));
       turn = of_both _ step c.go_on.ensures.goes;
       under = of_both _ step c.go_on.ensures.under;
       rounds = of_both _ step (rw idle (grind (arith, common_steps)));
@@ -98,16 +79,10 @@ returns-in-NeedsInput g c =
 
 pub returns-in-Over : goal.returns-in-Over
 returns-in-Over g c =
-    let over : Connection =
-    record c.go_on.new.self { stage = Over; socket = c.end.new.self.socket } in
-    let step = written c.args.self.now.connections c.args.key c.in_ok-connection.connection.now over
-    (sym c.in_ok-connection.ensures.value) in
+    let over : Connection = record c.go_on.new.self { stage = Over; socket = c.end.new.self.socket } in
+    let step = written c.args.self.now.connections c.args.key _ over (sym c.in_ok-connection.ensures.value) in
     rw c.end.ensures.over (record {
-      ended = (
-        over,
-        step.behind,
-        (refl, c.end.ensures.peer, rw c.end.ensures.how c.in-Over.ensures.stands),
-      );
+      ended = (over, step.behind, (refl, c.end.ensures.peer, rw c.end.ensures.how c.in-Over.ensures.stands));
       waits = tt;
       turn = of_both _ step c.go_on.ensures.goes;
       under = of_both _ step c.go_on.ensures.under;

@@ -4,8 +4,7 @@ use Rattle.snap_server.proofs.Round.{no_turn_yet, next_first, one_turn_more, rou
 use Rattle.snap_server.proofs.worker.Worker.serve_listed.Goals as goal
 
 pub round-init : goal.round-init
-round-init g c =
-    no_turn_yet g.S.Service.gives PIECE c.args.self.now.sessions.listed.items
+round-init g c = no_turn_yet g.S.Service.gives PIECE c.args.self.now.sessions.listed.items
     c.args.self.now.sessions.service c.args.self.now.sessions.connections
 
 pub round-preserved : goal.round-preserved

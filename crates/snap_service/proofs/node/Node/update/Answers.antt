@@ -6,7 +6,6 @@ use Rattle.snap_service.proofs.node.Node.update.Goals as goal
 pub returns-in-Some-clause-answer : goal.returns-in-Some-clause-answer
 returns-in-Some-clause-answer g c =
     let P : Known → Type 0 = λ a.
-    AnswersUpdate a c.args.segment c.args.number c.args.value.now c.in-Some.reply a
-    in
+    AnswersUpdate a c.args.segment c.args.number c.args.value.now c.in-Some.reply a in
     let Q : NodeState → Type 0 = λ n. P n.scanner in
     subst Q c.self.view_is (subst P c.scanner.ensures (c.in-Some.ensures.refused c.args.number))

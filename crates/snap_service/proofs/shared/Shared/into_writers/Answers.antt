@@ -9,12 +9,9 @@ use Rattle.snap_service.proofs.shared.Shared.into_writers.Goals as goal
 
 pub locks-init : goal.locks-init
 locks-init g c =
-    let none = ap length c.requires.empty in
-    let all = ap length c.into_iter-lock-iterator.ensures.into_iter_gives.0 in
     record {
-      left = omega arith;
-      long = (let count = c.into_iter-lock-iterator.ensures.into_iter_gives.1 in
-          let ok = c.args.self.writers.ok in omega arith);
+      left = omega (arith, ap length c.requires.empty, ap length c.into_iter-lock-iterator.ensures.into_iter_gives.0);
+      long = omega arith;
       room = c.requires.room;
       each = λ i w at. absurd (no_place c.args.room.items i w c.requires.empty at);
       alone = λ i w at. absurd (no_place c.args.room.items i w c.requires.empty at);
@@ -28,17 +25,13 @@ locks-preserved g c =
     let ws = c.locks.writers.items in
     let w = c.into_writer.result in
     let short = ap length c.in-Some.ensures.steps.0 in
-    let one_less = c.in-Some.ensures.steps.1 in
     let items = c.in-Ok.ensures.items in
     let more : length c.push.new.self.items ≡ length ws + 1 = ap length items ∙ length_push ws w in
     let own = ap (λ s. own_of s.seat) c.into_writer.ensures.writer in
-    let there = c.segment.ensures.own in
-    let count = c.len-place.ensures in
-    let ok = c.locks.writers.ok in
     record {
-      left = (let was = inv.left in omega arith);
-      long = (let was = inv.long in omega arith);
-      room = (let was = inv.room in let kept = c.in-Ok.ensures.capacity in omega arith);
+      left = omega arith;
+      long = omega arith;
+      room = omega arith;
       each = λ i x at.
           places_more (λ k s. IsOf g.M.Memory.table g.M.Memory.plan s.seat) ws w inv.each
           c.into_writer.ensures.memory i x (subst (λ l. slice_get l i ≡ Some x) items at);
@@ -49,9 +42,7 @@ locks-preserved g c =
           elim c.if-segment-place.branch [
             | then-segment-place b ↦ absurd (false≢true (sym off ∙ b.is_displaced-is))
             | else-segment-place b ↦ (
-                let same = b.if-segment-place.false in
-                places_more (λ k s. own_of s.seat ≡ k) ws w
-                (inv.order (sym b.is_displaced-is ∙ off)) (omega arith) i x
+                places_more (λ k s. own_of s.seat ≡ k) ws w (inv.order (sym b.is_displaced-is ∙ off)) (omega arith) i x
                 (subst (λ l. slice_get l i ≡ Some x) items at))
           ];
       displaced = λ on.
@@ -68,13 +59,9 @@ locks-preserved g c =
 pub returns-then-is_displaced-clause-displaced : goal.returns-then-is_displaced-clause-displaced
 returns-then-is_displaced-clause-displaced g c =
     let inv = c.locks.invariant in
-    let left = inv.left in
-    let long = inv.long in
-    let none = c.in-None.ensures.steps.0 in
-    let all = c.args.self.all in
     let one = inv.displaced c.if-is_displaced.true in
     record {
-      all = omega arith;
+      all = omega (arith, inv.left, inv.long, c.in-None.ensures.steps.0, c.args.self.all);
       each = inv.each;
       place = one.0;
       writer = one.1;
@@ -85,12 +72,8 @@ returns-then-is_displaced-clause-displaced g c =
 pub returns-clause-writers : goal.returns-clause-writers
 returns-clause-writers g c =
     let inv = c.locks.invariant in
-    let left = inv.left in
-    let long = inv.long in
-    let none = c.in-None.ensures.steps.0 in
-    let all = c.args.self.all in
     record {
-      all = omega arith;
+      all = omega (arith, inv.left, inv.long, c.in-None.ensures.steps.0, c.args.self.all);
       each = λ i w at. (inv.each i w at, inv.order c.if-is_displaced.false i w at);
     }
 

@@ -9,10 +9,8 @@ loop-lock-preserved g c =
     let s : SegmentStatus = c.status.result in
     let inv = c.loop-lock.invariant in
     record {
-      count = ap length c.in_ok-push.ensures.items ∙ length_push c.loop-lock.statuses.items s
-          ∙ ap (λ (n : ℕ). n + 1) inv.count;
-      limits = all_more IsStatus c.loop-lock.statuses.items _ s c.in_ok-push.ensures.items
-          inv.limits c.status.ensures.limits;
+      count = ap length c.in_ok-push.ensures.items ∙ length_push _ s ∙ ap (λ (n : ℕ). n + 1) inv.count;
+      limits = all_more IsStatus _ _ s c.in_ok-push.ensures.items inv.limits c.status.ensures.limits;
       scanner = ap (λ (a : NodeState). a.scanner) c.status.ensures.counts ∙ inv.scanner;
       updates = ap (λ (a : NodeState). a.updates) c.status.ensures.counts ∙ inv.updates;
     }

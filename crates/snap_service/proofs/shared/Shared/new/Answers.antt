@@ -17,36 +17,26 @@ new-requires-clause-memory g c =
 pub new-requires-clause-own : goal.new-requires-clause-own
 new-requires-clause-own g c =
     let next = next_of g (goal.at.new-requires-clause-own g c).In-Some in
-    let own = (c.requires.each _ c.in-Some.writer next.at).1 in
-    let count = c.len-segment.ensures in
-    let len = c.writers.locks.ok in
-    omega arith
+    omega (arith, (c.requires.each _ c.in-Some.writer next.at).1)
 
 pub writers-preserved : goal.writers-preserved
 writers-preserved g c =
     let inv = c.writers.invariant in
     let next = next_of g (goal.at.writers-preserved g c).In-Some in
-    let inside = next.inside in
     let on : length c.push.new.self.items ≡ length c.writers.locks.items + 1 =
     ap length c.in-Ok-push.ensures.items ∙ length_push c.writers.locks.items _ in
     record {
       rest = next.left _ on;
-      long = (
-          let was = inv.long in
-          let gone = c.in-Some.ensures.steps.1 in
-          let short = ap length c.in-Some.ensures.steps.0 in
-          omega arith
-          );
+      long = omega (arith, ap length c.in-Some.ensures.steps.0);
       within = omega arith;
-      room = (let r = c.in-Ok-push.ensures.capacity in let was = inv.room in omega arith);
+      room = omega arith;
     }
 
 pub invariant_of-result : goal.invariant_of-result
 invariant_of-result g c =
     let inv = c.writers.invariant in
     let none = sym inv.long ∙ c.in-None.ensures.steps.0 in
-    let left = ap length inv.rest ∙ length-drop (length c.writers.locks.items) c.args.writers.items
-    in
+    let left = ap length inv.rest ∙ length-drop (length c.writers.locks.items) c.args.writers.items in
     let within = inv.within in let all = c.requires.all in record { all = omega arith }
 
 pub unreachable-requires : goal.unreachable-requires

@@ -29,30 +29,22 @@ returns-then-is_some-clause-few g c =
     by_more g.S.Service.gives _ _ _ _ _ _ _ most_answers (omega arith) c.loop.invariant.goes
 
 pub returns-in_default-clause-few : goal.returns-in_default-clause-few
-returns-in_default-clause-few g c =
-    by_more g.S.Service.gives _ _ _ _ _ _ _ most_answers (omega arith)
+returns-in_default-clause-few g c = by_more g.S.Service.gives _ _ _ _ _ _ _ most_answers (omega arith)
     (goes_more g.S.Service.gives _ _ _ _ _ _ _ 1 c.loop.invariant.goes c.answer_one.ensures.goes)
 
 pub returns-clause-few : goal.returns-clause-few
-returns-clause-few g c =
-    by_more g.S.Service.gives _ _ _ _ _ _ _ most_answers (omega arith) c.loop.invariant.goes
+returns-clause-few g c = by_more g.S.Service.gives _ _ _ _ _ _ _ most_answers (omega arith) c.loop.invariant.goes
 
 pub loop-preserved : goal.loop-preserved
 loop-preserved g c = record {
-  goes = goes_more g.S.Service.gives _ _ _ _ _ _ _ 1 c.loop.invariant.goes
-      c.answer_one.ensures.goes;
+  goes = goes_more g.S.Service.gives _ _ _ _ _ _ _ 1 c.loop.invariant.goes c.answer_one.ensures.goes;
   asked = c.answer_one.ensures.asked;
   free = c.in-Turn.ensures.wants.0;
-  bounded = λ few. omega (
-    arith,
-    c.answer_one.ensures.bounded,
-    c.has_room.ensures.0 c.if-not-has_room.false,
-  );
+  bounded = λ few. omega (arith, c.answer_one.ensures.bounded, c.has_room.ensures.0 c.if-not-has_room.false);
   held = λ going. omega (
     arith,
     c.answer_one.ensures.held going,
-    c.loop.invariant.held (sym c.over.ensures
-        ∙ still_going _ _ c.is_some.ensures c.if-is_some.false),
+    c.loop.invariant.held (sym c.over.ensures ∙ still_going _ _ c.is_some.ensures c.if-is_some.false),
   );
   some = λ ran. c.in-Turn.ensures.wants.1;
 }

@@ -1,16 +1,15 @@
-use Rattle.std.proofs.Common.{◌≡◌, [], length, refl, ap, subst, sym, inl, inr, ◌∙◌, Some, None, arith}
-use Rattle.snap_frame.specs.{declared.frame_buffer.Failure.TheVariants.NoMemory, Messages.says}
+use Rattle.std.proofs.Common.{[], refl, ap, subst, sym, inl, inr, ◌∙◌, arith}
+use Rattle.snap_frame.specs.Messages.{says}
 use Rattle.snap_session.specs.Talk.{refused_malformed, refused_too_large}
 use Rattle.snap_session.proofs.Steps.{rests, by_more, gives_up, answers, refuses, found_first, hands, came_free}
-use Rattle.snap_session.proofs.Steps.{owes_turn, asked_of}
-use Rattle.snap_session.{specs.Asked.AreAsked, proofs.Asked.asked_behind, proofs.Asked.owes_held}
+use Rattle.snap_session.proofs.Steps.{owes_turn, owes_held, asked_of}
+use Rattle.snap_session.{specs.Asked.AreAsked, proofs.Asked.asked_behind}
 use Rattle.snap_session.proofs.session.Session.answer_one.Goals as goal
 
 pub returns-in-Nothing-clause-goes : goal.returns-in-Nothing-clause-goes
 returns-in-Nothing-clause-goes g c =
-    rw c.in-Nothing.ensures.1 (by_more g.S.Service.gives c.args.service.now _ c.args.self.now
-    [] [] c.args.self.now 0 1 (omega arith)
-    (rests g.S.Service.gives c.args.service.now c.args.self.now))
+    rw c.in-Nothing.ensures.1 (by_more g.S.Service.gives c.args.service.now _ c.args.self.now [] [] c.args.self.now 0 1
+    (omega arith) (rests g.S.Service.gives c.args.service.now c.args.self.now))
 
 pub returns-in-Some-clause-goes : goal.returns-in-Some-clause-goes
 returns-in-Some-clause-goes g c =
@@ -19,20 +18,8 @@ returns-in-Some-clause-goes g c =
     (says c.in-Some.reply) c.owe.result c.requires.going
     (found_first c.args.self.now c.hear.new.self h.0 c.requires.free h.1 h.5) h.3 h.4 (
       h.1.fits,
-      inl (
-        c.in-Asked.request,
-        c.in-Some.reply,
-        h.2,
-        c.in-Some.ensures.gives,
-        (c.in-Some.ensures.limits, refl),
-      ),
+      inl (c.in-Asked.request, c.in-Some.reply, h.2, c.in-Some.ensures.gives, (c.in-Some.ensures.limits, refl)),
     ) c.owe.ensures.owes
-
-pub keep-requires-clause-fits : goal.keep-requires-clause-fits
-keep-requires-clause-fits g c =
-    let h = c.in-Asked.ensures in
-    let fits = h.1.fits in
-    omega (arith, fits, ap length h.2.1)
 
 pub returns-in-None-clause-goes : goal.returns-in-None-clause-goes
 returns-in-None-clause-goes g c =
@@ -47,10 +34,8 @@ returns-in-Malformed-clause-goes g c =
     let h = c.in-Malformed.ensures in
     answers g.S.Service.gives _ _ c.args.self.now c.hear.new.self c.owe-in-Malformed.new.self h.0 _
     c.owe-in-Malformed.result c.requires.going
-    (found_first c.args.self.now c.hear.new.self h.0 c.requires.free h.1 h.5) h.3 h.4 (
-      h.1.fits,
-      inr (h.2, refl, refl),
-    ) c.owe-in-Malformed.ensures.owes
+    (found_first c.args.self.now c.hear.new.self h.0 c.requires.free h.1 h.5) h.3 h.4
+    (h.1.fits, inr (h.2, refl, refl)) c.owe-in-Malformed.ensures.owes
 
 pub returns-in-TooLarge-clause-goes : goal.returns-in-TooLarge-clause-goes
 returns-in-TooLarge-clause-goes g c =
@@ -82,12 +67,6 @@ returns-in-TooLarge-clause-wants g c =
     owes_turn c.hear.new.self refused_too_large c.owe-in-TooLarge.new.self
     c.owe-in-TooLarge.result c.owe-in-TooLarge.ensures.owes
     (ap asked_of c.in-TooLarge.ensures.1 ∙ c.requires.free)
-
-pub returns-in-NoMemory-clause-wants : goal.returns-in-NoMemory-clause-wants
-returns-in-NoMemory-clause-wants g c = (
-  c.in-NoMemory.ensures.2 ∙ c.requires.free,
-  λ going none. let both : Some NoMemory ≡ None = sym c.in-NoMemory.ensures.1 ∙ going in absurd cc,
-)
 
 -- what is held behind the request that was answered
 pub answer-requires-clause-asked : goal.answer-requires-clause-asked

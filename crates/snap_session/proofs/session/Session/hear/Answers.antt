@@ -27,15 +27,13 @@ returns-in-Ok-None c =
     let here = next (c.self.invariant.0 going) in
     let same = ap (λ (z : Held). z.bytes) here.1 in (
       subst IsPartial held here.0,
-      subst (λ bytes.
-          record {
-            asked = c.self.inside.asked;
-            held = bytes;
-            owed = c.self.inside.owed.items;
-            over = c.self.inside.over;
-          } ≡ c.args.self.now) (sym same) c.self.view_is,
-      subst (λ bytes. length bytes < longest_frame) held
-          (partial_is_short _ (c.self.invariant.2 going) here.0),
+      subst (λ bytes. record {
+        asked = c.self.inside.asked;
+        held = bytes;
+        owed = c.self.inside.owed.items;
+        over = c.self.inside.over;
+      } ≡ c.args.self.now) (sym same) c.self.view_is,
+      subst (λ bytes. length bytes < longest_frame) held (partial_is_short _ (c.self.invariant.2 going) here.0),
     )
 
 pub returns-in-Err-TooLarge : goal.returns-in-Err-TooLarge

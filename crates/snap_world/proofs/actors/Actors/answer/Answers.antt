@@ -1,8 +1,7 @@
-use Rattle.std.proofs.Common.{Some, refl, ap, subst, ◌∙◌}
-use Rattle.std.proofs.{Math.Logic.∥∥₁_elim, Props.props}
-use Rattle.snap_world.specs.{Machine.Closed, inside.Steps.IsReplyOf, declared.scanner.Scanner.Scanner}
-use Rattle.snap_world.proofs.LookingOn.{seen_within, answers}
-use Rattle.snap_world.proofs.{Events.scanner_goes, Elements.same_read, Moves.the_scanner, PhaseMoves.scanner_there}
+use Rattle.std.proofs.{Common.Some, Common.refl, Common.ap, Common.subst, Common.◌∙◌, Math.Logic.∥∥₁_elim, Props.props}
+use Rattle.snap_world.{specs.declared.scanner.Scanner.Scanner, proofs.LookingOn.seen_within, proofs.LookingOn.answers}
+use Rattle.snap_world.{proofs.PhaseMoves.scanner_there, specs.inside.Steps.IsReplyOf, proofs.Events.scanner_goes}
+use Rattle.snap_world.{proofs.Elements.same_read, proofs.Moves.the_scanner, specs.Machine.Closed}
 use Rattle.snap_world.specs.declared.scanner.ScannerPhase.TheVariants as scanner
 use Rattle.snap_world.proofs.actors.Actors.answer.Goals as goal
 
@@ -12,10 +11,8 @@ reply-requires c = record {
   within = λ set only place i at. ∥∥₁_elim c.requires.stands (hlevel props) (λ q. (
       let w = c.args.self.now in
       let old = c.index.result.now in
-      let a = the_scanner w q.0 q.1 c.args.at (c.if-not-scanner_is.ensures.0 refl) old
-      c.index.ensures in
-      seen_within w.segments q.0.history a.phase.0 old.collector.memory.items old.asked
-      a.phase.3 set only place i at));
+      let a = the_scanner w q.0 q.1 c.args.at (c.if-not-scanner_is.ensures.0 refl) old c.index.ensures in
+      seen_within w.segments q.0.history a.phase.0 old.collector.memory.items old.asked a.phase.3 set only place i at));
 }
 
 pub returns-clause-step : goal.returns-clause-step
@@ -28,10 +25,8 @@ returns-clause-step c =
     let read = c.index_mut.ensures.value in
     let memory = old.collector.memory.items in
     let reply = c.in_ok-reply.reply in
-    let replies : IsReplyOf old.asked memory reply =
-    subst (λ (z : Scanner). IsReplyOf z.asked z.collector.memory.items reply)
-    (same_read w.scanners.items i c.index.result.now old there c.index.ensures read)
-    c.in_ok-reply.ensures in
+    let replies : IsReplyOf old.asked memory reply = subst (λ (z : Scanner). IsReplyOf z.asked z.collector.memory.items
+    reply) (same_read w.scanners.items i c.index.result.now old there c.index.ensures read) c.in_ok-reply.ensures in
     let new : Scanner = record old { phase = scanner.Idle } in
     answers w i new old.asked memory reply replies is refl (λ ds x up. (
     let a = the_scanner w x up.actors_stand i is old read in (

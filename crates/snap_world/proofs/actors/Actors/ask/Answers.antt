@@ -1,7 +1,7 @@
 use Rattle.std.proofs.Common.{length, Some, refl, ap, ◌∙◌}
-use Rattle.snap_world.specs.{Answers.scan_from, Answers.set_of, Machine.Opened, declared.scanner.Scanner.Scanner}
-use Rattle.snap_world.proofs.{Moves.the_scanner, Moves.Gathers-none, Events.scanner_goes, PhaseMoves.scanner_there}
-use Rattle.snap_world.proofs.LookingOn.{some_named, asks}
+use Rattle.snap_world.proofs.{LookingOn.some_named, LookingOn.asks, Events.scanner_goes, Moves.the_scanner}
+use Rattle.snap_world.{specs.Answers.scan_from, specs.Answers.set_of, proofs.PhaseMoves.scanner_there}
+use Rattle.snap_world.{specs.Machine.Opened, specs.declared.scanner.Scanner.Scanner, proofs.Moves.Gathers-none}
 use Rattle.snap_world.specs.declared.scanner.ScannerPhase.TheVariants as scanner
 use Rattle.snap_world.proofs.actors.Actors.ask.Goals as goal
 
@@ -23,15 +23,12 @@ returns c =
           let a = the_scanner w x stands i is old c.index_mut-scanner.ensures.value in
           let set = set_of w.segments asked in
           let gathers = Gathers-none w.segments set x.history new.collector
-          (some_named w.segments set stands.most c.requires.some c.requires.among)
-          c.requires.among (c.of-scanner.ensures.set ∙ c.set.ensures)
-          c.of-scanner.ensures.told c.of-scanner.ensures.next a.size in (
+          (some_named w.segments set stands.most c.requires.some c.requires.among) c.requires.among
+          (c.of-scanner.ensures.set ∙ c.set.ensures) c.of-scanner.ensures.told c.of-scanner.ensures.next a.size in (
             a.there ∙ ap (λ z. Some z) a.phase,
-            scanner_goes w ds x up i new (Opened asked (scan_from (length x.history)))
-                (scanner_there w i is) (record {
-                  size = a.size;
-                  phase =
-                      (scan_from (length x.history), refl, stands.within, gathers.0, gathers.1);
-                }),
+            scanner_goes w ds x up i new (Opened asked (scan_from (length x.history))) (scanner_there w i is) (record {
+              size = a.size;
+              phase = (scan_from (length x.history), refl, stands.within, gathers.0, gathers.1);
+            }),
           )));
     }

@@ -1,13 +1,12 @@
-use Rattle.std.proofs.{Common.true, Common.refl, Common.sym, lemmas.Option.slice_get_read}
+use Rattle.std.proofs.{Common.rules, Common.true, Common.refl, Common.sym, lemmas.Option.slice_get_read}
 use Rattle.snap_history.proofs.Pairs.{partner}
-use Rattle.snap_world.specs.{Machine.WriterState, inside.Stands.WriterStands, declared.writer.Writer.Writer}
-use Rattle.snap_world.proofs.{Moves.writer_moves, PhaseMoves.writer_moved, Sizes.segment_fits}
+use Rattle.snap_world.specs.{declared.writer.Writer.Writer, inside.Stands.WriterStands, Machine.WriterState}
+use Rattle.snap_world.proofs.{PhaseMoves.writer_moved, Moves.writer_moves, Sizes.segment_fits}
 use Rattle.snap_world.specs.declared.writer.WriterPhase.TheVariants as writer
 use Rattle.snap_world.proofs.actors.Actors.fence.Goals as goal
 
 pub index_mut-requires : goal.index_mut-requires
-index_mut-requires c =
-    segment_fits c.args.self.now c.requires.stands c.args.segment c.requires.within
+index_mut-requires c = segment_fits c.args.self.now c.requires.stands c.args.segment c.requires.within
 
 pub returns-clause-stands : goal.returns-clause-stands
 returns-clause-stands c x stands s v there begun =
@@ -15,16 +14,11 @@ returns-clause-stands c x stands s v there begun =
     let i = c.args.segment in
     let l = c.requires.within in
     let old = c.index_mut.result.now in
-    let was = partner (WriterStands w.segments x.history stands.since) w.writers.items x.writers i
-    old stands.writers (slice_get_read w.writers.items w.segments i old (sym stands.writers_n) l
-    c.index_mut.ensures.value) in
+    let was = partner (WriterStands w.segments x.history stands.since) w.writers.items x.writers i old stands.writers
+    (slice_get_read w.writers.items w.segments i old (sym stands.writers_n) l c.index_mut.ensures.value) in
     let new : Writer = record old { phase = writer.Fenced } in
     let state : WriterState = record s { fenced = true } in
-    writer_moves w x stands i new s state l there refl
-    (record { size = was.2.size; fenced = refl; phase = (v, begun) })
+    writer_moves w x stands i new s state l there refl (record { size = was.2.size; fenced = refl; phase = (v, begun) })
 
 pub returns-clause-phases : goal.returns-clause-phases
-returns-clause-phases c =
-    let old = c.index_mut.result.now in
-    let new : Writer = record old { phase = writer.Fenced } in
-    writer_moved c.args.self.now c.args.segment new
+returns-clause-phases c = search (rules, writer_moved)

@@ -1,18 +1,15 @@
-use Rattle.std.proofs.Common.{refl, sym, subst, inl, inr}
 use Rattle.std.proofs.lemmas.Bool.{MatchBool-at_true, MatchBool-at_false}
-use Rattle.snap_world.specs.{inside.Gathers.IsUnderWay, inside.NodeSteps.IsActorsStep}
-use Rattle.snap_world.specs.declared.{event.Event.TheVariants.Look, event.Reply.TheVariants.Number}
-use Rattle.snap_world.proofs.{LookingOn.scanner_can_look, LookingOn.scanner_looks, PhaseMoves.scanner_read}
+use Rattle.std.proofs.Common.{rules, refl, sym, subst, inl, inr}
 use Rattle.snap_world.proofs.actors.Actors.look_scanner.Goals.{then-is_done, else-is_done}
+use Rattle.snap_world.proofs.{LookingOn.scanner_can_look, LookingOn.scanner_looks, PhaseMoves.scanner_read}
+use Rattle.snap_world.specs.declared.event.{Reply.TheVariants.Number, Event.TheVariants.Look}
+use Rattle.snap_world.specs.inside.{NodeSteps.IsActorsStep, Gathers.IsUnderWay}
 use Rattle.snap_world.specs.declared.event.Actor.TheVariants as actor
 use Rattle.snap_world.specs.declared.scanner.ScannerPhase.TheVariants as scanner
 use Rattle.snap_world.proofs.actors.Actors.look_scanner.Goals as goal
 
 pub look-number-requires : goal.look-number-requires
-look-number-requires c =
-    let can = scanner_can_look c.args.self.now c.args.at (c.if-not-scanner_is.ensures.0 refl)
-    c.index_mut-scanner.result.now c.index_mut-scanner.ensures.value c.requires.stands in
-    record { under_way = can.0; stands = can.1 }
+look-number-requires c = search (rules, scanner_can_look)
 
 pub returns : goal.returns
 returns c =
@@ -28,13 +25,11 @@ returns c =
     record {
       step = elim c.if-is_done.branch [
         | then-is_done b ↦ subst Step (sym b.self-is) (looks scanner.Ready (inr (
-          MatchBool-at_true (IsUnderWay new
-              → ⊥) (IsUnderWay new) b.if-is_done.true c.is_done.ensures.under_way,
+          MatchBool-at_true (IsUnderWay new → ⊥) (IsUnderWay new) b.if-is_done.true c.is_done.ensures.under_way,
           refl,
         )))
         | else-is_done b ↦ subst Step (sym b.self-is) (looks old.phase (inl (
-          MatchBool-at_false (IsUnderWay new
-              → ⊥) (IsUnderWay new) b.if-is_done.false c.is_done.ensures.under_way,
+          MatchBool-at_false (IsUnderWay new → ⊥) (IsUnderWay new) b.if-is_done.false c.is_done.ensures.under_way,
           (scanner_read w i is old read).1,
         )))
       ];

@@ -4,10 +4,7 @@ use Rattle.snap_world.proofs.drive.Drive.crash.Goals as goal
 pub returns : goal.returns
 returns c = record {
   refilled = record {
-    left = record {
-      left = c.crash.ensures.left;
-      places = λ p. ap (λ (f : ℕ → Bool). f p) c.crash.ensures.places;
-    };
+    left = record { left = c.crash.ensures.left; places = λ p. ap (λ (f : ℕ → Bool). f p) c.crash.ensures.places };
     filled = c.crash.ensures.filled;
   };
   persist = refl;

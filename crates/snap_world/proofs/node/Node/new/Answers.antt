@@ -4,10 +4,10 @@ use Rattle.snap_slot.specs.States.{IsAtRest}
 use Rattle.snap_persist.specs.Stage.{calls_left, store_calls}
 use Rattle.snap_history.proofs.Lists.{get-replicate}
 use Rattle.snap_world.specs.inside.Drives.{DriveStands, IsFormatted, IsReady, device_of}
-use Rattle.snap_world.specs.declared.{drive.Drive.Drive, node.Node.Node, node.NodePhase.TheVariants.Up}
-use Rattle.snap_world.specs.inside.NodeSteps.{store_left, phases_of_node}
-use Rattle.snap_world.specs.{Phases.Phases, Start.start_world_phases}
-use Rattle.snap_world.proofs.{Events.same_phases, Elements.map_element, Elements.all_same}
+use Rattle.snap_world.specs.{inside.NodeSteps.store_left, inside.NodeSteps.phases_of_node, declared.drive.Drive.Drive}
+use Rattle.snap_world.specs.{declared.node.NodePhase.TheVariants.Up, declared.node.Node.Node, Phases.Phases}
+use Rattle.snap_world.{proofs.Elements.map_element, proofs.Elements.all_same, specs.Start.start_world_phases}
+use Rattle.snap_world.proofs.Events.{same_phases}
 use Rattle.snap_world.specs.declared.writer.WriterPhase.TheVariants as writer
 use Rattle.snap_world.proofs.node.Node.new.Goals as goal
 
@@ -18,14 +18,8 @@ pub returns-clause-phases : goal.returns-clause-phases
 returns-clause-phases c =
     let n = c.args.segments in
     let drives = c.in_ok-drives.drives.items in
-    let w : Node = record {
-      phase = Up;
-      actors = c.in_ok-actors.actors;
-      drives =
-          c.in_ok-drives.drives;
-    } in
-    same_phases (start_world_phases n c.args.scanners)
-    (phases_of_node w) refl c.in_ok-actors.ensures.phases
+    let w : Node = record { phase = Up; actors = c.in_ok-actors.actors; drives = c.in_ok-drives.drives } in
+    same_phases (start_world_phases n c.args.scanners) (phases_of_node w) refl c.in_ok-actors.ensures.phases
     (all_same store_left (store_calls false) drives n c.in_ok-drives.ensures.0
     (λ i d e. ap calls_left (c.in_ok-drives.ensures.1 i d e).stage))
 
@@ -38,12 +32,10 @@ returns-clause-stands c =
       at = record {
         actors_stand = c.in_ok-actors.ensures.stands;
         drives_stand = λ i d s phase ed es ep. (
-            let idle : writer.Idle ≡ phase =
-            get-replicate n i writer.Idle phase (subst (λ (p : Phases). slice_get p.writers i
-            ≡ Some phase) c.in_ok-actors.ensures.phases ep) in
-            subst (λ z. DriveStands c.in_ok-actors.actors.segments [] i z s.pending d) idle
-            (subst (λ m. DriveStands m [] i writer.Idle s.pending d) (sym same)
-            (ready_of i n d (c.in_ok-drives.ensures.1 i d ed))));
+            let idle : writer.Idle ≡ phase = get-replicate n i writer.Idle phase
+            (subst (λ (p : Phases). slice_get p.writers i ≡ Some phase) c.in_ok-actors.ensures.phases ep) in
+            subst (λ z. DriveStands c.in_ok-actors.actors.segments [] i z s.pending d) idle (subst (λ m. DriveStands m
+            [] i writer.Idle s.pending d) (sym same) (ready_of i n d (c.in_ok-drives.ensures.1 i d ed))));
       };
     }
 
@@ -54,6 +46,5 @@ returns-clause-devices c =
       size = length-map drives device_of ∙ c.in_ok-drives.ensures.0;
       each = λ i d e. (
           let drive = map_element device_of drives i d e in
-          subst (IsAtRest i c.args.segments 0 [] false) drive.2
-          (c.in_ok-drives.ensures.1 i drive.0 drive.1).rest);
+          subst (IsAtRest i c.args.segments 0 [] false) drive.2 (c.in_ok-drives.ensures.1 i drive.0 drive.1).rest);
     }

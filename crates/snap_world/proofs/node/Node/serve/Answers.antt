@@ -1,9 +1,8 @@
-use Rattle.std.proofs.Common.{refl, sym, ◌∙◌, subst}
-use Rattle.std.proofs.lemmas.List.{length-map}
-use Rattle.snap_history.specs.History.{from_nothing, IsMemory}
-use Rattle.snap_world.specs.inside.NodeSteps.{store_left}
+use Rattle.snap_world.proofs.Events.{steps}
 use Rattle.snap_world.proofs.Serves.{marks, h, memory, y, actors_stand, drives_stand, same_devices, device_served}
-use Rattle.snap_world.proofs.Serves.{gates, idle_phases}
+use Rattle.std.proofs.{Common.refl, Common.sym, Common.◌∙◌, Common.subst, lemmas.List.length-map}
+use Rattle.snap_history.specs.History.{from_nothing, IsMemory}
+use Rattle.snap_world.{specs.inside.NodeSteps.store_left, proofs.Serves.gates, proofs.Serves.idle_phases}
 use Rattle.snap_world.proofs.node.Node.serve.Goals as goal
 
 pub returns-in_ok-values-in-Ready-clause-step : goal.returns-in_ok-values-in-Ready-clause-step
@@ -14,20 +13,20 @@ returns-in_ok-values-in-Ready-clause-step c =
     let es = c.resume_all.new.drives.items in
     let got = c.recover_all.ensures in
     let set = c.resume_all.ensures in
-    record {
-      segments = refl;
-      step = λ x stands. (
+    let calls = length-map es store_left ∙ sym set.size ∙ sym (length-map w.drives.items store_left) in
+    steps w _ _ _ (λ e. cc) refl (λ x stands. (
+      is,
+      (refl, idle_phases w x stands is registers es got set, calls),
+      gates w x stands is registers es got set,
+      (
         y w x stands is registers es got set,
         (
           marks w x stands is,
-          subst (IsMemory w.actors.segments from_nothing (h w x stands is))
-              (sym c.in_ok-values-in-Ready.ensures) (memory w x stands is),
+          subst (IsMemory w.actors.segments from_nothing (h w x stands is)) (sym c.in_ok-values-in-Ready.ensures)
+              (memory w x stands is),
           refl,
         ),
-        (
-          same_devices w x stands is registers es got set,
-          device_served w x stands is registers es got set,
-        ),
+        (same_devices w x stands is registers es got set, device_served w x stands is registers es got set),
         record {
           drives_n = sym set.size ∙ stands.drives_n;
           at = record {
@@ -35,13 +34,5 @@ returns-in_ok-values-in-Ready-clause-step c =
             drives_stand = drives_stand w x stands is registers es got set;
           };
         },
-      );
-      comes = λ x stands. record { refused = λ e. cc; came = λ _. is };
-      phases = λ x stands. (
-        refl,
-        idle_phases w x stands is registers es got set,
-        length-map es store_left ∙ sym set.size ∙ sym (length-map w.drives.items store_left),
-      );
-      gates = λ x stands. gates w x stands is registers es got set;
-      unchanged = λ e. cc;
-    }
+      ),
+    ))

@@ -1,18 +1,12 @@
-use Rattle.std.proofs.{Math.Logic.∥∥₁_elim, Props.props, lemmas.Option.slice_get_read, lemmas.Option.same_Some}
-use Rattle.std.proofs.Common.{◌<◌, length, refl, ap, sym, ◌∙◌, subst, arith}
-use Rattle.snap_world.specs.inside.Recovery.{IsRecovered, found_value}
-use Rattle.snap_world.specs.declared.{drive.Drive.Drive, register.Register.Register}
-use Rattle.snap_world.proofs.{Elements.same_read, Sweep.swept-more, Sweep.swept-all}
+use Rattle.std.proofs.Common.{rules, ◌<◌, length, refl, ap, sym, ◌∙◌, subst, arith}
+use Rattle.std.proofs.{lemmas.Option.slice_get_read, lemmas.Option.same_Some, Math.Logic.∥∥₁_elim, Props.props}
+use Rattle.snap_world.specs.{inside.Recovery.IsRecovered, inside.Recovery.found_value, declared.drive.Drive.Drive}
+use Rattle.snap_world.{specs.declared.register.Register.Register, proofs.Sweep.swept-more, proofs.Sweep.swept-all}
+use Rattle.snap_world.proofs.Elements.{same_read}
 use Rattle.snap_world.proofs.node.restarts.recover_all.Goals as goal
 
 pub found_value-requires : goal.found_value-requires
-found_value-requires c = ∥∥₁_elim c.requires.readable (hlevel props) (λ readable. (
-    let ds = c.args.drives.now.items in
-    let low : c.loop-i.i < length ds = omega (arith, c.args.registers.now.ok.0, c.requires.size) in
-    let d = c.index-in-loop-i.result.now in
-    let is = readable c.loop-i.i d
-    (slice_get_read ds (length ds) c.loop-i.i d refl low c.index-in-loop-i.ensures) in
-    record { size = is.size; limit = is.fits }))
+found_value-requires c = ∥∥₁_elim c.requires.readable (hlevel props) (λ readable. (search (rules, slice_get_read)))
 
 pub loop-i-preserved : goal.loop-i-preserved
 loop-i-preserved c =
@@ -21,15 +15,11 @@ loop-i-preserved c =
     let low : c.loop-i.i < length ds = omega (arith, c.args.registers.now.ok.0, c.requires.size) in
     let d = c.index.result.now in
     let old = c.index_mut-register.result.now in
-    let new : Register =
-    record { number = d.found.number; value = c.set.new.self; view = old.view } in
-    let same = same_read ds c.loop-i.i c.index-in-loop-i.result.now d low c.index-in-loop-i.ensures
-    c.index.ensures in
-    swept-more swept old new (omega (arith, c.args.registers.now.ok.0, swept.size))
-    c.index_mut-register.ensures.value
-    (λ e there. subst (λ (z : Drive). IsRecovered z old new)
-    (same_Some d e (sym (slice_get_read ds (length ds) c.loop-i.i d refl low c.index.ensures) ∙ there))
-    (record {
+    let new : Register = record { number = d.found.number; value = c.set.new.self; view = old.view } in
+    let same = same_read ds c.loop-i.i c.index-in-loop-i.result.now d low c.index-in-loop-i.ensures c.index.ensures in
+    swept-more swept old new (omega (arith, c.args.registers.now.ok.0, swept.size)) c.index_mut-register.ensures.value
+    (λ e there. subst (λ (z : Drive). IsRecovered z old new) (same_Some d e
+    (sym (slice_get_read ds (length ds) c.loop-i.i d refl low c.index.ensures) ∙ there)) (record {
       number = refl;
       value = c.set.ensures ∙ c.found_value.ensures.value ∙ ap found_value same;
       view = refl;

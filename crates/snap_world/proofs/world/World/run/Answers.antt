@@ -1,14 +1,12 @@
+use Rattle.std.proofs.Common.{rules, inr, length, refl, [], ◌∷◌, ◌++◌, take, sym, subst}
 use Rattle.std.proofs.lemmas.Option.{slice_get_read}
-use Rattle.snap_world.specs.{NodePhases.NeedsMemory, Surface.IsRun, Surface.phases_of}
-use Rattle.std.proofs.Common.{inr, length, refl, ◌+◌, [], ◌∷◌, ◌++◌, take, ap, sym, subst, ◌∙◌, arith}
 use Rattle.snap_world.proofs.Runs.{IsRun-append, IsRun-grows, IsRun-same, take-event}
+use Rattle.snap_world.specs.{Surface.IsRun, Surface.phases_of, NodePhases.NeedsMemory}
 use Rattle.snap_world.proofs.world.World.run.Goals as goal
 
 pub returns-in-Err-clause-grows : goal.returns-in-Err-clause-grows
-returns-in-Err-clause-grows c =
-    IsRun-grows c.args.self.now c.step.new.self _ _
-    (IsRun-same c.args.self.now c.loop-i.self c.step.new.self _ _ c.in-Err.ensures.err
-    c.loop-i.invariant.run)
+returns-in-Err-clause-grows c = IsRun-grows c.args.self.now c.step.new.self _ _
+    (IsRun-same c.args.self.now c.loop-i.self c.step.new.self _ _ c.in-Err.ensures.err c.loop-i.invariant.run)
 
 pub loop-i-preserved : goal.loop-i-preserved
 loop-i-preserved c =
@@ -18,15 +16,9 @@ loop-i-preserved c =
     let event = c.index-events-i.result in
     let more = IsRun-append old c.loop-i.self c.step.new.self (take i events) c.loop-i.replies.items
     (event ∷ []) (c.in-Ok.reply ∷ []) c.loop-i.invariant.run c.in-Ok.ensures.run in
-    let all = subst (λ e. IsRun old e (c.loop-i.replies.items
-    ++ c.in-Ok.reply ∷ []) c.step.new.self)
+    let all = subst (λ e. IsRun old e (c.loop-i.replies.items ++ c.in-Ok.reply ∷ []) c.step.new.self)
     (take-event events i event c.loop-i-test.true c.index-events-i.is) more in
-    record {
-      run = subst (λ r. IsRun old (take (i + 1) events) r c.step.new.self)
-          (sym c.in-Ok-push.ensures.items) all;
-      count = c.in-Ok-push.ensures.len ∙ ap (λ k. k + 1) c.loop-i.invariant.count;
-      room = omega (arith, c.loop-i.invariant.room, c.in-Ok-push.ensures.capacity);
-    }
+    search rules
 
 pub returns-clause-grows : goal.returns-clause-grows
 returns-clause-grows c = IsRun-grows c.args.self.now c.loop-i.self _ _ c.loop-i.invariant.run
@@ -37,8 +29,6 @@ returns-in-Err-clause-memory c =
     let event = c.index-events-i.result in
     inr (
       event,
-      slice_get_read events (length events) c.loop-i.i event refl c.loop-i-test.true
-          c.index-events-i.is,
-      subst (λ w. NeedsMemory (phases_of w) event)
-          (sym c.in-Err.ensures.err) c.in-Err.ensures.memory,
+      slice_get_read events (length events) c.loop-i.i event refl c.loop-i-test.true c.index-events-i.is,
+      subst (λ w. NeedsMemory (phases_of w) event) (sym c.in-Err.ensures.err) c.in-Err.ensures.memory,
     )

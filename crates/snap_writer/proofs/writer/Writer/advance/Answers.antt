@@ -16,8 +16,7 @@ same g c = same_shown c.self.inside.seat c.prepare-view.new.seat c.show_stored.n
 stored : (g : _) (c : After-show_stored g) → c.store.new.self.value ≡ c.args.value.now
 stored g c = search rules
 
-ends : (g : _) (c : After-show_stored g)
-    → EndsWith c.self.inside.seat c.show_stored.new.seat c.args.value.now
+ends : (g : _) (c : After-show_stored g) → EndsWith c.self.inside.seat c.show_stored.new.seat c.args.value.now
 ends g c = subst (λ (v : List ℕ). EndsWith c.self.inside.seat c.show_stored.new.seat v) (stored g c)
     (ends_with c.self.inside.seat c.prepare-view.new.seat c.show_stored.new.seat _
     c.prepare-view.ensures.seen c.self.invariant.alone c.show_stored.ensures.shown)

@@ -10,5 +10,4 @@ invariant_of-self g c = let s = c.self.inside.segment in
 
 pub returns-clause-lived : goal.returns-clause-lived
 returns-clause-lived g c = met g.D.Disk c.args.self.now _ (search rules)
-    (subst (λ (w : WriterState _). Meets w.seat c.meet.new.writer) c.self.view_is
-    c.meet.ensures.writer)
+    (subst (λ (w : WriterState _). Meets w.seat c.meet.new.writer) c.self.view_is c.meet.ensures.writer)

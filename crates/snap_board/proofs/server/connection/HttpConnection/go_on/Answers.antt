@@ -5,8 +5,7 @@ pub steps-init : goal.steps-init
 steps-init g c = answered_none g.S.Service.answers _
 
 pub steps-preserved : goal.steps-preserved
-steps-preserved g c =
-    answered_joins g.S.Service.answers c.args.service.now c.steps.service c.step.new.service
+steps-preserved g c = answered_joins g.S.Service.answers c.args.service.now c.steps.service c.step.new.service
     c.steps.invariant c.step.ensures
 
 pub returns-in-Waits : goal.returns-in-Waits
