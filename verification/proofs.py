@@ -95,12 +95,17 @@ def prove(copy, anew=()):
 
 
 def by_seconds(tasks, seconds):
-    """The kit's tasks with what each proof took last in place of its lines, by which the longest chain is found. Tests
-    pass first of all, so that no proof leaves a processor to them."""
+    """The kit's tasks with what each proof took last in place of its lines, by which the longest chain is found. The
+    proof of what no other crate uses, as the program, which comes last, gets all processors: its tests pass first of
+    all, and of the memory that the kit expects it takes half."""
     took = {key: seconds.get(key[0]) or EACH_LINE * lines for key, (_, lines, *_) in tasks.items() if key[1] == "proof"}
     passed = (), sum(took.values()), 1, lambda given, jobs: True
     timed = {key: (waits, took.get(key, 0), *rest) for key, (waits, _, *rest) in tasks.items()}
-    return {key: passed if key[1] == "tests" else it for key, it in timed.items()}
+    used = {name for key in took for name, _ in timed[key][0]}
+    for key, (waits, work, needs, call) in timed.items():
+        if key[0] not in used and key[1] in ("proof", "tests"):
+            timed[key] = (waits, work, needs // 2, call) if key[1] == "proof" else passed
+    return timed
 
 
 def main():
