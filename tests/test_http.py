@@ -286,6 +286,37 @@ def test_head_and_what_is_not_there(snapd, _):
         assert server.scan() == [(1, b"hi")]
 
 
+# The kind of what each path answers, and what the page may load.
+JSON, TEXT = "application/json", "text/plain; charset=utf-8"
+KINDS = {
+    "/": "text/html; charset=utf-8", "/board.css": "text/css; charset=utf-8",
+    "/board.js": "text/javascript; charset=utf-8", "/metrics": "text/plain; version=0.0.4; charset=utf-8",
+    **dict.fromkeys(("/livez", "/readyz", "/nothing"), TEXT),
+    **dict.fromkeys(("/health", "/scan", "/status", "/stats", "/history"), JSON),
+}
+POLICY = (
+    "default-src 'none'; style-src 'self'; script-src 'self'; connect-src 'self'; img-src data:; base-uri 'none'; "
+    "form-action 'none'; frame-ancestors 'none'"
+)
+
+
+def test_each_answer_has_its_headers(snapd, _):
+    """All of them but the date and the length. The page has two more, and a refused method says which are taken."""
+    of_page = {"content-security-policy": POLICY, "referrer-policy": "no-referrer"}
+    with SeenServer(snapd, *fresh(snapd, 1)) as server:
+        assert set(EACH) <= set(KINDS)
+        asked = [("GET", path, kind, of_page if path == "/" else {}) for path, kind in KINDS.items()]
+        for method, path, kind, more in [*asked, ("PUT", "/scan", TEXT, {"allow": "GET, HEAD"})]:
+            _, headers, content = server.get(path, method)
+            assert headers.pop("date") and headers.pop("content-length") == str(len(content)), (path, headers)
+            assert headers == {
+                "content-type": kind, "cache-control": "no-store", "x-content-type-options": "nosniff",
+                "cross-origin-resource-policy": "same-origin", **more,
+            }, (method, path, headers)
+            assert content.endswith(b"\n"), (path, content[-40:])
+        assert server.get("/scan", "PUT")[2] == b"Only GET and HEAD are answered.\n"
+
+
 # ---- places ----
 
 def test_where_it_can_t_listen(snapd, _):

@@ -77,6 +77,25 @@ def test_the_journal_keeps_the_time_itself(snapd, _):
         assert len(lines) == 2 and all(map(LOG_LINE.fullmatch, lines)), lines
 
 
+# Names of files, and how a line has them.
+NAMES = {
+    "a\nb": "a\\nb", "c\r\td": "c\\r\\td", "\x1b[31m\x7f": "\\u{1b}[31m\\u{7f}",
+    "\x80\x85\x9f": "\\u{80}\\u{85}\\u{9f}",
+    "\u2027\u2028\u2029\u202a": "\u2027\\u{2028}\\u{2029}\u202a", "\u00a0\u00e9\\n": "\u00a0\u00e9\\n",
+}
+
+
+def test_a_line_is_one_whatever_is_in_it(snapd, _):
+    """What ends a line or what a reader can't see is escaped, and a backslash isn't."""
+    for name, made in zip(NAMES, fresh(snapd, len(NAMES))):
+        snapd.file(made).rename(snapd.file(name))
+    with Server(snapd, *NAMES) as server:
+        comes_to(True, lambda: "\n" in server.errors.read_text())
+        line = server.errors.read_text().split("\n")[0]
+        behind = f": segments {len(NAMES)}, at {server.address}"
+        assert f" serves {' '.join(NAMES.values())} as process " in line and line.endswith(behind), line
+
+
 def lost_lines(server):
     """How many lines it says that it lost."""
     return sum(int(text.removeprefix("lines lost: ")) for text in server.logged("WARN", "log"))
@@ -109,6 +128,24 @@ def test_lines_that_find_no_memory_are_told_of(snapd, _):
         assert (
             server.notes()[-1].endswith(" closed") and server.notes()[-2].endswith("WARN log: lines lost: 3")
         ), server.notes()
+
+
+def test_each_lost_line_is_told_of_once(snapd, _):
+    """A line about lost ones says how many they were since the line before it that did."""
+    memory = Memory(snapd, "all")
+    with Server(snapd, *fresh(snapd, 1), scanners=1, env=memory.env, more=("--log", "debug")) as server:
+        for turn, count in enumerate((3, 1, 2), 1):
+            last, *streams = [server.connect() for _ in range(1 + count)]
+            for stream in (last, *streams):
+                assert told(stream, SCAN) == snapshot((0, b""))
+            memory.runs_out()
+            for stream in streams:
+                stream.close()
+            wait_until(lambda: server.connections() == 1)
+            memory.is_there_again()
+            last.close()
+            comes_to(turn, lambda: ends_of(server))
+        comes_to([f"lines lost: {count}" for count in (3, 1, 2)], lambda: server.logged("WARN", "log"))
 
 
 def test_each_allocation_of_a_line_is_refused(snapd, _):

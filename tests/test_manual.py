@@ -2,6 +2,7 @@
 
 import pathlib
 import re
+import shlex
 import shutil
 import subprocess
 import sys
@@ -229,3 +230,23 @@ def test_each_shell_knows_each_command_and_option(snapd, _):
             for option in options(snapd, command):
                 name = f"-l {option[2:]} " if shell == "fish" else option
                 assert name in text, (shell, command, option)
+
+
+def meanings(snapd, command):
+    """Each long option of a command but those that all have, with what help says of it, without its default."""
+    rows = re.findall(r"^ +(--[a-z-]+)(?: <\w+>)?  +(.*)$", output(snapd, command, "--help"), re.MULTILINE)
+    return {option: re.sub(r" \[default: .*\]$", "", meaning) for option, meaning in rows}
+
+
+def test_zsh_is_told_what_help_says(snapd, _):
+    """Without zsh: it has the quotes of sh, and a backslash before what it would read as its own."""
+    text = COMPLETIONS["zsh"].read_text()
+    listed = dict(it.split(":", 1) for it in shlex.split(text.split("commands=(\n")[1].split("\n        )\n")[0]))
+    found = commands(snapd)
+    assert listed.keys() == {*found, "--help", "--version"}, listed
+    for command in found.keys() - {"help"}:
+        assert listed[command] == found[command], command
+        words = re.search(rf"^        {command}\)\n(.*?) ;;$", text, re.MULTILINE | re.DOTALL)[1].replace("\\\n", " ")
+        told = dict(re.match(r"(--[a-z-]+)\[(.*)\]", it).groups() for it in shlex.split(words) if it.startswith("--"))
+        assert not any(re.search(r"(?<!\\)[:\[\]]", it) for it in told.values()), told
+        assert {option: re.sub(r"\\(.)", r"\1", it) for option, it in told.items()} == meanings(snapd, command), told

@@ -12,7 +12,7 @@ import tarfile
 import zipfile
 
 from program import Program, Skipped
-from test_packaging import DOC, PACKAGING, TOP, ran, wanted
+from test_packaging import DOC, FOLDER, PACKAGING, TOP, ran, wanted
 from waiting import PATIENCE
 
 import dist  # noqa: E402  (test_packaging has put its folder on the path)
@@ -87,6 +87,17 @@ def test_installed_and_removed(snapd, _):
     installed("format", "F").gave(0, "formatted 0 of 1\n")
     assert make("uninstall", *place) == (0, "")
     assert not dist.files_below(root)
+
+
+def test_the_page_of_the_manual_names_what_is_installed(snapd, _):
+    """In its last section, beside the folder of a board."""
+    folder = snapd.file("staged").resolve()
+    assert make("install", "PREFIX=/usr", f"DESTDIR={folder}", f"PROGRAM={snapd.path}", "CLIENTS=no/such") == (0, "")
+    page = (PACKAGING / "snapd.1").read_text().replace(r"\-", "-")
+    board, *paths = re.findall(r"^\\&  (/\S+)  +\S", page.partition('.SH "FILES"')[2], re.M)
+    assert board == FOLDER.replace("%i", "NAME") and len(paths) == 3, paths
+    for path in paths:
+        assert (folder / path.lstrip("/")).exists(), path
 
 
 def test_nothing_is_installed_before_it_is_built(snapd, _):

@@ -362,6 +362,19 @@ def test_colours(snapd, _):
                 assert re.search(r"\x1b\[[0-9;]*m", terminal.told) is None or is_coloured, terminal.told
 
 
+def test_why_a_server_is_lost_is_red(snapd, _):
+    """The reason alone, where colours are wanted; the names of the columns are bold."""
+    for env, red, bold, plain in ((COLOURED, "\x1b[31m", "\x1b[1m", "\x1b[0m"), ({"NO_COLOR": "1"}, "", "", "")):
+        with Terminal() as terminal, contextlib.ExitStack() as watching:
+            with Server(snapd, *fresh(snapd, 1)) as server:
+                watching.enter_context(Watch(snapd, server.address, output=terminal.side, env=env))
+                terminal.board()
+            none = "no connection to the server can be made"
+            terminal.comes_to(lambda it: it[0] == f"{server.address}: {none}: trying again")
+            title = f"{server.address}: {red}{none}{plain}: trying again\x1b[K\r\x1b[B"
+            assert f"{title}{bold}{HEAD}{plain}\x1b[K" in terminal.told, terminal.told
+
+
 def ending(snapd, address, output):
     """A watch that signals end, also if the tests run with them ignored, as with `nohup` or `&` of a script."""
     def heed():

@@ -3,6 +3,7 @@ ones mean."""
 
 import contextlib
 import os
+import pathlib
 import re
 import select
 import shlex
@@ -28,6 +29,7 @@ from test_start_end import threads_of
 from test_watch import Watch, row
 from waiting import comes_to, wait_until
 
+FORMATS = pathlib.Path(__file__).resolve().parent.parent / "docs" / "FORMATS.md"
 MORE = "\n\nFor more information, try '--help'.\n"
 TOO_LARGE = "number too large to fit in target type"
 NO_FORM = "the request is not `put I`, `get I`, `update I NUMBER HEX`, `scan`, `part MASK`, `status` or `health`"
@@ -698,6 +700,7 @@ HELP = [
     ("call", "  health               prints `healthy`; or `fenced I` for each fenced segment, with status 3"),
     ("call", "  part MASK            the same of the segments that MASK names, and of no other one"),
     ("watch", "  [SEGMENT]...  The segments to show, 0 to 15; all where none is given"),
+    ("watch", "      --every <MILLISECONDS>  Milliseconds between two polls, 1 to 86400000; else 1000"),
 ]
 
 
@@ -709,3 +712,65 @@ def test_lines_of_help(snapd, _):
             (run.status, run.errors) == (0, "") and line in lines and {"Example:", "Examples:"} & set(lines)
         ), (command, line)
         assert snapd(command, "-h") == snapd("help", command) == run, command
+
+
+# The least words of each command of which no file and no server is there, and how many ranges its help has.
+LEAST = {
+    "format no/F": 1, "put no/F": 1, "get no/F": 1, "check no/F --value": 1, "migrate no/F no/G": 1, "init no/D": 1,
+    "doctor no/D": 0, "serve A no/F": 3, "call A scan": 3, "watch A": 1, "dump no/D": 3, "load no/D no/F": 1,
+}
+
+
+def test_help_has_the_ranges_that_are_taken(snapd, _):
+    """The least and the most of each are taken, and one less or one more isn't."""
+    for words, count in LEAST.items():
+        text = snapd(words.split()[0], "--help").output.decode()
+        found = re.findall(r"^ +--([a-z-]+) <\w+> +.*?\b(\d+) to (\d+)\b", text, re.M)
+        assert len(found) == count, (words, found)
+        for option, *ends in found:
+            least, most = map(int, ends)
+            for number in (least - 1, least, most, most + 1):
+                run = snapd(*words.split(), f"--{option}={number}")
+                assert run.output == b"" and (run.status == 2) == (not least <= number <= most), (words, option, run)
+
+
+# What help says of how commands end.
+STATUSES = {
+    "": [
+        "0  done", "1  a path, an address, a connection or a standard stream failed", "2  the words can't be read",
+        "3  refused; the number and the name of the refusal are on standard error",
+    ],
+    "serve": [
+        "0  K connections were served", "1  a file, ADDR, standard output or accepting failed",
+        "2  the words can't be read",
+        "3  a file was refused, or memory ran out; the number and the name are on standard error",
+    ],
+    "call": [
+        "0  done", "1  no connection gave an answer, or standard output failed; an update may have been stored; or",
+        "   standard input failed", "2  the words can't be read",
+        "3  refused, with `snapd: refused CODE NAME DETAIL` on standard error, or memory ran out; or",
+        "   `health` found a fenced segment; or a put's input is too long",
+    ],
+    "watch": [
+        "1  no connection gave a first answer, or standard output failed", "2  the words can't be read",
+        "3  refused, with `snapd: refused CODE NAME DETAIL` on standard error, as for a SEGMENT that the",
+        "   server doesn't have; or memory ran out",
+    ],
+}
+
+
+def test_statuses_in_help(snapd, _):
+    for command, wanted in STATUSES.items():
+        text = snapd(*command.split(), "--help").output.decode()
+        told = text.partition("\nExit status:\n")[2].partition("\n\n")[0].rstrip("\n")
+        assert told.split("\n") == [f"  {it}" for it in wanted], (command, told)
+
+
+def test_refusals_in_help_have_their_numbers(snapd, _):
+    """Those of docs/FORMATS.md."""
+    names = dict(re.findall(r"^\| (\d+) \| ([A-Z]\w+) \|", FORMATS.read_text(), re.M))
+    assert len(names) == 17
+    told = []
+    for command in dict.fromkeys(it for it, _ in HELP):
+        told += re.findall(r"\b(\d+) ([A-Z][a-z]+[A-Z]\w*|Conflict)\b", snapd(command, "--help").output.decode())
+    assert len(told) == 6 and all(names[number] == name for number, name in told), told
