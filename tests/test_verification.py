@@ -370,17 +370,19 @@ def test_an_archive_that_others_can_write_to_is_refused(snapd, _):
 
 
 def test_the_longest_chain_goes_by_what_was_measured(snapd, _):
+    call = lambda given, jobs: jobs  # noqa: E731
     tasks = {
-        ("low", "proof"): ([], 100, 1, "call"), ("low", "tests"): ([], 100, 1, "call"),
-        ("new", "proof"): ([("low", "proof")], 100, 2, "call"), ("new", "tests"): ([("low", "proof")], 100, 2, "call"),
+        ("low", "proof"): ([], 100, 1, call), ("low", "tests"): ([], 100, 1, call),
+        ("new", "proof"): ([("low", "proof")], 100, 2, call), ("new", "tests"): ([("low", "proof")], 100, 2, call),
     }
-    found = by_seconds(tasks, {"low": 70, "new": 0})
-    # Nobody uses `new`: its tests pass before anything is proved.
-    waits, work, _, call = found.pop(("new", "tests"))
-    assert (waits, work, call({}, 4)) == ((), 82.0, True)
-    assert found == {
-        ("low", "proof"): ([], 70, 1, "call"), ("low", "tests"): ([], 0, 1, "call"),
-        ("new", "proof"): ([("low", "proof")], 12.0, 1, "call")}
+    found = by_seconds(tasks, {"low": 70, "new": 0}, 4)
+    # Nobody uses `new`: its tests pass before anything is proved, and its proof gets all processors, however few are
+    # idle as it begins.
+    waits, work, _, tests = found.pop(("new", "tests"))
+    assert (waits, work, tests({}, 4)) == ((), 82.0, True)
+    *rest, proof = found.pop(("new", "proof"))
+    assert (*rest, proof({}, 1)) == ([("low", "proof")], 12.0, 1, 4)
+    assert found == {("low", "proof"): ([], 70, 1, call), ("low", "tests"): ([], 0, 1, call)}
 
 
 def test_tests_that_end_without_a_count_have_failed(snapd, _):

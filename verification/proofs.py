@@ -18,7 +18,7 @@ import kit
 from record import read_lock
 from tree import LOGS, TOP, crates_of
 
-PARTS = ("main", "in_lanes", "seeded", "Crate.ci", "rtlib.Crate.has_tests", "Kept.tried")
+PARTS = ("main", "in_lanes", "processors", "seeded", "Crate.ci", "rtlib.Crate.has_tests", "Kept.tried")
 COUNT = re.compile(r"(\d+) passed, (\d+) failed")
 TOLD = re.compile(r"rt: (\w+) (proved|NOT PROVED|is kept)")
 TOOK = re.compile(r"took (\w+) (\d+)")
@@ -94,17 +94,18 @@ def prove(copy, anew=()):
     return proofs
 
 
-def by_seconds(tasks, seconds):
+def by_seconds(tasks, seconds, lanes):
     """The kit's tasks with what each proof took last in place of its lines, by which the longest chain is found. The
-    proof of what no other crate uses, as the program, which comes last, gets all processors: its tests pass first of
-    all, and of the memory that the kit expects it takes half."""
+    proof of what no other crate uses, as the program, which comes last, gets all processors and not only those that
+    are idle as it begins: its tests pass first of all, and of the memory that the kit expects it takes half."""
     took = {key: seconds.get(key[0]) or EACH_LINE * lines for key, (_, lines, *_) in tasks.items() if key[1] == "proof"}
     passed = (), sum(took.values()), 1, lambda given, jobs: True
     timed = {key: (waits, took.get(key, 0), *rest) for key, (waits, _, *rest) in tasks.items()}
     used = {name for key in took for name, _ in timed[key][0]}
     for key, (waits, work, needs, call) in timed.items():
         if key[0] not in used and key[1] in ("proof", "tests"):
-            timed[key] = (waits, work, needs // 2, call) if key[1] == "proof" else passed
+            wide = lambda given, _, call=call: call(given, lanes)  # noqa: E731
+            timed[key] = (waits, work, needs // 2, wide) if key[1] == "proof" else passed
     return timed
 
 
@@ -126,7 +127,7 @@ def main():
         return room
 
     rt.Crate.ci, rt.seeded = timed, begun
-    rt.in_lanes = lambda tasks: in_lanes(by_seconds(tasks, seconds))
+    rt.in_lanes = lambda tasks: in_lanes(by_seconds(tasks, seconds, rt.processors()))
     rt.rtlib.Crate.has_tests = lambda crate: False
     rt.Kept.give = lambda kept, crate, tests, key: crate.name not in anew and give(kept, crate, tests, key)
     rt.Kept.tried = lambda kept, name: None
