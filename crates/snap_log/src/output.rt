@@ -21,9 +21,9 @@ struct Progress {
 
 /// Writes the lines. It returns once every sender has been dropped and no line waits.
 ///
-/// If lines were lost, a line says how many, before the next one that wasn't, or at once if none waits: `WARN log:
-/// lines lost: 12`. It is written at every level of the log; if memory runs out for it, it is written later. A line
-/// that can't be written whole is lost too, and the next one begins on a line of its own.
+/// If lines were lost, a line says how many, before the next one that wasn't, or at once if none waits:
+/// `WARN log: lines lost: 12`. It is written at every level of the log; if memory runs out for it, it is written later.
+/// A line that can't be written whole is lost too, and the next one begins on a line of its own.
 pub fn write_lines<R: Wait + Clock, E: Write>(rt: &R, waiting: &Waiting, errors: &mut E) {
     let mut progress = Progress {
         told: 0,
