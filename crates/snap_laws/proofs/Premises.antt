@@ -117,6 +117,7 @@ first_heard =
       high = refl;
       later = (first_update ∷ [], refl);
       own = λ i low high. absurd (omega arith);
+      phase = refl;
     })) in
     let stands = answered_stands bytes_of bytes_of (scanner_after (first_update ∷ []))
     (request.Update 0 1 (7 ∷ []) ∷ []) (Stored 1 ∷ []) (first_update ∷ []) was ([], refl) in

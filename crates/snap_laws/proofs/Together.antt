@@ -1,54 +1,66 @@
 -- The premises of the law of a cut if two writers are at work.
-use Rattle.std.proofs.Common.{◌≡◌, ◌⊎◌, ℕ, zero, suc, ◌+◌, inl, inr, List, [], ◌∷◌, ◌++◌, length, Option, Some}
+use Rattle.std.proofs.Common.{◌≡◌, ⊎_elim, ℕ, zero, suc, ◌+◌, inl, inr, List, [], ◌∷◌, ◌++◌, length, Option, Some}
 use Rattle.std.proofs.Common.{slice_get, refl, ap, sym, subst, ◌∙◌, arith, length-append}
 use Rattle.std.{specs.Option.option_to_list, proofs.lemmas.Option.same_Some}
 use Rattle.snap_history.specs.History.{Update, IsBeginning, number_after}
 use Rattle.snap_history.specs.{Limits.IsNumber, Limits.IsShort, declared.limits.TheConstants.LAST_NUMBER}
 use Rattle.snap_history.proofs.Beginnings.{beginning-self}
 use Rattle.snap_register.specs.{declared.plan.Plan.Plan, History.starts, Rule.segments}
-use Rattle.snap_segment.specs.Segment.{SegmentState}
 use Rattle.snap_writer.specs.Writer.{WriterState, number_of}
-use Rattle.snap_writer.specs.Life.{Place, in_store, seen_at, Sees, Shows, StoresFirst, IsIn, IsWriterOf}
+use Rattle.snap_writer.specs.Life.{Place, in_store, resting, seen_at, StoresFirst, IsIn, IsWriterOf}
 use Rattle.snap_writer.specs.{Judge.IsJudged, declared.judgement.Judgement.TheVariants.Go}
 use Rattle.snap_restart.specs.LifeLaws.{IsLivedIn}
 use Rattle.snap_restart.proofs.{LifeCrash.each_seen, LifeCrash.cut_recovers, Crash.opened_on}
-use Rattle.snap_laws.specs.Together.{stored_unshown, AreTwo, IsRecoveredAt}
+use Rattle.snap_laws.specs.Together.{in_its_store, stored_unshown, AreTwo, IsRecoveredAt}
 use Rattle.snap_laws.{specs.Opened.AreNew, proofs.Openings.sees_itself}
 use Rattle.snap_disk.specs.declared.disk.Disk as Disk
 
 module _ {D : Type 0} (disk : Disk.Ghosts D) where
-  -- to show an update, or to see more, leaves the segment unchanged
-  same_segment : (b z : WriterState D) → (Shows disk b z) ⊎ (Sees disk b z) → z.segment ≡ b.segment
-  same_segment b z (inl shows) = shows.segment_is
-  same_segment b z (inr sees) = sees.segment_is
-
   module _ (plan : Plan) (i : ℕ) (v : List ℕ) (a z : WriterState D) (is : IsWriterOf disk plan 2 i a)
       (fresh : a.seat.seen ≡ []) (first : StoresFirst disk v a z) where
-    none_seen : IsBeginning first.0.seat.seen []
-    none_seen = rw (first.1.seat_is, fresh) (beginning-self [])
+    -- what it did after its store leaves the segment unchanged
+    same_segment : z.segment ≡ first.stored.segment
+    same_segment = ⊎_elim (λ shown. shown.2.segment_is ∙ shown.1.segment_is) (λ sees. sees.segment_is) first.after
 
-    lived_at : (p : Place D) → IsIn disk first.0 a (first.0 ∷ []) p → IsLivedIn disk plan 2 [] i p
-    lived_at p there = (a, first.0, first.0 ∷ [], is, (inr (inl (v, first.1)), refl), there, none_seen)
+    none_seen : IsBeginning first.stored.seat.seen []
+    none_seen = rw (first.stores.seat_is, first.begins.seat_is, fresh) (beginning-self [])
+
+    lived_at : (p : Place D) → IsIn disk first.stored a (first.began ∷ first.stored ∷ []) p
+        → IsLivedIn disk plan 2 [] i p
+    lived_at p there = (
+      a,
+      first.stored,
+      first.began ∷ first.stored ∷ [],
+      is,
+      (inl (inr (inl first.begins)), (inr (v, first.stores), refl)),
+      there,
+      none_seen,
+    )
 
     -- inside its store
-    lived_inside : IsLivedIn disk plan 2 [] i (in_store a v z.segment.device)
-    lived_inside = lived_at _ (inr (inl (
-      a,
+    lived_inside : IsLivedIn disk plan 2 [] i (in_its_store a v z.segment.device)
+    lived_inside = lived_at _ (inr (inl (inr (
+      first.began,
       v,
-      sees_itself disk a,
-      rw first.1.seat_is (beginning-self a.seat.seen),
-      first.1,
-      ap (λ (s : SegmentState D). in_store a v s.device) (same_segment first.0 z first.2),
-    )))
+      first.stored.segment.device,
+      sees_itself disk first.began,
+      rw first.stores.seat_is (beginning-self first.began.seat.seen),
+      first.stores.went,
+      λ t. in_store (record { segment = sym first.begins.segment_is t; seat = sym first.begins.seat_is t }) v
+          ((same_segment t).device),
+    ))))
 
     -- between its store and its show
     lived_between : IsLivedIn disk plan 2 [] i (stored_unshown a z)
-    lived_between = lived_at _ (inr (inr (
-      first.0,
-      sees_itself disk first.0,
-      beginning-self first.0.seat.seen,
-      rw (same_segment first.0 z first.2, first.1.seat_is),
-    )))
+    lived_between = lived_at _ (inr (inr (inl (
+      first.stored,
+      sees_itself disk first.stored,
+      beginning-self first.stored.seat.seen,
+      λ t. resting (record {
+        segment = same_segment t;
+        seat = sym (first.stores.seat_is ∙ first.begins.seat_is) t;
+      }),
+    ))))
 
   module _ (plan : Plan) (p q : Place D) (first : IsLivedIn disk plan 2 [] 0 p) (second : IsLivedIn disk plan 2 [] 1 q)
       (p_fresh : seen_at p ≡ []) (q_fresh : seen_at q ≡ []) where
@@ -79,16 +91,17 @@ module _ {D : Type 0} (disk : Disk.Ghosts D) where
     abbrev plan : Plan
     plan = first.seat.plan
 
-    first_inside : IsLivedIn disk plan 2 [] 0 (in_store first v first_new.segment.device)
+    first_inside : IsLivedIn disk plan 2 [] 0 (in_its_store first v first_new.segment.device)
     first_inside = lived_inside plan 0 v first first_new two.first_is two.first_fresh one
 
     second_between : IsLivedIn disk plan 2 [] 1 (stored_unshown second second_new)
     second_between = lived_between plan 1 w second second_new two.second_is two.second_fresh other
 
     -- both inside their stores; one inside its store and the other stored; both stored and not yet shown
-    pub at_work : IsRecoveredAt disk plan (in_store first v first_new.segment.device
-        ∷ in_store second w second_new.segment.device ∷ [])
-        × IsRecoveredAt disk plan (in_store first v first_new.segment.device ∷ stored_unshown second second_new ∷ [])
+    pub at_work : IsRecoveredAt disk plan (in_its_store first v first_new.segment.device
+        ∷ in_its_store second w second_new.segment.device ∷ [])
+        × IsRecoveredAt disk plan (in_its_store first v first_new.segment.device
+        ∷ stored_unshown second second_new ∷ [])
         × IsRecoveredAt disk plan (stored_unshown first first_new ∷ stored_unshown second second_new ∷ [])
     at_work = (
       recovered_at plan _ _ first_inside (lived_inside plan 1 w second second_new two.second_is two.second_fresh other)

@@ -2,6 +2,7 @@
 use Rattle.std.specs.Prelude.{◌≡◌, ℕ, ◌^◌, List, [], ◌∷◌, Option, Some, None}
 use Rattle.snap_history.specs.History.{Update}
 use Rattle.snap_register.specs.{declared.plan.Plan.Plan, History.starts, Seat.Known, Registers.no_registers}
+use Rattle.snap_register.specs.declared.plan.UpdatePhase.TheVariants.{Shown}
 use Rattle.snap_frame.specs.Messages.{payload, frame, IsInLimits}
 use Rattle.snap_frame.specs.declared.{request.Request.Request, reply.Reply.Reply, reply.Reply.TheVariants.Stored}
 use Rattle.snap_service.specs.Answers.{Answers}
@@ -56,6 +57,7 @@ scanner_after seen = record {
   records = 0 ∷ [];
   left = 2 ^ 50;
   sights = [];
+  phase = Shown;
 }
 
 abbrev pub first_update : Update

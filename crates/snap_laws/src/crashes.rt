@@ -4,9 +4,9 @@ ghost use Rattle.std.specs.Prelude.{◌≡◌, ℕ, ◌-◌, ◌^◌, ◌<◌, �
 ghost use Rattle.snap_history.specs.{declared.limits.TheConstants.MAX_COUNT, Limits.IsNumber, Limits.IsShort};
 ghost use Rattle.snap_slot.specs.Layout.{IsFormatted};
 ghost use Rattle.snap_segment.specs.{Old.OldHolds, States.IsAtRest};
-ghost use Rattle.snap_writer.specs.{Judge.IsJudged, Life.in_store};
+ghost use Rattle.snap_writer.specs.Judge.{IsJudged};
 ghost use Rattle.snap_laws.specs.Worked.{IsRecoveredNow, KeepAStart, ComeThrough};
-ghost use Rattle.snap_laws.specs.Together.{AreTwo, IsRecoveredAt, stored_unshown};
+ghost use Rattle.snap_laws.specs.Together.{AreTwo, IsRecoveredAt, in_its_store, stored_unshown};
 ghost use Rattle.snap_laws.specs.Between.{GoesOnWith, PutGoesOn, CutOffGoesOn, BeginsAgain, InitGoesOn};
 ghost use Rattle.snap_laws.specs.{NoLoss.IsAWriter, NoLoss.LosesNothing, Opened.AreNew, Again.AreOfOne};
 ghost use Rattle.snap_laws.specs.{Again.GoOnBehind, Moment.AtOnceLaw, Moment.OverLaw};
@@ -89,9 +89,9 @@ pub fn two_at_once<D: Disk>(
     requires writers { AreTwo D.Disk first.old second.old }
     requires first { IsJudged first.old one value.now Judgement.Go }
     requires second { IsJudged second.old two other.now Judgement.Go }
-    ensures inside { IsRecoveredAt D.Disk first.old.seat.plan (in_store first.old value.now first.new.segment.device
-        ∷ in_store second.old other.now second.new.segment.device ∷ []) }
-    ensures beside { IsRecoveredAt D.Disk first.old.seat.plan (in_store first.old value.now first.new.segment.device
+    ensures inside { IsRecoveredAt D.Disk first.old.seat.plan (in_its_store first.old value.now first.new.segment.device
+        ∷ in_its_store second.old other.now second.new.segment.device ∷ []) }
+    ensures beside { IsRecoveredAt D.Disk first.old.seat.plan (in_its_store first.old value.now first.new.segment.device
         ∷ stored_unshown second.old second.new ∷ []) }
     ensures between { IsRecoveredAt D.Disk first.old.seat.plan (stored_unshown first.old first.new
         ∷ stored_unshown second.old second.new ∷ []) }

@@ -118,6 +118,7 @@ grows_more a b c f g = record {
   high = g.high ∙ f.high;
   later = beginning-trans a.seen b.seen c.seen f.later g.later;
   own = λ i l h. (rw f.plan at (g.own i (omega (arith, f.low)) (omega (arith, f.high)))) ∙ f.own i l h;
+  phase = g.phase ∙ f.phase;
 }
 
 pub Gathers-none : (a : Known) (set : ℕ) (numbers : List ℕ) → set < 2 ^ segments a.plan

@@ -5,7 +5,7 @@ ghost use Rattle.snap_register.specs.Seat.{Grows, IsBelow, MayPublish, Shows, nu
 ghost use Rattle.snap_memory.specs.Scans.{IsScan, CanScan, TakesLooks, all_of};
 
 use crate::looks::gather;
-use snap_register::{Looker, View, WriteSeat};
+use snap_register::{Looker, UpdatePhase, View, WriteSeat};
 use snap_scan::{MAX_SEGMENTS, SegmentSet};
 
 /// The scan inside an update: returns where the memory is that the update is to carry. That memory
@@ -29,11 +29,12 @@ pub fn prepare(seat: &mut WriteSeat) -> View
 }
 
 /// Publishes an update of the seat's segment to `value`, with the view that [`prepare`] gave, and
-/// returns its number. The update is the last that the seat has seen.
+/// returns its number. The update is the last that the seat has seen. The seat was told that its store has ended.
 pub fn show(seat: &mut WriteSeat, value: &[u8], view: View) -> u64
     requires size { IsShort value.now }
     requires next { IsNumber (number_in seat.old seat.old.seen (own_of seat.old) + 1) }
     requires view { MayPublish seat.old view }
+    requires stored { seat.old.phase ≡ UpdatePhase.Stored }
     ensures shown { Shows seat.old seat.new value.now }
     ensures below { IsBelow seat.new }
     ensures number { result ≡ number_in seat.new seat.new.seen (own_of seat.new) }

@@ -14,6 +14,7 @@ use Rattle.snap_register.proofs.Places.{Apart, word_apart, given_apart, given_sa
 use Rattle.snap_register.proofs.Places.{given_cell, given_inside}
 use Rattle.snap_register.proofs.Sums.{total_set, total_same, total_one, far_none, pins_at}
 use Rattle.snap_register.specs.declared.plan.{Entry.Entry, Plan.Plan, Pool.Pool, SeatView.SeatView}
+use Rattle.snap_register.specs.declared.plan.UpdatePhase.{UpdatePhase}
 use mathlib.Core.List.{IsPrefix}
 use mathlib.Core.Logic.{dite}
 use mathlib.Core.Option as maybe
@@ -216,6 +217,26 @@ module _ (S : Type 0) where
           pin_quota = known.pin_quota;
         },
         (told_all v w k id at, refl, refl),
+      ))
+
+  -- a load by which the seat's phase becomes f
+  pub notes : (p : Plan) (slots id : ℕ) (m : M) (j : ℕ) (f : UpdatePhase) → m.0.spent ≡ false
+      → Allows (Kept p) slots id m j (λ n. n) (λ _ m'. m' ≡ (record m.0 { phase = f }, m.1))
+  notes p slots id m j f here =
+      allowed p slots id m j (λ n. n) (λ _ m'. m' ≡ (record m.0 { phase = f }, m.1)) here (λ s k at.
+      let v : SeatView = m.0 in
+      let known = k.each_seat id v at in
+      let w : SeatView = record v { phase = f } in (
+        w,
+        unmoved k id w at refl j m.1 (le_refl v.left) refl record {
+          plan = known.plan;
+          seen = known.seen;
+          received = known.received;
+          role = λ i has. grind (arith, known.role i has);
+          pins = known.pins;
+          pin_quota = known.pin_quota;
+        },
+        refl,
       ))
 
   pub revisits : (p : Plan) (slots id : ℕ) (m : M) (j : ℕ) → m.0.spent ≡ false → j < segments m.0.plan

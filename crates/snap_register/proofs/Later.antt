@@ -8,6 +8,7 @@ use Rattle.snap_register.specs.Rule.{segments, buffers, size, IsLegal, Publishes
 use Rattle.snap_register.proofs.Lines.{count_prefix, count-append, count_push_same}
 use Rattle.snap_register.specs.{declared.access.Access.Access, declared.plan.Entry.Entry, declared.plan.Plan.Plan}
 use Rattle.snap_register.specs.{declared.plan.Pool.Pool, declared.plan.SeatView.SeatView, declared.plan.Sight.Sight}
+use Rattle.snap_register.specs.declared.plan.UpdatePhase.{UpdatePhase}
 use Rattle.snap_register.specs.{Setup.IsSized, Setup.IsSeated, Held.Readable, Steps.view_of}
 use Rattle.snap_register.proofs.Views.{all_readable}
 use mathlib.Core.List.{IsPrefix}
@@ -100,6 +101,11 @@ module _ {S : Type 0} {words left : ℕ} {pins : List ℕ} {m : Me S SeatView}
       seated_set j 0 m.0.seen m.0.records m.0.sights lj wide (omega arith) same seated.left_is
       (is ∙ ap (λ (n : Me S SeatView). (record n.0 { pins = set m.0.pins j 0 }, n.1)) settled) refl
       seated.records_are seated.readable
+
+  -- only the phase has changed
+  pub seated_phase : {words' : ℕ} {m' : Me S SeatView} (f : UpdatePhase) → words' ≡ words
+      → m' ≡ (record m.0 { phase = f }, m.1) → IsSeated words' pins left m'
+  seated_phase f same is = rw is (search (arith, seated))
 
   -- only the pool has changed
   pub seated_pool : {words' : ℕ} {m' : Me S SeatView} (d : Pool) → words' ≡ words

@@ -9,6 +9,7 @@ use Rattle.snap_register.specs.History.{no_start, start_at}
 use Rattle.snap_register.specs.Rule.{segments, seats, buffers, width, given, cell, size, IsLegal, pins_of, Knows}
 use Rattle.snap_register.specs.Rule.{Kept}
 use Rattle.snap_register.specs.Setup.{first_view, first_pool, start_of, plan_with, unused, opening_words, IsReady}
+use Rattle.snap_register.specs.declared.plan.UpdatePhase.TheVariants.{Shown}
 use Rattle.snap_register.specs.Setup.{IsFirst}
 use Rattle.snap_register.specs.Parts.{IsNewSeat, AreWriters, AreReaders}
 use Rattle.snap_register.specs.{declared.plan.Opening.Opening, declared.plan.Plan.Plan, declared.plan.Start.Start}
@@ -59,8 +60,8 @@ readers_more z p xs a = get-push (IsNewSeat z p 0 0) xs a
 
 pub new_seat : (S : Type 0) (z : TableId) (p : Plan) (low high : ℕ) (a : Known) (t : TableId)
     (m n : Me S SeatView) → m ≡ n → a ≡ known t m.0 → t ≡ z → n.0.plan ≡ p → n.0.seen ≡ []
-    → n.0.low ≡ low → n.0.high ≡ high → n.0.left ≡ n.0.plan.looks → IsNewSeat z p low high a
-new_seat S z p low high a t m n me is te pe se le he fe = grind (arith, nat_tests)
+    → n.0.low ≡ low → n.0.high ≡ high → n.0.left ≡ n.0.plan.looks → n.0.phase ≡ Shown → IsNewSeat z p low high a
+new_seat S z p low high a t m n me is te pe se le he fe ph = grind (arith, nat_tests)
 
 module _ {X : Type 0} (f : X → List ℕ) (d : X) (b : ℕ) where
   even_length : (xs : List X) → ((i : ℕ) → i < length xs → length (f (get_or xs i d)) ≡ b)

@@ -21,6 +21,7 @@ use Rattle.snap_register.proofs.Keeps.{turn, turn_here, turn_else, SameWords, wo
 use Rattle.snap_register.proofs.Keeps.{pinned_stays, knows_stays, allowed, after, step_keeps, loaded}
 use Rattle.std.proofs.lemmas.Bool.Decides.{nat_tests}
 use Rattle.snap_register.specs.declared.plan.{Entry.Entry, Plan.Plan, Pool.Pool, SeatView.SeatView}
+use Rattle.snap_register.specs.declared.plan.{UpdatePhase.UpdatePhase, UpdatePhase.TheVariants.Shown}
 use mathlib.Core.List.{IsPrefix}
 use Rattle.snap_register.specs.Rule.{Holds}
 use Rattle.snap_register.specs.History.{record_words}
@@ -53,17 +54,17 @@ module _ (S : Type 0) where
     register = rw (← own.pool (omega arith)) (k.registers i inside)
 
     -- a step that changes its pool, perhaps words of its free buffer, and perhaps adds its own
-    -- update to the history
-    pool_step : (ws : List ℕ) (seen h : List Entry) (d : Pool) (x : ℕ) → length ws ≡ length s.words
+    -- update to the history and changes its phase
+    pool_step : (ws : List ℕ) (seen h : List Entry) (d : Pool) (f : UpdatePhase) (x : ℕ) → length ws ≡ length s.words
         → IsPrefix k.history h → IsLegal v.plan h → IsPrefix seen h → only i seen ≡ only i h → ((a : ℕ) → a ≢ i
         → only a h ≡ only a k.history) → ((a : ℕ) → a < segments v.plan → a ≢ i → SameWords v.plan s.words ws a)
         → ((b q : ℕ) → b < buffers v.plan → q < width v.plan → b ≢ v.pool.free_buffer
         → get_or ws (cell v.plan i b q) 0 ≡ get_or s.words (cell v.plan i b q) 0)
-        → Register v.plan h ws (set s.views id (record v { seen = seen; pool = d })) i d x
-        → Kept v.plan (after S s ws id (record v { seen = seen; pool = d }))
-    pool_step ws seen h d x wide later legal sees all' lines words cells mine =
+        → Register v.plan h ws (set s.views id (record v { seen = seen; pool = d; phase = f })) i d x
+        → Kept v.plan (after S s ws id (record v { seen = seen; pool = d; phase = f }))
+    pool_step ws seen h d f x wide later legal sees all' lines words cells mine =
         let p : Plan = v.plan in
-        let w : SeatView = record v { seen = seen; pool = d } in
+        let w : SeatView = record v { seen = seen; pool = d; phase = f } in
         let pinned : (j : ℕ) (u : SeatView) → get_elem? s.views j ≡ some u → (a b q : ℕ)
         → a < segments p → b < buffers p → get_or u.pins a 0 ≡ b + 1 → q < width p
         → get_or ws (cell p a b q) 0 ≡ get_or s.words (cell p a b q) 0 =
@@ -92,13 +93,13 @@ module _ (S : Type 0) where
         → Register v.plan k.history s.words (set s.views id (record v { pool = d })) i d x
         → Kept v.plan (stepped s c (get_or s.words c 0) id cs (record v { pool = d }) keeps)
     pool_load c cs d x mine = loaded S s c id cs (record v { pool = d })
-        (pool_step s.words v.seen k.history d x refl (prefix_self k.history) k.legal known.seen all
+        (pool_step s.words v.seen k.history d v.phase x refl (prefix_self k.history) k.legal known.seen all
         (λ a ne. refl) (λ a la ne. words_same v.plan s.words a) (λ b q lb lq ne. refl) mine)
 
     -- the register, over the views with another pool
-    with_pool : (seen : List Entry) (d : Pool) → Register v.plan k.history s.words
-        (set s.views id (record v { seen = seen; pool = d })) i v.pool (k.pinned i)
-    with_pool seen d = register_beside id v (record v { seen = seen; pool = d }) at refl
+    with_pool : (seen : List Entry) (d : Pool) (f : UpdatePhase) → Register v.plan k.history s.words
+        (set s.views id (record v { seen = seen; pool = d; phase = f })) i v.pool (k.pinned i)
+    with_pool seen d f = register_beside id v (record v { seen = seen; pool = d; phase = f }) at refl
         (le_refl v.left) (words_same v.plan s.words i) refl register
 
     -- the next word of the free buffer, after the words l of the draft that stay, is y
@@ -110,7 +111,7 @@ module _ (S : Type 0) where
         let p : Plan = v.plan in
         let d : Pool = v.pool in
         let e : Pool = record d { draft = l ++ y ∷ [] } in
-        let r = with_pool v.seen e in
+        let r = with_pool v.seen e v.phase in
         let n : ℕ = length l in
         let at_n : ℕ = cell p i d.free_buffer n in
         let ws : List ℕ = set s.words at_n y in
@@ -125,7 +126,7 @@ module _ (S : Type 0) where
         let last = get_or-set_same s.words at_n y 0 (omega (arith, k.wide)) in
         let givens : (b : ℕ) → b < buffers p → get_or ws (given p i b) 0 ≡ get_or s.words (given p i b) 0 =
         λ b lb. get_or-set_other s.words at_n _ y 0 (given_cell p i b i d.free_buffer n inside lb) in
-        rw place (pool_step ws v.seen k.history e (k.pinned i) (length-set s.words at_n y)
+        rw place (pool_step ws v.seen k.history e v.phase (k.pinned i) (length-set s.words at_n y)
         (prefix_self k.history) k.legal known.seen all (λ a ne. refl)
         (λ a la ne. words_beside s.words at_n y a (cell_apart p a i d.free_buffer n la free short ne))
         (λ b q lb lq ne. cells b q lb lq (λ e _. ne e))
@@ -148,19 +149,19 @@ module _ (S : Type 0) where
       dite (ℕ_discrete (get_or s.words at_b 0) (get_or d.counted b 0))
       (λ same.
       let e : Pool = record d { free_buffer = b; draft = [] } in
-      let o = with_pool id k at role inside v.seen e in (
+      let o = with_pool id k at role inside v.seen e v.phase in (
         record v { pool = e },
         pool_load id k at role inside at_b m.1 e x (omega (arith, o.balance b lb)),
         (λ _. refl, λ ne. absurd (ne same)),
       ))
       (λ differs.
       let e : Pool = record d { found_pinned = d.found_pinned + 1 } in
-      let o = with_pool id k at role inside v.seen e in
+      let o = with_pool id k at role inside v.seen e v.phase in
       let vs : List SeatView = set s.views id (record v { pool = e }) in
       let next = beyond_next i d.current d.found_pinned vs in
       let some_on : 0 < total (on i b) vs = omega (arith, o.balance b lb) in (
         record v { pool = e },
-        pool_load id k at role inside at_b m.1 e x (omega arith),
+        pool_load id k at role inside at_b m.1 e x (grind (arith, nat_tests)),
         (λ same. absurd (differs same), λ _. (refl, omega (arith, o.found_pinned))),
       ))))
 
@@ -218,8 +219,8 @@ module _ (S : Type 0) where
       let x' : ℕ = get_or s.words i 0 - d.current * 2 ^ 56 in
       let c' : ℕ = get_or d.counted d.current 0 + x' in
       let d' : Pool = moved_pool v d.free_buffer x' in
-      let w : SeatView = record v { seen = h'; pool = d' } in
-      let r = with_pool id k at role inside h' d' in
+      let w : SeatView = record v { seen = h'; pool = d'; phase = Shown } in
+      let r = with_pool id k at role inside h' d' Shown in
       let is_x : x' ≡ x = omega (arith, r.word) in
       let ws : List ℕ = set s.words i y in
       let cells : (b q : ℕ) → get_or ws (cell p i b q) 0 ≡ get_or s.words (cell p i b q) 0 =
@@ -237,7 +238,7 @@ module _ (S : Type 0) where
       let word = get_or-set_same s.words i y 0 (omega (arith, k.wide)) in
       let far_same = total_same (beyond i t d.free_buffer) s.views id v w at refl in (
         w,
-        pool_step id k at role inside ws h' h' d' 0 (length-set s.words i y) (e ∷ [], refl)
+        pool_step id k at role inside ws h' h' d' Shown 0 (length-set s.words i y) (e ∷ [], refl)
             legal' (prefix_self h') refl (λ a ne. only_push_other a h e (λ z. ne (sym z)))
             (λ a la ne. words_beside s.words i y a (word_apart p a i inside ne))
             (λ b q lb lq ne. cells b q)

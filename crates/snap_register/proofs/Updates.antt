@@ -17,6 +17,7 @@ use Rattle.snap_register.proofs.Lines.{find, count_push_same, record_prefix}
 use Rattle.snap_register.specs.declared.{plan.Entry.Entry, plan.Plan.Plan, plan.SeatView.SeatView, view.View.View}
 use Rattle.snap_register.proofs.{Blocks.record_of, Views.viewed}
 use Rattle.snap_scan.specs.Sets.{Names}
+use Rattle.snap_register.specs.declared.plan.UpdatePhase.TheVariants.{Stored}
 use mathlib.Core.List.{IsPrefix}
 use Rattle.snap_register.specs.Rule as rule
 
@@ -82,14 +83,15 @@ update_found z v j found =
 -- The calls of a seat:
 
 pub grows_is : (z z' : TableId) (v w : SeatView) → z' ≡ z → w.plan ≡ v.plan → w.low ≡ v.low → w.high ≡ v.high
-    → IsPrefix v.seen w.seen → ((i : ℕ) → Has v i → only i w.seen ≡ only i v.seen) → Grows (known z v) (known z' w)
-grows_is z z' v w same plan low high later own = grind (arith, nat_tests, beginning_is, updates_count)
+    → IsPrefix v.seen w.seen → ((i : ℕ) → Has v i → only i w.seen ≡ only i v.seen) → w.phase ≡ v.phase
+    → Grows (known z v) (known z' w)
+grows_is z z' v w same plan low high later own phase = grind (arith, nat_tests, beginning_is, updates_count)
 
 -- a meeting, after which the seat has seen h
 pub meets_is : (z z' : TableId) (v w : SeatView) (h : List Entry) → z' ≡ z → w ≡ record v { seen = h }
     → IsPrefix v.seen h → ((i : ℕ) → Has v i → only i h ≡ only i v.seen) → Meets (known z v) (known z' w)
 meets_is z z' v w h same is later own = rw is (record {
-  grows = grows_is z z' v (record v { seen = h }) same refl refl refl later own;
+  grows = grows_is z z' v (record v { seen = h }) same refl refl refl later own refl;
   looks = λ i. refl;
   left = refl;
   sights = refl;
@@ -189,5 +191,5 @@ follows_is v i k (Borrowed j) value d e can may old next own long pre blocks leg
 
 -- the effect of a publication
 pub shown_is : (z z' : TableId) (v w : SeatView) (i k : ℕ) (value : List ℕ) → z' ≡ z → v.low ≡ i
-    → IsShown v w i k value → Shows (known z v) (known z' w) value
-shown_is z z' v w i k value same low s = grind (arith, nat_tests, map-append, updates_count)
+    → IsShown v w i k value → v.phase ≡ Stored → Shows (known z v) (known z' w) value
+shown_is z z' v w i k value same low s stored = grind (arith, nat_tests, map-append, updates_count)

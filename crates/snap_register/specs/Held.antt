@@ -5,6 +5,7 @@ use Rattle.snap_register.specs.Words.{block_at, size_at, value_at, behind, IsBlo
 use Rattle.snap_register.specs.Rule.{segments, width, IsBelow}
 use Rattle.snap_register.specs.declared.plan.{Entry.Entry, Plan.Plan, SeatView.SeatView}
 use Rattle.snap_register.specs.declared.view.View.{View, TheVariants.Collected, TheVariants.Borrowed}
+use Rattle.snap_register.specs.declared.plan.UpdatePhase.TheVariants.{Shown}
 use mathlib.Core.List.{IsPrefix}
 
 -- the words of the record that the seat pins on register j
@@ -44,9 +45,9 @@ pub record IsPinned (v w : SeatView) (j : ℕ) : Type 0 where
   pub others : (i : ℕ) → i ≢ j → (slice_index w.pins i ≡ slice_index v.pins i)
       × (slice_index w.records i ≡ slice_index v.records i)
 
--- the last update seen is that of segment i to this value, under number k; nothing else changed but the pool
+-- the last update seen is that of segment i to this value, under number k; else only the pool and the phase changed
 pub record IsShown (v w : SeatView) (i k : ℕ) (value : List ℕ) : Type 0 where
-  pub same : w ≡ record v { seen = w.seen; pool = w.pool }
+  pub same : w ≡ record v { seen = w.seen; pool = w.pool; phase = Shown }
   pub between : List Entry
   pub words : List ℕ
   pub seen : w.seen ≡ (v.seen ++ between) ++ entry i words ∷ []

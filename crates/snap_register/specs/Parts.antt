@@ -3,7 +3,7 @@ use Rattle.std.specs.Prelude.{◌≡◌, ℕ, ◌+◌, List, [], length, slice_g
 use Rattle.snap_history.specs.Limits.{IsNumber}
 use Rattle.snap_register.specs.{declared.words.TheConstants.BLOCK_WORDS, declared.plan.Opening.Opening}
 use Rattle.snap_register.specs.{declared.plan.Plan.Plan, History.starts, Words.IsBlock, Rule.segments, Seat.Known}
-use Rattle.snap_register.specs.Registers.{RegistersId}
+use Rattle.snap_register.specs.{Registers.RegistersId, declared.plan.UpdatePhase.TheVariants.Shown}
 
 -- a seat that has seen nothing yet and has all its looks, and writes the segments from `low` on and below `high`
 pub record IsNewSeat (z : RegistersId) (p : Plan) (low high : ℕ) (a : Known) : Type 0 where
@@ -13,6 +13,7 @@ pub record IsNewSeat (z : RegistersId) (p : Plan) (low high : ℕ) (a : Known) :
   pub low_is : a.low ≡ low
   pub high_is : a.high ≡ high
   pub left_is : a.left ≡ p.looks
+  pub phase_is : a.phase ≡ Shown
 
 -- the writers' seats, in the order of their segments
 abbrev pub AreWriters : RegistersId → Plan → List Known → Type 0

@@ -7,6 +7,7 @@ use Rattle.snap_history.specs.Limits.{IsNumber}
 use Rattle.snap_register.specs.History.{entry, sight, only, count, number, record_words, memory}
 use Rattle.snap_register.specs.Words.{value_at, IsRecord}
 use Rattle.snap_register.specs.declared.plan.{Entry.Entry, Plan.Plan, Pool.Pool, SeatView.SeatView}
+use Rattle.snap_register.specs.declared.plan.UpdatePhase.TheVariants.{Shown, Storing, Stored}
 use mathlib.Core.Option.{some}
 use mathlib.Core.List.{IsPrefix}
 use lib.ListN.{get_elem?}
@@ -163,7 +164,7 @@ moved_pool v b x = record {
 -- the last update that the seat has seen is its own, with the words that it drafted, and the free
 -- buffer is the current one
 pub record Publishes (v w : SeatView) (i x : ℕ) : Type 0 where
-  pub same : w ≡ record v { seen = w.seen; pool = moved_pool v v.pool.free_buffer x }
+  pub same : w ≡ record v { seen = w.seen; pool = moved_pool v v.pool.free_buffer x; phase = Shown }
   pub between : List Entry
   pub seen : w.seen ≡ (v.seen ++ between) ++ entry i v.pool.draft ∷ []
   pub others : only i between ≡ []
@@ -190,6 +191,7 @@ spent = record {
   pins = [];
   records = [];
   sights = [];
+  phase = Shown;
 }
 
 -- a writer of the first segment that the view writes, with a pin per register and a seat's looks
@@ -291,6 +293,14 @@ module _ {S : Type 0} where
   abbrev pub heard : Step S → Me S SeatView → ℕ → Me S SeatView → Type 0
   heard st m found m' = Learns m.0 m'.0 × (m'.1 ≡ m.1)
       × (m'.0 ≡ record m.0 { seen = m'.0.seen; received = []; seen_end = m.0.high })
+
+  -- a load of a current word, by which the seat notes that a store begins
+  abbrev pub begun : Step S → Me S SeatView → ℕ → Me S SeatView → Type 0
+  begun st m found m' = m' ≡ (record m.0 { phase = Storing }, m.1)
+
+  -- a load of a current word, by which the seat notes that the store has ended
+  abbrev pub ended : Step S → Me S SeatView → ℕ → Me S SeatView → Type 0
+  ended st m found m' = m' ≡ (record m.0 { phase = Stored }, m.1)
 
   -- a load of a word of a pinned buffer
   abbrev pub read : Step S → Me S SeatView → ℕ → Me S SeatView → Type 0

@@ -4,6 +4,8 @@ use Rattle.std.specs.Prelude.{map, slice_index, slice_get}
 use Rattle.snap_register.specs.declared.view.View.TheVariants.{Collected, Borrowed}
 use Rattle.snap_register.specs.History.{starts, updates, start_at}
 use Rattle.snap_register.specs.{Registers.RegistersId, declared.plan.Plan.Plan, declared.plan.SeatView.SeatView}
+use Rattle.snap_register.specs.{declared.plan.UpdatePhase.UpdatePhase}
+use Rattle.snap_register.specs.declared.plan.UpdatePhase.TheVariants.{Shown, Stored}
 use Rattle.snap_register.specs.{declared.view.View.View, Rule.segments}
 use Rattle.snap_history.specs.History.{Update, IsBeginning, number_after, value_after, updates_of}
 use Rattle.snap_history.specs.Limits.{IsNumber}
@@ -11,7 +13,8 @@ use Rattle.snap_scan.specs.Sets.{Names}
 
 -- the table and its plan; the updates that the seat has seen; the segments that it writes, from
 -- `low` on and below `high`; which buffers and records its last looks found; how many looks it has
--- left; and what it had seen at each of its looks, in order
+-- left; what it had seen at each of its looks, in order; and how far its writer's file is ahead of
+-- what it has shown
 pub record Known : Type 0 where
   pub table : RegistersId
   pub plan : Plan
@@ -22,6 +25,7 @@ pub record Known : Type 0 where
   pub records : List ℕ
   pub left : ℕ
   pub sights : List (List Update)
+  pub phase : UpdatePhase
 
 abbrev pub known : RegistersId → SeatView → Known
 known z v = record {
@@ -34,6 +38,7 @@ known z v = record {
   records = v.records;
   left = v.left;
   sights = map (λ s. updates s.seen) v.sights;
+  phase = v.phase;
 }
 
 -- the number that the last look at segment j found
@@ -68,6 +73,7 @@ pub record Grows (a b : Known) : Type 0 where
   pub high : b.high ≡ a.high
   pub later : IsBeginning a.seen b.seen
   pub own : (i : ℕ) → a.low ≤ i → i < a.high → number_in a b.seen i ≡ number_in a a.seen i
+  pub phase : b.phase ≡ a.phase
 
 -- the seat has seen more, and nothing else changed: no look was made, and the earlier looks stay
 pub record Meets (a b : Known) : Type 0 where
@@ -137,7 +143,7 @@ abbrev pub MayPublish : Known → View → Type 0
 MayPublish a Collected = IsCollected a
 MayPublish a (Borrowed j) = IsBorrowed a j
 
--- the last update that the seat has seen is that of its own segment to this value
+-- the last update that the seat has seen is that of its own segment to this value; it was stored before
 pub record Shows (a b : Known) (value : List ℕ) : Type 0 where
   pub table : b.table ≡ a.table
   pub plan : b.plan ≡ a.plan
@@ -149,3 +155,5 @@ pub record Shows (a b : Known) (value : List ℕ) : Type 0 where
   pub between : List Update
   pub seen : b.seen ≡ (a.seen ++ between) ++ record { segment = own_of a; value = value } ∷ []
   pub others : updates_of (own_of a) between ≡ 0
+  pub stored : a.phase ≡ Stored
+  pub phase : b.phase ≡ Shown

@@ -10,6 +10,7 @@ use Rattle.snap_register.specs.Rule.{segments, seats, buffers, width, size, IsWr
 use Rattle.snap_register.specs.{declared.words.TheConstants.BLOCK_WORDS, declared.plan.SeatView.SeatView, Held.Readable}
 use Rattle.snap_register.specs.{declared.setup.Setup.Setup, declared.plan.Opening.Opening, declared.tables.Sizes.Sizes}
 use Rattle.snap_register.specs.{declared.plan.Plan.Plan, declared.plan.Start.Start, declared.plan.Pool.Pool}
+use Rattle.snap_register.specs.declared.plan.UpdatePhase.TheVariants.{Shown}
 use Rattle.atomic_table.specs.Table.{Me}
 
 abbrev pub start_of : Opening → Start
@@ -51,6 +52,7 @@ first_view p = record {
   pins = replicate (segments p) 0;
   records = replicate (segments p) 0;
   sights = [];
+  phase = Shown;
 }
 
 -- the record of segment i at the start fills the first words of a buffer
@@ -135,6 +137,7 @@ pub record IsFirst {S : Type 0} (words left : ℕ) (m : Me S SeatView) : Type 0 
   pub readable : (i : ℕ) → i < segments m.0.plan → Readable m.0.plan m.0.seen i (slice_index m.0.records i)
   pub pins_are : m.0.pins ≡ replicate (segments m.0.plan) 0
   pub records_are : m.0.records ≡ replicate (segments m.0.plan) 0
+  pub phase_is : m.0.phase ≡ Shown
 
 -- a seat just split off
 pub record IsFresh {S : Type 0} (words : ℕ) (m : Me S SeatView) : Type 0 where
@@ -150,3 +153,4 @@ pub record IsFresh {S : Type 0} (words : ℕ) (m : Me S SeatView) : Type 0 where
   pub readable : (i : ℕ) → i < segments m.0.plan → Readable m.0.plan m.0.seen i (slice_index m.0.records i)
   pub pins_are : m.0.pins ≡ replicate (segments m.0.plan) 0
   pub records_are : m.0.records ≡ replicate (segments m.0.plan) 0
+  pub phase_is : m.0.phase ≡ Shown

@@ -55,7 +55,7 @@ mod tables;
 mod view;
 mod words;
 
-pub use plan::{Entry, Opening, Plan, Pool, SeatView, Sight, Start};
+pub use plan::{Entry, Opening, Plan, Pool, SeatView, Sight, Start, UpdatePhase};
 pub use registers::Registers;
 pub use seats::{Looker, ReadSeat, WriteSeat};
 pub use setup::{OneHistory, Setup, TableSeat, WordTable};

@@ -55,6 +55,16 @@ pub struct Pool {
     pub draft: [u64; 0],
 }
 
+/// How far a writer's file is ahead of what its seat has shown.
+pub enum UpdatePhase {
+    /// The file has what was shown last.
+    Shown,
+    /// A store of the next update was begun: it is in progress, or has failed.
+    Storing,
+    /// The file has the next update, which isn't shown yet.
+    Stored,
+}
+
 /// A seat's knowledge.
 pub struct SeatView {
     pub plan: Plan,
@@ -81,4 +91,5 @@ pub struct SeatView {
     pub records: [u64; 0],
     /// The updates it had seen at each of its looks, in order.
     pub sights: [Sight; 0],
+    pub phase: UpdatePhase,
 }

@@ -10,7 +10,7 @@ ghost use Rattle.snap_register.specs.Steps.{view_of, known_of, pool_of, Owns};
 ghost use Rattle.snap_register.specs.{History.start_at, Rule.segments, Setup.IsPool, Setup.first_pool};
 
 use crate::access::Access;
-use crate::plan::MAX_BUFFERS;
+use crate::plan::{MAX_BUFFERS, UpdatePhase};
 use crate::snapshot::SnapshotBuf;
 use crate::view::View;
 use bytes::Bytes;
@@ -237,12 +237,29 @@ impl WriteSeat {
         self.number
     }
 
+    /// Notes in the registers that a store of the next update begins: until [`end_store`](WriteSeat::end_store) a crash
+    /// may leave that update in the writer's file, or what was shown last.
+    pub fn begin_store(&mut self)
+        ensures begun { self.new ≡ record self.old { phase = UpdatePhase.Storing } }
+    {
+        self.access.begin_store(self.segment);
+    }
+
+    /// Notes in the registers that the writer's file has the next update.
+    pub fn end_store(&mut self)
+        requires storing { self.old.phase ≡ UpdatePhase.Storing }
+        ensures stored { self.new ≡ record self.old { phase = UpdatePhase.Stored } }
+    {
+        self.access.end_store(self.segment);
+    }
+
     /// Shows an update of the seat's segment to `value`, with this view, and returns its number. The update is in the
     /// history from one moment of this call on. It always finds a free buffer, so it never waits and never fails.
     pub fn publish(&mut self, value: &[u8], view: &View) -> u64
         requires size { IsShort value.now }
         requires next { IsNumber (number_in self.old self.old.seen (own_of self.old) + 1) }
         requires view { MayPublish self.old view.now }
+        requires stored { self.old.phase ≡ UpdatePhase.Stored }
         ensures shown { Shows self.old self.new value.now }
         ensures below { IsBelow self.new }
         ensures number { result ≡ number_in self.new self.new.seen (own_of self.new) }

@@ -1,6 +1,6 @@
 //! The table of the registers' words, its rule (specs/Rule.antt), and the result of each step on it.
 ghost use Rattle.snap_register.specs.Rule.{Kept, pinning, revisited, giving, heard, read, checked, reused, redrafted};
-ghost use Rattle.snap_register.specs.Rule.{published, messenger, reader, without_reader, first_role};
+ghost use Rattle.snap_register.specs.Rule.{published, begun, ended, messenger, reader, without_reader, first_role};
 ghost use Rattle.snap_register.specs.Rule.{without_first_role, with_received, with_seen_of, spent};
 
 use crate::plan::{Opening, SeatView};
@@ -57,6 +57,20 @@ pub(crate) struct Hear;
 
 impl Play<(), SeatView> for Hear {
     ghost then = { heard };
+}
+
+// A load of a current word before a store.
+pub(crate) struct Begin;
+
+impl Play<(), SeatView> for Begin {
+    ghost then = { begun };
+}
+
+// A load of a current word after a store.
+pub(crate) struct End;
+
+impl Play<(), SeatView> for End {
+    ghost then = { ended };
 }
 
 // A load of a word of a pinned buffer.

@@ -12,7 +12,7 @@ use Rattle.snap_history.specs.History.{Update, Start, updates_of, last_value, nu
 use Rattle.snap_history.proofs.Moments.{updates-append, last-append, last_none, number-push, number-push_other}
 use Rattle.snap_history.proofs.{Moments.value-push, Lists.get-set_same, Lists.get-set_other, Lists.get-append_left}
 use Rattle.snap_history.{proofs.Moments.value-push_other, specs.Pairs.Pairs, proofs.Pairs.element, proofs.Pairs.partner}
-use Rattle.snap_register.specs.Registers.{no_registers}
+use Rattle.snap_register.specs.{Registers.no_registers, declared.plan.UpdatePhase.TheVariants.Storing}
 use Rattle.snap_writer.{specs.Life.Place, specs.Life.in_store, proofs.Shown.number_kept, proofs.Shown.value_kept}
 use Rattle.snap_restart.specs.LifeCrash.{Begun, IsRecovered, KeepMemory}
 use Rattle.snap_restart.specs.Restarts.{Works, Held, update, without, from_there, IsJoined}
@@ -146,6 +146,7 @@ begun_on d v = in_store (record {
     records = [];
     left = 0;
     sights = [];
+    phase = Storing;
   };
 }) v d
 

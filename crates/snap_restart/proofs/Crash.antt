@@ -1,13 +1,14 @@
 -- A crash at any moment from an opening on, and at any cut once all writers and scanners are back.
 use Rattle.std.proofs.Common.{◌≡◌, ℕ, zero, suc, inl, List, [], ◌∷◌, ◌++◌, length, map, Some, slice_get, refl, sym, ◌∙◌}
-use Rattle.std.proofs.{Common.arith, lemmas.List.length-map, lemmas.Option.same_Some}
+use Rattle.std.proofs.{Common.ap, Common.arith, lemmas.List.length-map, lemmas.Option.same_Some}
 use Rattle.snap_disk.specs.declared.refusal.Refusal.{Refusal}
 use Rattle.snap_slot.proofs.{Readings.holds_same, Rest.at_rest_leaves}
 use Rattle.snap_segment.specs.Segment.{SegmentState}
 use Rattle.snap_history.specs.{History.Update, History.Start, History.number_after, History.value_after, Pairs.Pairs}
 use Rattle.snap_history.proofs.{Pairs.element, Pairs.partner, Pairs.Pairs-map, Beginnings.beginning-trans}
 use Rattle.snap_register.specs.{declared.plan.Plan.Plan, History.starts, History.updates, Seat.Known}
-use Rattle.snap_writer.specs.{Writer.WriterState, Writer.number_of, Writer.value_of, Writer.IsPaired, Life.IsWriterOf}
+use Rattle.snap_writer.specs.Writer.{WriterState, number_of, value_of, phase_of, IsPaired}
+use Rattle.snap_writer.specs.Life.{IsWriterOf}
 use Rattle.snap_restart.specs.Opened.{IsBack, IsOpened, IsStopped, AreFresh}
 use Rattle.snap_restart.specs.Crash.{AnyMoment, AllHonest, AreOpened, StayKept, AnyCut}
 use Rattle.snap_restart.specs.{LifeCrash.Begun, LifeCrash.IsRecovered, Closed.AreBack, Closed.IsHistory}
@@ -80,7 +81,7 @@ module _ {D : Type 0} (disk : Disk.Ghosts D) where
         high_is = seat.high_is;
         index_is = is.index_is;
         count_is = is.count_is ∙ size;
-        stored = inl (pair.number_is, pair.value_is);
+        phase_is = rw (pair.phase_is ∙ ap phase_of is.unfenced) ((pair.number_is, pair.value_is), is.unfenced);
         rests = λ hon x left. inl (same_file (sym is.index_is) (sym is.count_is) refl refl
             (at_rest_leaves i (length devices) w.segment.number w.segment.value
             w.segment.spare_open (disk.device w.segment.device) (is.rests hon) x left));

@@ -5,17 +5,19 @@ use Rattle.std.proofs.lemmas.{List.length-append, List.length-map, Option.same_S
 use Rattle.snap_register.specs.History.{starts, updates}
 use Rattle.snap_register.proofs.Updates.{updates_count, beginning_is}
 use Rattle.snap_register.specs.{Registers.Moment, declared.plan.Plan.Plan, declared.plan.SeatView.SeatView, Rule.Kept}
+use Rattle.snap_register.specs.Rule.{segments, IsWriter}
 use Rattle.snap_slot.specs.Layout.{IsFileOf}
 use Rattle.snap_history.specs.History.{Update, IsBeginning, number_after, value_after}
 use Rattle.snap_history.proofs.Beginnings.{beginning-self, beginning-trans, number-beginning}
-use Rattle.snap_history.{specs.Pairs.Pairs, proofs.Pairs.element, proofs.Pairs.partner}
+use Rattle.snap_history.{specs.Pairs.Pairs, proofs.Pairs.element}
 use Rattle.snap_memory.proofs.ScanAnswer.{same_value}
 use Rattle.snap_writer.specs.Writer.{number_of, value_of}
 use Rattle.snap_writer.specs.Life.{Place, HasBegun, seen_at, CrashLeaves, IsPlaceOf}
-use Rattle.snap_restart.specs.LifeCrash.{all_seen, Begun, IsRecovered}
-use Rattle.snap_restart.specs.LifeLaws.{CutLaw, ConsistentLaw, IsSeatOf, IsSeenIn}
+use Rattle.snap_restart.specs.LifeCrash.{all_seen, HoldsIn, Begun, IsRecovered}
+use Rattle.snap_restart.specs.LifeLaws.{CutLaw, ConsistentLaw, InstantLaw, IsOf, IsSeatOf, IsSeenIn}
+use Rattle.snap_register.specs.declared.plan.UpdatePhase.TheVariants.{Storing}
 use Rattle.snap_restart.proofs.{LifeOrder.longest, LifeOrder.has_early, Merge.FileAt, Merge.all_found}
-use Rattle.snap_restart.proofs.{Placed.same_file, Placed.crash_leaves, Lives.life_fits}
+use Rattle.snap_restart.proofs.{Placed.same_file, Placed.phase_leaves, Placed.in_any, Pairs.partner_of, Lives.life_fits}
 use mathlib.Core.Option.{some}
 use lib.ListN.{get_elem?}
 use Rattle.snap_disk.specs.declared.disk.Disk as Disk
@@ -49,57 +51,87 @@ pub seen_saw : (plan : Plan) (s : Moment) (kept : Kept plan s) (seen : List Upda
     → IsSeenIn s.views seen → IsBeginning seen (updates kept.history)
 seen_saw plan s kept seen (j, v, at, is) = rw is (seat_saw plan s kept j v at)
 
--- a writer that has shown all its updates in the history
-pub record Agrees {D : Type 0} (plan : Plan) (h : List Update) (i : ℕ) (p : Place D) : Type 0 where
-  pub saw : IsBeginning (seen_at p) h
-  pub whole : number_after (starts plan) h i ≤ number_after (starts plan) (seen_at p) i
+-- the seat of segment i's writer, which has shown all its updates in the history
+pub record Agrees (plan : Plan) (h : List Update) (i : ℕ) (seen : List Update) : Type 0 where
+  pub saw : IsBeginning seen h
+  pub whole : number_after (starts plan) h i ≤ number_after (starts plan) seen i
 
-seat_agrees : {D : Type 0} (plan : Plan) (s : Moment) (kept : Kept plan s)
-    (i : ℕ) (p : Place D) → IsSeatOf s.views i p → Agrees plan (updates kept.history) i p
-seat_agrees plan s kept i p (j, v, at, writes, is) = grind (arith, updates_count, seen_saw)
+seat_agrees : (plan : Plan) (s : Moment) (kept : Kept plan s) (i j : ℕ) (v : SeatView) → get_elem? s.views j ≡ some v
+    → IsWriter v i → Agrees plan (updates kept.history) i (updates v.seen)
+seat_agrees plan s kept i j v at writes =
+    let role = (kept.each_seat j v at).role i (omega arith) in record {
+      saw = seat_saw plan s kept j v at;
+      whole = omega (
+        arith,
+        updates_count i v.seen,
+        updates_count i kept.history,
+        ap length (role.all (omega arith)),
+      );
+    }
+
+place_agrees : {D : Type 0} (plan : Plan) (s : Moment) (kept : Kept plan s) (i : ℕ) (p : Place D)
+    → IsSeatOf s.views i p → Agrees plan (updates kept.history) i (seen_at p)
+place_agrees plan s kept i p (j, v, at, writes, is) = rw is (seat_agrees plan s kept i j v at writes)
 
 pub moment_consistent : {D : Type 0} → ConsistentLaw D
 moment_consistent plan s kept writers scanners seats seen j x e i p at =
     let h = updates kept.history in
     let begins = each_seen (λ (y : List Update). IsBeginning y h) writers scanners
-    (λ k q there. (seat_agrees plan s kept k q (seats k q there)).saw)
+    (λ k q there. (place_agrees plan s kept k q (seats k q there)).saw)
     (λ k y there. seen_saw plan s kept y (seen k y there)) j x e in
     let below = number-beginning (starts plan) x h i begins in
-    let whole = (seat_agrees plan s kept i p (seats i p at)).whole in
+    let whole = (place_agrees plan s kept i p (seats i p at)).whole in
     omega (arith, below, whole)
 
+-- ---- the contents of the files
+
+-- what the file holds by what its writer's seat has seen, it holds by the history
+agreed : (plan : Plan) (h : List Update) (n i : ℕ) (seen : List Update) (begun : List ℕ → Type 0) (b : List ℕ)
+    → Agrees plan h i seen → HoldsIn i n (number_after (starts plan) seen i) (value_after (starts plan) seen i) begun b
+    Storing → HoldsIn i n (number_after (starts plan) h i) (value_after (starts plan) h i) begun b Storing
+agreed plan h n i seen begun b a holds =
+    let same : number_after (starts plan) seen i ≡ number_after (starts plan) h i =
+    omega (arith, number-beginning (starts plan) seen h i a.saw, a.whole) in
+    let still = same_value (starts plan) h seen h i a.saw (beginning-self h) same in
+    ⊎_elim (λ old. inl (same_file refl refl same still old)) (λ new. inr (new.0, new.1, rw same at new.2)) holds
+
+all_hold : (plan : Plan) (n : ℕ) (h : List Update) (begun : ℕ → List ℕ → Type 0) (files : List (List ℕ))
+    → length files ≡ n → ((i : ℕ) (b : List ℕ) → slice_get files i ≡ Some b → HoldsIn i n
+    (number_after (starts plan) h i) (value_after (starts plan) h i) (begun i) b Storing)
+    → IsRecovered n (starts plan) h begun files
+all_hold plan n h begun files count each =
+    all_found n (starts plan) h begun files count (λ i low.
+    let f = element files i (omega arith) in
+    let all : (k : ℕ) (v : List ℕ) → IsFileOf i n k v f.0 → FileAt n files i k v =
+    λ k v x b e. rw (same_Some f.0 b (sym f.1 ∙ e)) at x in
+    ⊎_elim (λ old. inl (all _ _ old)) (λ new. inr (new.0, new.1, all _ _ new.2)) (each i f.0 f.1))
+
+pub instant_recovers : InstantLaw
+instant_recovers plan s kept begun files count each =
+    let h = updates kept.history in
+    all_hold plan (segments plan) h (IsOf begun) files count (λ i b at.
+    let (j, v, there, writes, holds) = each i b at in
+    agreed plan h (segments plan) i (updates v.seen) (IsOf begun i) b (seat_agrees plan s kept i j v there writes)
+    (in_any _ _ _ _ _ b v.phase holds))
+
 module _ {D : Type 0} (disk : Disk.Ghosts D) where
-  -- ---- the contents of the devices
-
-  agreed : (plan : Plan) (h : List Update) (n i : ℕ) (p : Place D) (b : List ℕ) → IsPlaceOf disk plan n i p
-      → Agrees plan h i p → CrashLeaves disk p b
-      → (IsFileOf i n (number_after (starts plan) h i) (value_after (starts plan) h i) b) ⊎ ((v : List ℕ) × HasBegun p v
-      × IsFileOf i n (number_after (starts plan) h i + 1) v b)
-  agreed plan h n i p b is a left =
-      let of = is.writer_is in
-      let number : number_of p.writer ≡ number_after (starts plan) (seen_at p) i =
-      λ t. number_after (starts (of.plan_is t)) (seen_at p) (of.low_is t) in
-      let value : value_of p.writer ≡ value_after (starts plan) (seen_at p) i =
-      λ t. value_after (starts (of.plan_is t)) (seen_at p) (of.low_is t) in
-      let same : number_after (starts plan) (seen_at p) i ≡ number_after (starts plan) h i =
-      omega (arith, number-beginning (starts plan) (seen_at p) h i a.saw, a.whole) in
-      let still = same_value (starts plan) h (seen_at p) h i a.saw (beginning-self h) same in
-      ⊎_elim (λ old. inl (same_file refl refl (number ∙ same) (value ∙ still) old))
-      (λ new. inr (new.0, new.1, rw (number ∙ same) at new.2)) (crash_leaves disk plan n i p is b left)
-
   recovered : (plan : Plan) (n : ℕ) (h : List Update) (writers : List (Place D)) (files : List (List ℕ))
       → length writers ≡ n → ((i : ℕ) (p : Place D) → slice_get writers i ≡ Some p → IsPlaceOf disk plan n i p
-      × Agrees plan h i p) → Pairs (λ _. CrashLeaves disk) writers files
+      × Agrees plan h i (seen_at p)) → Pairs (λ _. CrashLeaves disk) writers files
       → IsRecovered n (starts plan) h (Begun writers) files
   recovered plan n h writers files count each left =
-      all_found n (starts plan) h (Begun writers) files (sym left.size ∙ count) (λ i low.
-      let p = element writers i (omega arith) in
-      let f = partner _ writers files i p.0 left p.1 in
+      all_hold plan n h (Begun writers) files (sym left.size ∙ count) (λ i b at.
+      let p = partner_of _ writers files i b left at in
       let is = each i p.0 p.1 in
-      let all : (k : ℕ) (v : List ℕ) → IsFileOf i n k v f.0 → FileAt n files i k v =
-      λ k v x b e. rw (same_Some f.0 b (sym f.1 ∙ e)) at x in
-      ⊎_elim (λ old. inl (all _ _ old)) (λ new. inr (new.0, (p.0, p.1, new.1), all _ _ new.2))
-      (agreed plan h n i p.0 f.0 is.0 is.1 f.2))
+      let of = is.0.writer_is in
+      let number : number_of p.0.writer ≡ number_after (starts plan) (seen_at p.0) i =
+      λ t. number_after (starts (of.plan_is t)) (seen_at p.0) (of.low_is t) in
+      let value : value_of p.0.writer ≡ value_after (starts plan) (seen_at p.0) i =
+      λ t. value_after (starts (of.plan_is t)) (seen_at p.0) (of.low_is t) in
+      agreed plan h n i (seen_at p.0) (Begun writers i) b is.1
+      (⊎_elim (λ old. inl (same_file refl refl number value old))
+      (λ new. inr (new.0, (p.0, p.1, new.1), rw number at new.2))
+      (in_any _ _ _ _ _ b _ (phase_leaves disk plan n i p.0 is.0 b p.2))))
 
   -- ---- a consistent cut
 
@@ -144,6 +176,6 @@ module _ {D : Type 0} (disk : Disk.Ghosts D) where
     seat_saw plan s kept,
     recovered plan n (updates kept.history) writers files count (λ i p e. (
       (each i p e).0,
-      seat_agrees plan s kept i p (each i p e).1,
+      place_agrees plan s kept i p (each i p e).1,
     )) left,
   )

@@ -7,7 +7,7 @@ use Rattle.snap_writer.specs.Life.{Stores, Does, Lived, IsWriterOf}
 use Rattle.snap_writer.{specs.Writer.WriterState, proofs.Crashes.OnlyNow}
 use Rattle.snap_restart.specs.LifeDurability.{Gave, Once, Keeps, Stays}
 use Rattle.snap_restart.specs.{Crash.AreOpened, Durability.AllStays}
-use Rattle.snap_restart.proofs.{Placed.same_file, Lives.does_is}
+use Rattle.snap_restart.proofs.{Placed.same_file, Lives.does_is, Lives.seat_step}
 use Rattle.snap_disk.specs.declared.disk.Disk as Disk
 
 -- the writer of a segment stays its writer throughout its life
@@ -21,9 +21,8 @@ module _ {D : Type 0} (disk : Disk.Ghosts D) where
   -- a device that is honest now was so before
   honest_before : (a b : WriterState D) → Does disk a b
       → disk.is_honest b.segment.device → disk.is_honest a.segment.device
-  honest_before a b (inl sees) hon = rw sees.segment_is at hon
-  honest_before a b (inr (inl stores)) hon = stores.1.honest_then hon
-  honest_before a b (inr (inr shows)) hon = rw shows.segment_is at hon
+  honest_before a b (inl seat) hon = rw (seat_step disk a b seat) at hon
+  honest_before a b (inr stores) hon = stores.1.honest_then hon
 
   honest_all : (a z : WriterState D) (life : List (WriterState D)) → Lived disk a life z
       → disk.is_honest z.segment.device → disk.is_honest a.segment.device
@@ -58,7 +57,7 @@ module _ {D : Type 0} (disk : Disk.Ghosts D) (plan : Plan) (n i : ℕ) where
   gave_next : (a b : WriterState D) (v : List ℕ) → Stores disk v a b → Gave (a.segment.number + 1) v b
   gave_next a b v s = ⊎_elim (λ done. inl (rw done (refl, refl))) (λ failed. inr (rw failed (refl, refl))) s.ends
 
-  -- to see or to show leaves the device as it is
+  -- a step on the seat leaves the device as it is
   same_left : (a b : WriterState D) (life : List (WriterState D)) → OnlyNow disk → IsWriterOf disk plan n i a
       → disk.is_honest a.segment.device → b.segment ≡ a.segment
       → LeavesOnly disk a.segment.device b.segment.device (Keeps n i a life)
@@ -69,12 +68,12 @@ module _ {D : Type 0} (disk : Disk.Ghosts D) (plan : Plan) (n i : ℕ) where
   step_left : (a b : WriterState D) (life : List (WriterState D)) → OnlyNow disk → IsWriterOf disk plan n i a
       → disk.is_honest a.segment.device → disk.is_honest b.segment.device → Does disk a b
       → LeavesOnly disk a.segment.device b.segment.device (Keeps n i a (b ∷ life))
-  step_left a b life only_now is was hon (inl sees) = same_left a b (b ∷ life) only_now is was sees.segment_is
-  step_left a b life only_now is was hon (inr (inl (v, s))) = weaker disk a.segment.device b.segment.device
+  step_left a b life only_now is was hon (inl seat) =
+      same_left a b (b ∷ life) only_now is was (seat_step disk a b seat)
+  step_left a b life only_now is was hon (inr (v, s)) = weaker disk a.segment.device b.segment.device
       (IsEither a.segment.index a.segment.count a.segment.number a.segment.value v)
-      (Keeps n i a (b ∷ life)) (s.any_time hon)
+      (Keeps n i a (b ∷ life)) (s.went.any_time hon)
       (λ x. ⊎_elim (stored a (b ∷ life) is x) (begun a (b ∷ life) is v (1, b, refl, gave_next a b v s) x))
-  step_left a b life only_now is was hon (inr (inr shows)) = same_left a b (b ∷ life) only_now is was shows.segment_is
 
   -- b has stored what a has, or more
   abbrev Follows : WriterState D → WriterState D → Type 0
@@ -82,10 +81,9 @@ module _ {D : Type 0} (disk : Disk.Ghosts D) (plan : Plan) (n i : ℕ) where
       × (b.segment.number ≡ a.segment.number → b.segment.value ≡ a.segment.value)
 
   follows : (a b : WriterState D) → Does disk a b → Follows a b
-  follows a b (inl sees) = rw sees.segment_is (omega arith, λ e. refl)
-  follows a b (inr (inl stores)) = ⊎_elim (λ done. rw done (omega arith, λ e. absurd (omega arith)))
+  follows a b (inl seat) = rw (seat_step disk a b seat) (omega arith, λ e. refl)
+  follows a b (inr stores) = ⊎_elim (λ done. rw done (omega arith, λ e. absurd (omega arith)))
       (λ failed. rw failed (omega arith, λ e. refl)) stores.1.ends
-  follows a b (inr (inr shows)) = rw shows.segment_is (omega arith, λ e. refl)
 
   keeps_on : (a b : WriterState D) (life : List (WriterState D)) (x : List ℕ) → Follows a b
       → Keeps n i b life x → Keeps n i a (b ∷ life) x

@@ -1,9 +1,11 @@
 -- A crash that finds each writer and each scanner at some place, and what it leaves.
-use Rattle.std.specs.Prelude.{◌≡◌, ℕ, ◌<◌, ◌≤◌, List, ◌++◌, length, map, Some, slice_get}
+use Rattle.std.specs.Prelude.{◌≡◌, ◌⊎◌, ℕ, ◌+◌, ◌<◌, ◌≤◌, List, ◌++◌, length, map, Some, slice_get}
 use Rattle.snap_disk.specs.Device.{MayLeave}
 use Rattle.snap_slot.specs.Layout.{IsFileOf}
 use Rattle.snap_history.specs.History.{Update, Start, IsBeginning, updates_of, number_after, value_after}
 use Rattle.snap_history.specs.Pairs.{Pairs}
+use Rattle.snap_register.specs.declared.plan.UpdatePhase.{UpdatePhase}
+use Rattle.snap_register.specs.declared.plan.UpdatePhase.TheVariants.{Shown, Storing, Stored}
 use Rattle.snap_writer.specs.Life.{Place, HasBegun, seen_at}
 use Rattle.snap_disk.specs.declared.disk.Disk as Disk
 
@@ -21,6 +23,17 @@ IsConsistent {D} start writers scanners =
 -- the writer of segment i has begun an update to v
 abbrev pub Begun : {D : Type 0} → List (Place D) → ℕ → List ℕ → Type 0
 Begun {D} writers i v = (p : Place D) × (slice_get writers i ≡ Some p) × HasBegun p v
+
+-- the bytes of segment i's file, of n, by the phase of its writer's seat, if number k and value u were shown last: they
+-- have these; or these or the next number with a value that was begun; or the latter
+module _ (i n k : ℕ) (u : List ℕ) (begun : List ℕ → Type 0) (b : List ℕ) where
+  abbrev pub HoldsNext : Type 0
+  HoldsNext = (v : List ℕ) × begun v × IsFileOf i n (k + 1) v b
+
+  abbrev pub HoldsIn : UpdatePhase → Type 0
+  HoldsIn Shown = IsFileOf i n k u b
+  HoldsIn Storing = IsFileOf i n k u b ⊎ HoldsNext
+  HoldsIn Stored = HoldsNext
 
 -- segment i had number k and value v at some moment of the history, perhaps at its start
 abbrev pub Has : Start → List Update → ℕ → ℕ → List ℕ → Type 0

@@ -4,11 +4,12 @@ use Rattle.std.specs.Prelude.{◌≡◌, ℕ, ◌<◌, List, length, Some, slice
 use Rattle.snap_register.specs.Rule.{segments, IsWriter, Kept}
 use Rattle.snap_register.specs.{Registers.Moment, declared.plan.Plan.Plan, declared.plan.SeatView.SeatView}
 use Rattle.snap_register.specs.{History.starts, History.updates, Seat.Known, Seat.IsMemory}
-use Rattle.snap_history.specs.{History.Update, History.IsBeginning, Pairs.Pairs}
+use Rattle.snap_history.specs.History.{Update, IsBeginning, number_after, value_after}
+use Rattle.snap_history.specs.Pairs.{Pairs}
 use Rattle.snap_memory.specs.Scans.{IsSnapshot}
-use Rattle.snap_writer.specs.Writer.{WriterState}
-use Rattle.snap_writer.specs.Life.{Place, seen_at, Lived, IsIn, CrashLeaves, IsWriterOf, IsPlaceOf}
-use Rattle.snap_restart.specs.LifeCrash.{IsConsistent, Begun, IsRecovered, Recovers}
+use Rattle.snap_writer.specs.Writer.{WriterState, number_of, value_of}
+use Rattle.snap_writer.specs.Life.{Place, HasBegun, seen_at, Lived, IsIn, CrashLeaves, IsWriterOf, IsPlaceOf}
+use Rattle.snap_restart.specs.LifeCrash.{HoldsIn, IsConsistent, Begun, IsRecovered, Recovers}
 use mathlib.Core.Option.{some}
 use lib.ListN.{get_elem?}
 use Rattle.snap_disk.specs.declared.disk.Disk as Disk
@@ -34,6 +35,20 @@ module _ {D : Type 0} (disk : Disk.Ghosts D) where
       → IsConsistent (starts plan) writers scanners → Pairs (λ _. CrashLeaves disk) writers files
       → Recovers (length writers) (starts plan) h writers scanners files
 
+-- the value of segment i in this list
+abbrev pub IsOf : List (List ℕ) → ℕ → List ℕ → Type 0
+IsOf values i v = slice_get values i ≡ Some v
+
+-- The registers say at any moment what the files may hold: if each has what the phase of its writer's seat says, that
+-- is the memory after the whole history of the moment and then some of these begun values, at most one of each segment.
+abbrev pub InstantLaw : Type 0
+InstantLaw = (plan : Plan) (s : Moment) (kept : Kept plan s) (begun : List (List ℕ)) (files : List (List ℕ))
+    → length files ≡ segments plan → ((i : ℕ) (b : List ℕ) → slice_get files i ≡ Some b
+    → (j : ℕ) × (v : SeatView) × (get_elem? s.views j ≡ some v) × IsWriter v i
+    × HoldsIn i (segments plan) (number_after (starts plan) (updates v.seen) i)
+    (value_after (starts plan) (updates v.seen) i) (IsOf begun i) b v.phase)
+    → IsRecovered (segments plan) (starts plan) (updates kept.history) (IsOf begun) files
+
 -- a seat of the table writes segment i and has seen what the place says
 abbrev pub IsSeatOf : {D : Type 0} → List SeatView → ℕ → Place D → Type 0
 IsSeatOf {D} views i p = (j : ℕ) × (v : SeatView) × (get_elem? views j ≡ some v) × IsWriter v i
@@ -57,6 +72,11 @@ ScanLaw = (before after : Known) (memory : List (ℕ × List ℕ)) (visible : Li
     → (part : List Update) × IsBeginning part visible × IsMemory after part memory
 
 module _ {D : Type 0} (disk : Disk.Ghosts D) where
+  -- at each place of its life a crash leaves of a writer's device what the phase of its seat says
+  abbrev pub PhasesLaw : Type 0
+  PhasesLaw = (plan : Plan) (n i : ℕ) (p : Place D) (b : List ℕ) → IsPlaceOf disk plan n i p → CrashLeaves disk p b
+      → HoldsIn i n (number_of p.writer) (value_of p.writer) (HasBegun p) b p.writer.seat.phase
+
   -- at any moment of the registers a crash is recovered as the memory after the whole history of
   -- that moment, of which each seat has seen a beginning
   abbrev pub MomentLaw : Type 0

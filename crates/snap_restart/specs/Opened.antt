@@ -7,6 +7,7 @@ use Rattle.snap_segment.specs.{Layout.Head, Layout.Holds, States.IsAtRest, Findi
 use Rattle.snap_segment.specs.{Open.CountsFailed, Refusals.IsOpenRefusal}
 use Rattle.snap_history.specs.Pairs.{Pairs}
 use Rattle.snap_register.specs.Seat.{Known, own_of, number_in, value_in}
+use Rattle.snap_register.specs.declared.plan.UpdatePhase.TheVariants.{Shown}
 use Rattle.snap_writer.specs.Writer.{WriterState}
 use Rattle.snap_restart.specs.declared.report.Recovered.{Recovered}
 use Rattle.snap_disk.specs.declared.disk.Disk as Disk
@@ -69,10 +70,12 @@ pub record AreFresh {D : Type 0} (writers : List (WriterState D)) (scanners : Li
   pub writers_are : (i : ℕ) (w : WriterState D) → slice_get writers i ≡ Some w → IsFresh w.seat
   pub scanners_are : (k : ℕ) (b : Known) → slice_get scanners k ≡ Some b → IsFresh b
 
--- the seat starts with the segment's number and value
+-- the seat starts with the segment's number and value, and no store of the segment was begun
 pub record Starts {D : Type 0} (s : SegmentState D) (a : Known) : Type 0 where
   pub number_is : s.number ≡ number_in a a.seen (own_of a)
   pub value_is : s.value ≡ value_in a a.seen (own_of a)
+  pub unfenced : s.begun ≡ None
+  pub phase_is : a.phase ≡ Shown
 
 -- what the report says was recovered of a segment
 abbrev pub recovered : {D : Type 0} → SegmentState D → Recovered

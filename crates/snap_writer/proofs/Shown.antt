@@ -4,8 +4,10 @@ use Rattle.std.proofs.lemmas.List.{append_assoc}
 use Rattle.snap_history.specs.History.{Update, Start, updates_of, number_after, value_after}
 use Rattle.snap_history.proofs.Moments.{updates-append, last-append, last_none, number-push, value-push}
 use Rattle.snap_register.specs.History.{starts}
-use Rattle.snap_register.specs.Seat.{Known, Grows, Shows, own_of, number_in, value_in}
+use Rattle.snap_register.specs.Seat.{Known, Grows, Shows, MayPublish, own_of, number_in, value_in}
+use Rattle.snap_register.specs.declared.view.View.{View, TheVariants.Collected, TheVariants.Borrowed}
 use Rattle.snap_writer.specs.Update.{IsSameSeat, EndsWith}
+use Rattle.snap_register.specs.declared.plan.UpdatePhase.{UpdatePhase}
 
 -- a list that grows without an update of the segment keeps its number and value
 
@@ -45,10 +47,11 @@ pub value_grown : (a b : Known) → Grows a b → a.high ≡ a.low + 1
 value_grown a b g alone = (λ t. value_after (starts (g.plan t)) (g.later.1 t) (g.low t))
     ∙ value_kept (starts a.plan) a.seen g.later.0 a.low (none_own a b g alone)
 
--- a seat that grew and then showed an update
+-- a seat that grew, came to the phase f, and then showed an update
 
-pub ends_with : (a m b : Known) (v : List ℕ) → Grows a m → a.high ≡ a.low + 1 → Shows m b v → EndsWith a b v
-ends_with a m b v g alone s =
+pub ends_with : (a m b : Known) (f : UpdatePhase) (v : List ℕ) → Grows a m → a.high ≡ a.low + 1
+    → Shows (record m { phase = f }) b v → EndsWith a b v
+ends_with a m b f v g alone s =
     let rest = g.later.0 in
     let own : own_of m ≡ own_of a = g.low in
     let none : updates_of (own_of a) rest ≡ 0 = none_own a m g alone in
@@ -65,8 +68,9 @@ ends_with a m b v g alone s =
       others = omega arith;
     }
 
-pub same_shown : (a m b : Known) (v : List ℕ) → Grows a m → Shows m b v → IsSameSeat a b
-same_shown a m b v g s = record {
+pub same_shown : (a m b : Known) (f : UpdatePhase) (v : List ℕ) → Grows a m → Shows (record m { phase = f }) b v
+    → IsSameSeat a b
+same_shown a m b f v g s = record {
   table = s.table ∙ g.table;
   plan = s.plan ∙ g.plan;
   low = s.low ∙ g.low;
@@ -91,3 +95,13 @@ pub value_shown : (a b : Known) (v : List ℕ) → IsSameSeat a b → EndsWith a
 value_shown a b v same e = let u : Update = record { segment = own_of a; value = v } in
     (λ t. value_after (starts (same.plan t)) (e.seen t) (same.low t))
     ∙ value-push (starts a.plan) (a.seen ++ e.between) u
+
+-- what a seat may publish doesn't depend on its phase
+pub may_still : (a : Known) (f : UpdatePhase) (view : View) → MayPublish a view
+    → MayPublish (record a { phase = f }) view
+may_still a f Collected m = record { part = m.part; beginning = m.beginning; whole = m.whole; each = m.each }
+may_still a f (Borrowed j) m = record {
+  inside = m.inside;
+  found = record { told = m.found.told; is = m.found.is; above = m.found.above };
+  whole = m.whole;
+}

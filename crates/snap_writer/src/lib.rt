@@ -7,6 +7,7 @@
 
 mod judgement;
 mod laws;
+mod noted_segment;
 mod writer;
 
 pub use judgement::Judgement;

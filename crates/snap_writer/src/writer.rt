@@ -9,14 +9,15 @@ ghost use Rattle.snap_segment.specs.{Layout.IsFileOf, States.IsEither, Stage.sto
 ghost use Rattle.snap_register.specs.Seat.{AreTogether, Meets, IsBelow, own_of, number_in, value_in, MayPublish, Shows};
 ghost use Rattle.snap_memory.specs.Scans.{CanScan, TakesLooks};
 ghost use Rattle.snap_writer.specs.Update.{IsSameSeat, Advances, Fails};
-ghost use Rattle.snap_writer.specs.{Writer.number_of, Writer.value_of, Judge.IsJudged, Judge.IsAnswer, Life.HasLived};
-ghost use Rattle.snap_writer.specs.{Life.IsShown, Updated.IsUpdated};
+ghost use Rattle.snap_writer.specs.{Writer.number_of, Writer.value_of, Writer.phase_of, Judge.IsJudged, Judge.IsAnswer};
+ghost use Rattle.snap_writer.specs.{Life.HasLived, Life.IsShown, Updated.IsUpdated};
 
 use crate::judgement::Judgement;
+use crate::noted_segment::NotedSegment;
 use snap_disk::{Disk, Refusal};
 use snap_history::{LAST_NUMBER, MAX_VALUE_LEN};
 use snap_memory::{Scanner, prepare, show};
-use snap_register::{Looker, View, WriteSeat};
+use snap_register::{Looker, UpdatePhase, View, WriteSeat};
 use snap_scan::most_looks;
 use snap_segment::Segment;
 use std::marker::Model;
@@ -26,7 +27,7 @@ use std::marker::Model;
 /// The file has the number and value that the writer showed last. It allocates nothing, and waits for its device alone.
 #[derive(Drop)]
 pub struct Writer<D: Disk> {
-    segment: Segment<D>,
+    segment: NotedSegment<D>,
     seat: WriteSeat,
 }
 
@@ -41,16 +42,21 @@ impl<D: Disk> Model for Writer<D> {
 }
 
 impl<D: Disk> Writer<D> {
-    /// A writer with this file and this seat, which have the same number and value.
+    /// A writer with this file and this seat, which have the same number and value. The seat says that a store was
+    /// begun if one of the file has failed, and else that the file has what was shown last.
     pub fn new(segment: Segment<D>, seat: WriteSeat) -> Writer<D>
         requires number { segment.number ≡ number_in seat seat.seen (own_of seat) }
         requires value { segment.value ≡ value_in seat seat.seen (own_of seat) }
+        requires phase { seat.phase ≡ phase_of segment.begun }
         ensures segment { result.segment ≡ segment }
         ensures seat { result.seat ≡ seat }
     {
         // Called for its contract: the seat writes no other segment (docs/DECISIONS.md, 180).
         let _own = seat.segment();
-        Writer { segment, seat }
+        Writer {
+            segment: NotedSegment::new(segment),
+            seat,
+        }
     }
 
     /// The one segment that it writes.
@@ -67,7 +73,7 @@ impl<D: Disk> Writer<D> {
         ensures stored { result ≡ self.now.segment.number }
         ensures low { IsNumber result }
     {
-        self.segment.number()
+        self.segment.as_ref().number()
     }
 
     /// The value shown last, at most [`MAX_VALUE_LEN`] bytes.
@@ -76,7 +82,7 @@ impl<D: Disk> Writer<D> {
         ensures stored { result.now ≡ self.now.segment.value }
         ensures size { IsShort result.now }
     {
-        self.segment.value()
+        self.segment.as_ref().value()
     }
 
     /// Whether a store has failed since the file was opened. If not, no place of the device is
@@ -88,14 +94,14 @@ impl<D: Disk> Writer<D> {
             (number_of self.now) (value_of self.now) self.now.segment.begun
             self.now.segment.spare_open (D.device self.now.segment.device) }
     {
-        self.segment.is_fenced()
+        self.segment.as_ref().is_fenced()
     }
 
     /// The value whose store failed, if one has.
     pub fn begun(&self) -> Option<&[u8]>
         ensures { option_copied result ≡ self.now.segment.begun }
     {
-        self.segment.begun()
+        self.segment.as_ref().begun()
     }
 
     /// How many looks its seat has left. An update uses up those of its scan.
@@ -148,7 +154,7 @@ impl<D: Disk> Writer<D> {
         ensures value { self.segment.value ≡ value_of self }
     {
         let Writer { segment, .. } = self;
-        segment
+        segment.into_inner()
     }
 
     // The rule that decides an update. Lengths are checked before numbers, and a repeat before the
@@ -156,17 +162,18 @@ impl<D: Disk> Writer<D> {
     fn judge(&self, number: u64, value: &[u8]) -> Judgement
         ensures rule { IsJudged self.now number value.now result }
         ensures shown { IsShown self.now }
+        ensures phase { self.now.seat.phase ≡ phase_of self.now.segment.begun }
         ensures kept { D.is_honest self.now.segment.device → IsKept self.now.segment.index self.now.segment.count
             (number_of self.now) (value_of self.now) self.now.segment.begun
             self.now.segment.spare_open (D.device self.now.segment.device) }
     {
-        let fenced = self.segment.is_fenced();
+        let fenced = self.segment.as_ref().is_fenced();
         if value.len() > MAX_VALUE_LEN {
             return Judgement::TooLong;
         }
-        let shown = self.segment.number();
+        let shown = self.segment.as_ref().number();
         if number == shown {
-            return if value == self.segment.value() {
+            return if value == self.segment.as_ref().value() {
                 Judgement::Stored
             } else {
                 Judgement::Conflict
@@ -187,7 +194,8 @@ impl<D: Disk> Writer<D> {
         Judgement::Go
     }
 
-    // Scans, stores and shows an update.
+    // Scans, stores and shows an update. The registers are told that the store begins, and that it has ended, so that
+    // at any instant they say what the file may hold.
     fn advance(&mut self, value: &[u8]) -> Result<u64, Refusal>
         requires size { IsShort value.now }
         requires next { IsNumber (number_of self.old + 1) }
@@ -217,8 +225,9 @@ impl<D: Disk> Writer<D> {
             (number_of self.old) (value_of self.old) value.now b) }
     {
         let view = prepare(&mut self.seat);
-        self.segment.store(value)?;
-        Ok(show_stored(&self.segment, &mut self.seat, view))
+        self.seat.begin_store();
+        self.segment.store(&self.seat, value)?;
+        Ok(show_stored(self.segment.as_ref(), &mut self.seat, view))
     }
 }
 
@@ -240,16 +249,19 @@ fn answer(rule: Judgement, number: u64) -> Result<u64, Refusal>
     }
 }
 
-/// Shows the update that the segment has stored, with this view, and returns its number. The segment is one update
-/// ahead of what the seat has shown, and no store of it has failed, so its device holds what is shown.
+/// Notes that the store has ended, shows the update that the segment has stored, with this view, and returns its
+/// number. The segment is one update ahead of what the seat has shown, and no store of it has failed, so its device
+/// holds what is shown.
 fn show_stored<D: Disk>(segment: &Segment<D>, seat: &mut WriteSeat, view: View) -> u64
     requires ahead { segment.now.number ≡ number_in seat.old seat.old.seen (own_of seat.old) + 1 }
     requires unfenced { segment.now.begun ≡ None }
     requires view { MayPublish seat.old view }
-    ensures shown { Shows seat.old seat.new segment.now.value }
+    requires storing { seat.old.phase ≡ UpdatePhase.Storing }
+    ensures shown { Shows (record seat.old { phase = UpdatePhase.Stored }) seat.new segment.now.value }
     ensures below { IsBelow seat.new }
     ensures number { result ≡ number_in seat.new seat.new.seen (own_of seat.new) }
 {
     let _number = segment.number();
+    seat.end_store();
     show(seat, segment.value(), view)
 }

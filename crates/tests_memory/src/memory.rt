@@ -15,6 +15,8 @@ mod threads;
 /// An update: its scan, and its publication. Its number.
 fn update(writer: &mut WriteSeat, value: &[u8]) -> u64 {
     let view = prepare(writer);
+    writer.begin_store();
+    writer.end_store();
     show(writer, value, view)
 }
 

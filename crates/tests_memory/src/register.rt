@@ -12,6 +12,8 @@ mod threads;
 /// Shows a value, after a look. The number of the update.
 fn write(writer: &mut WriteSeat, value: &[u8]) -> u64 {
     writer.look(0);
+    writer.begin_store();
+    writer.end_store();
     writer.publish(value, &View::Collected)
 }
 

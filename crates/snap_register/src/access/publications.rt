@@ -1,17 +1,36 @@
 //! Publications: a writer finds a free buffer, fills it, and makes it the current one.
 ghost use Rattle.std.specs.Prelude.{◌-◌, ◌≡◌, ℕ, ◌+◌, ◌<◌, ◌≤◌, ◌^◌, slice_index, [], IsTrue, IsFalse};
+ghost use Rattle.snap_register.specs.declared.plan.UpdatePhase.TheVariants.{Storing, Stored};
 ghost use Rattle.snap_history.specs.Limits.{IsNumber, IsShort};
-ghost use Rattle.snap_register.specs.Rule.{seats, buffers, next_other, moved_pool, Publishes, Follows, IsLegal};
+ghost use Rattle.snap_register.specs.Rule.{segments, seats, buffers, next_other, moved_pool, Publishes, Follows};
 ghost use Rattle.snap_register.specs.Held.{CanTake, MayTake, IsShown};
 ghost use Rattle.snap_register.specs.Steps.{view_of, pool_of, draft_of, Owns, IsFree, IsSameSeat, HasPool};
-ghost use Rattle.snap_register.specs.{History.entry, History.number, Setup.IsPool};
+ghost use Rattle.snap_register.specs.{History.entry, History.number, Setup.IsPool, Rule.IsLegal};
 
 use crate::access::{Access, PIN_RANGE};
 use crate::plan::MAX_BUFFERS;
-use crate::setup::{Check, Publish};
+use crate::setup::{Begin, Check, End, Publish};
 use crate::view::View;
 
 impl Access {
+    /// Notes that a store of the next update of segment `i` begins.
+    pub(crate) fn begin_store(&mut self, i: usize)
+        requires { i < segments (view_of self.old).plan }
+        ensures phase { self.new.seat.me ≡ (record (view_of self.old) { phase = Storing }, self.old.seat.me.1) }
+        ensures same { IsSameSeat self.old self.new }
+    {
+        self.table.shared.load::<Begin>(&mut self.seat, i);
+    }
+
+    /// Notes that this store has ended.
+    pub(crate) fn end_store(&mut self, i: usize)
+        requires { i < segments (view_of self.old).plan }
+        ensures phase { self.new.seat.me ≡ (record (view_of self.old) { phase = Stored }, self.old.seat.me.1) }
+        ensures same { IsSameSeat self.old self.new }
+    {
+        self.table.shared.load::<End>(&mut self.seat, i);
+    }
+
     /// Fills a free buffer of the seat's own register `i` with the record of the number `next`, this value and this
     /// view, and makes it the current one. Returns the buffer, and how many pins the old current word had counted.
     pub(crate) fn publish(

@@ -76,6 +76,8 @@ impl Stage {
             self.agrees = false;
             return;
         };
+        writer.begin_store();
+        writer.end_store();
         let number = show(writer, &value, view);
         self.expect(Event::Show(segment), Reply::Shown);
         self.expect(Event::Acknowledge(segment), Reply::Stored(number));

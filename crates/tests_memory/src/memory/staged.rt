@@ -213,6 +213,8 @@ fn show_late(writer: &mut WriteSeat, turn: &AtomicU64) -> bool {
     let view = prepare(writer);
     turn.store(1, Ordering::SeqCst);
     let is_turn = wait_for(turn, 2);
+    writer.begin_store();
+    writer.end_store();
     show(writer, b"a", view);
     turn.store(3, Ordering::SeqCst);
     is_turn

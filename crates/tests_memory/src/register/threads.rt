@@ -58,6 +58,8 @@ impl Writing {
             for _ in 0..TRIES {
                 if is_collected(&mut self.seat) {
                     let word = word_of_update(self.seat.segment(), number);
+                    self.seat.begin_store();
+                    self.seat.end_store();
                     self.last = self.seat.publish(&word.to_be_bytes(), &View::Collected);
                     break;
                 }

@@ -70,6 +70,8 @@ fn update(writer: &mut WriteSeat, value: &[u8]) -> bool {
     if writer.number() >= LAST_NUMBER {
         return false;
     }
+    writer.begin_store();
+    writer.end_store();
     show(writer, value, view);
     true
 }

@@ -27,7 +27,7 @@ loop-k-preserved c =
     let first = inv.first in
     let new : IsNewSeat z p 0 0 c.of.result =
     new_seat (Unit {0}) z p 0 0 c.of.result _ _ _ me c.of.ensures (given.0
-    ∙ (split.3 ∙ inv.table)) inv.plan first.seen_is refl refl refl in
+    ∙ (split.3 ∙ inv.table)) inv.plan first.seen_is refl refl refl first.phase_is in
     record {
       table = search rules;
       plan = search rules;

@@ -30,7 +30,7 @@ loop-i-preserved c =
     let new : IsNewSeat z p c.loop-i.i (c.loop-i.i + 1) c.of.result =
     new_seat (Unit {0}) z p _ _ c.of.result _ _ _ me c.of.ensures (given.0
     ∙ (split.3 ∙ inv.table)) inv.plan first.seen_is inv.low
-    (ap (λ (n : ℕ). n + 1) inv.low) refl in
+    (ap (λ (n : ℕ). n + 1) inv.low) refl first.phase_is in
     let more = writers_more z p c.loop-i.writers.items c.of.result inv.each
     (rw inv.count new) in
     let e = c.requires.sized.0.segments_are in

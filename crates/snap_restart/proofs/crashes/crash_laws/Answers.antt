@@ -1,6 +1,6 @@
 use Rattle.snap_history.proofs.Beginnings.{beginning-trans}
 use Rattle.snap_register.specs.Rule.{segments}
-use Rattle.snap_restart.proofs.LifeCrash.{cut_recovers, moment_consistent, moment_recovers}
+use Rattle.snap_restart.proofs.LifeCrash.{cut_recovers, instant_recovers, moment_consistent, moment_recovers}
 use Rattle.snap_restart.proofs.crashes.crash_laws.Goals as goal
 
 pub returns-clause-cut : goal.returns-clause-cut
@@ -8,6 +8,9 @@ returns-clause-cut g c = cut_recovers g.D.Disk
 
 pub returns-clause-consistent : goal.returns-clause-consistent
 returns-clause-consistent g c = moment_consistent
+
+pub returns-clause-instant : goal.returns-clause-instant
+returns-clause-instant g c = instant_recovers
 
 pub returns-clause-moment : goal.returns-clause-moment
 returns-clause-moment g c plan = moment_recovers g.D.Disk plan (segments plan)

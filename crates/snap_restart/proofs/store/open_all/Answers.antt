@@ -2,7 +2,7 @@ use Rattle.std.proofs.Common.{rules, ◌≡◌, ◌++◌, List, length, map, ap,
 use Rattle.std.proofs.lemmas.Simd.{map-map}
 use Rattle.snap_disk.specs.declared.refusal.Refusal.TheVariants.{NoMemory}
 use Rattle.snap_segment.specs.Segment.{SegmentState}
-use Rattle.snap_restart.proofs.NewSeats.{starts_are, fresh_are, back_are, paired_are}
+use Rattle.snap_restart.proofs.NewSeats.{unfenced_are, starts_are, fresh_are, back_are, paired_are}
 use Rattle.snap_restart.proofs.Crash.{opened, stay_kept, backs_opened, backs_stopped}
 use Rattle.snap_restart.{specs.Opened.recovered, proofs.Refusals.stopped_last, proofs.LifeDurability.stay_stored}
 use Rattle.snap_restart.proofs.store.open_all.Goals as goal
@@ -11,6 +11,7 @@ pub place_writers-requires-clause-starts : goal.place_writers-requires-clause-st
 place_writers-requires-clause-starts g c =
     let had = c.in-Ok-take_memory.ensures in
     starts_are had.seats.0 had.seats.1 c.in-Ok.opened.0.items _ had.seats.2 had.seats.3 had.counts.0
+    (unfenced_are g.D.Disk _ _ _ c.in-Ok.ensures.opened)
 
 pub returns-in-Ok-take_memory-clause-opened : goal.returns-in-Ok-take_memory-clause-opened
 returns-in-Ok-take_memory-clause-opened g c = rw c.place_writers.ensures.segments c.in-Ok.ensures.opened
@@ -18,21 +19,24 @@ returns-in-Ok-take_memory-clause-opened g c = rw c.place_writers.ensures.segment
 pub returns-in-Ok-take_memory-clause-starts : goal.returns-in-Ok-take_memory-clause-starts
 returns-in-Ok-take_memory-clause-starts g c =
     let had = c.in-Ok-take_memory.ensures in
-    paired_are had.seats.0 had.seats.1 _ _ had.seats.2 had.seats.3 had.counts.0 c.place_scanners.result.items _
+    paired_are had.seats.0 had.seats.1 _ _ had.seats.2 had.seats.3 had.counts.0
+    (unfenced_are g.D.Disk _ _ _ c.in-Ok.ensures.opened) c.place_scanners.result.items _
     c.place_writers.ensures.seats c.place_writers.ensures.segments
 
 pub returns-in-Ok-take_memory-clause-fresh : goal.returns-in-Ok-take_memory-clause-fresh
 returns-in-Ok-take_memory-clause-fresh g c =
     let had = c.in-Ok-take_memory.ensures in
     rw c.place_scanners.ensures (fresh_are had.seats.0 had.seats.1 c.in-Ok.opened.0.items _ had.seats.2 had.seats.3
-    had.counts.0 _ c.place_writers.result.items c.place_writers.ensures.seats had.seats.4)
+    had.counts.0 (unfenced_are g.D.Disk _ _ _ c.in-Ok.ensures.opened) _ c.place_writers.result.items
+    c.place_writers.ensures.seats had.seats.4)
 
 pub returns-in-Ok-take_memory-clause-back : goal.returns-in-Ok-take_memory-clause-back
 returns-in-Ok-take_memory-clause-back g c =
     let had = c.in-Ok-take_memory.ensures in
     let size = c.in-Ok.ensures.opened.size in
     rw c.place_scanners.ensures (back_are had.seats.0 had.seats.1 c.in-Ok.opened.0.items _ had.seats.2 had.seats.3
-    had.counts.0 _ c.place_writers.result.items c.place_writers.ensures.seats
+    had.counts.0 (unfenced_are g.D.Disk _ _ _ c.in-Ok.ensures.opened) _ c.place_writers.result.items
+    c.place_writers.ensures.seats
     (omega arith) (omega arith) (omega (arith, had.counts.1)) had.seats.4)
 
 pub returns-in-Ok-take_memory-clause-crash : goal.returns-in-Ok-take_memory-clause-crash

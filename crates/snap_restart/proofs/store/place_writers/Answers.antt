@@ -1,4 +1,5 @@
-use Rattle.std.proofs.Common.{length, refl, ap, arith}
+use Rattle.std.proofs.Common.{length, refl, ap, sym, ◌∙◌, arith}
+use Rattle.snap_writer.specs.Writer.{phase_of}
 use Rattle.std.proofs.lemmas.List.{length-append, length-map}
 use Rattle.snap_restart.proofs.Removals.{all_yielded, get_next}
 use Rattle.snap_restart.proofs.store.place_writers.Goals as goal
@@ -10,7 +11,11 @@ new-requires g c =
     let starts = c.requires.starts.each (length ws) _ _
     (get_next (λ w. w.segment) ws _ _ _ c.in-Some.segment inv.segments c.in-Some.ensures.steps.0)
     (get_next (λ w. w.seat) ws _ _ _ c.in-Some-next.seat inv.seats c.in-Some-next.ensures.cases.0) in
-    record { number = starts.number_is; value = starts.value_is }
+    record {
+      number = starts.number_is;
+      value = starts.value_is;
+      phase = starts.phase_is ∙ sym (ap phase_of starts.unfenced);
+    }
 
 pub returns-clause-segments : goal.returns-clause-segments
 returns-clause-segments g c =

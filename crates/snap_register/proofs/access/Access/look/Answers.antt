@@ -35,7 +35,7 @@ returns-clause-seen c =
     grows_is a.seat.table_id b.seat.table_id (view_of a) (view_of b) (search rules)
     (ap (λ (u : SeatView). u.plan) view) (ap (λ (u : SeatView). u.low) view)
     (ap (λ (u : SeatView). u.high) view) l.later
-    (λ i has. l.own i has (omega (arith, has.1, a.seated.seen_end_is)))
+    (λ i has. l.own i has (omega (arith, has.1, a.seated.seen_end_is))) (ap (λ (u : SeatView). u.phase) view)
 
 pub returns-clause-below : goal.returns-clause-below
 returns-clause-below c =

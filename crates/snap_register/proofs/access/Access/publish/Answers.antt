@@ -7,6 +7,7 @@ use Rattle.snap_register.specs.{declared.plan.Plan.Plan}
 use Rattle.snap_register.specs.{declared.plan.Pool.Pool, declared.plan.SeatView.SeatView, declared.view.View.View}
 use Rattle.snap_register.specs.{Held.taken, Words.AreBlocks}
 use Rattle.snap_register.proofs.{Blocks.block_stays, Later.publishes_count, Updates.follows_is}
+use Rattle.snap_register.specs.declared.plan.UpdatePhase.TheVariants.{Shown}
 use Rattle.snap_register.proofs.access.Access.publish.Goals as goal
 use Rattle.snap_register.proofs.access.Access.publish.Goals.{After-copy_view}
 
@@ -64,7 +65,7 @@ returns-clause-shown c =
     let u : SeatView = view_of c.copy_view.new.self in
     let w : SeatView = view_of c.swap-pins.new.self in
     let shown = c.swap-pins.ensures.shown in
-    let same : w ≡ record v { seen = w.seen; pool = w.pool } = search rules in
+    let same : w ≡ record v { seen = w.seen; pool = w.pool; phase = Shown } = search rules in
     let own = c.draft_value-filled.ensures.block in
     let stays = block_stays _ u.pool.draft 0 c.copy_view.ensures.prefix own.whole in
     record {

@@ -1,6 +1,7 @@
-use Rattle.std.proofs.Common.{rules, ◌*◌, ◌^◌, ◌≡◌, ℕ, ap, ◌∙◌}
+use Rattle.std.proofs.Common.{rules, ◌*◌, ◌^◌, ◌≡◌, ℕ, refl, ap, ◌∙◌}
 use Rattle.atomic_table.specs.Seated.{TableId}
-use Rattle.snap_register.proofs.Later.{seated_shown, publishes_later, sized_still}
+use Rattle.snap_register.proofs.Later.{seated_phase, seated_shown, publishes_later, sized_still}
+use Rattle.snap_register.specs.declared.plan.UpdatePhase.TheVariants.{Shown}
 use Rattle.snap_register.specs.{declared.plan.SeatView.SeatView, Steps.view_of}
 use Rattle.snap_register.proofs.{Pools.publishes, Places.word_inside}
 use Rattle.snap_register.proofs.access.Access.swap.Goals as goal
@@ -24,7 +25,7 @@ invariant_of-self c =
     record {
       own = step.0 ∙ me.own;
       sized = sized_still me (ap (λ (v : SeatView). v.plan) shown.same);
-      seated = seated_shown me.seated _ _ me.sized (ap (λ (t : TableId). t.words) step.0)
+      seated = seated_shown (seated_phase me.seated Shown refl refl) _ _ me.sized (ap (λ (t : TableId). t.words) step.0)
           (λ t. (shown.same t, step.2.2 t))
           (publishes_later (view_of me) c.swap-found.new.seat.me.0 c.args.i _ shown) shown.legal;
     }

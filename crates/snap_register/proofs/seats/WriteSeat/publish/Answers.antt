@@ -76,7 +76,7 @@ returns-clause-shown c =
     let n = c.publish-current.new.self.seat in
     rw (← c.self.view_is) (shown_is s.table_id n.table_id s.me.0 n.me.0 c.self.inside.segment (c.self.inside.number + 1)
     c.args.value.now c.publish-current.ensures.same.0.0 c.self.invariant.role.0
-    c.publish-current.ensures.shown)
+    c.publish-current.ensures.shown (ap (λ (x : Known). x.phase) c.self.view_is ∙ c.requires.stored))
 
 pub returns-clause-below : goal.returns-clause-below
 returns-clause-below c =

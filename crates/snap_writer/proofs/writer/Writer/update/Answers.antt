@@ -1,8 +1,9 @@
-use Rattle.std.proofs.Common.{rules, ◌≡◌, ℕ, ◌+◌, List, None, sym, subst}
+use Rattle.std.proofs.Common.{rules, ◌≡◌, ◌∙◌, ℕ, ◌+◌, List, None, ap, sym, subst}
 use Rattle.std.specs.Prelude.{OnOk}
 use Rattle.snap_disk.specs.Device.{IsSettled, MayLeave}
 use Rattle.snap_slot.specs.Layout.{IsFileOf}
-use Rattle.snap_writer.specs.{Judge.IsAnswer, Writer.number_of, declared.judgement.Judgement.Judgement}
+use Rattle.snap_register.specs.declared.plan.UpdatePhase.{TheVariants.Shown}
+use Rattle.snap_writer.specs.{Judge.IsAnswer, Writer.number_of, Writer.phase_of, declared.judgement.Judgement.Judgement}
 use Rattle.snap_writer.specs.declared.judgement.Judgement.TheVariants.{Go}
 use Rattle.snap_writer.proofs.{Judgements.one_rule, Untouched.untouched, Lives.went_on, Lives.lived_first}
 use Rattle.snap_writer.proofs.writer.Writer.update.Goals as goal
@@ -23,8 +24,9 @@ returns-in-Go g c =
     let judged = c.in-Go.ensures.rule in
     let next : number_of w + 1 ≡ k = sym judged.0.1 in
     let unfenced : w.segment.begun ≡ None = search rules in
+    let noted : w.seat.phase ≡ Shown = c.judge.ensures.phase ∙ ap phase_of unfenced in
     let did = c.advance.ensures in
-    let first = went_on g.D.Disk w c.advance.new.self v c.judge.ensures.shown unfenced did.honest
+    let first = went_on g.D.Disk w c.advance.new.self v c.judge.ensures.shown unfenced noted did.honest
     did.any_time told did.same_seat did.advances did.fails did.last did.either in
     record {
       updated = record {
