@@ -1,12 +1,14 @@
 -- Elements of a list: of one that was written, of one that a function made, of one with a partner
 -- at each place.
-use Rattle.std.proofs.Common.{rules, ◌≡◌, ◌≢◌, ℕ, zero, suc, ◌<◌, List, [], ◌∷◌, length, map, get_or, replicate, Some}
-use Rattle.std.proofs.lemmas.Option.{slice_get-map, slice_get_read, slice_get_within, same_Some}
-use Rattle.std.proofs.Common.{slice_get, slice_set, refl, ap, ◌∙◌, subst, arith}
-use Rattle.std.{proofs.lemmas.List.length-map, specs.Prelude.option_map}
-use Rattle.snap_history.{proofs.Pairs.element, specs.Pairs.Pairs}
-
 -- what holds for the element that was written and for all others holds for each element
+use Rattle.std.proofs.Common.{rules, ◌≡◌, ◌≢◌, ℕ, zero, suc, ◌<◌, List, [], ◌∷◌, length, map, get_or, replicate, Some}
+use Rattle.std.proofs.Common.{slice_get, slice_set, refl, ap, ◌∙◌, subst, arith}
+use Rattle.std.proofs.lemmas.Option.{slice_get-map, slice_get_read, slice_get_within, same_Some}
+use Rattle.std.proofs.{lemmas.List.length-map}
+use Rattle.std.specs.{Prelude.option_map}
+use Rattle.snap_history.proofs.{Pairs.element}
+use Rattle.snap_history.specs.{Pairs.Pairs}
+
 pub each-set : {A : Type 0} (P : ℕ → A → Type 0) (xs : List A) (i : ℕ) (x : A) → P i x → ((j : ℕ) (y : A) → j ≢ i
     → slice_get xs j ≡ Some y → P j y) → (j : ℕ) (y : A) → slice_get (slice_set xs i x) j ≡ Some y → P j y
 each-set P [] i x here others j y e = cc
@@ -17,15 +19,13 @@ each-set P (z ∷ xs) (suc i) x here others (suc j) y e = each-set (λ k. P (suc
 
 -- an element that was written
 pub set_is : {A : Type 0} (xs : List A) (i : ℕ) (x y : A) → slice_get (slice_set xs i x) i ≡ Some y → x ≡ y
-set_is [] i x y e = cc
-set_is (z ∷ xs) zero x y e = cc
 set_is (z ∷ xs) (suc i) x y e = set_is xs i x y e
+set_is xs i x y e = cc
 
 -- an element that is written where it was
 pub set_same : {A : Type 0} (xs : List A) (i : ℕ) (x : A) → slice_get xs i ≡ Some x → slice_set xs i x ≡ xs
-set_same [] i x e = refl
-set_same (z ∷ xs) zero x e = cc
-set_same (z ∷ xs) (suc i) x e = let rest = set_same xs i x e in cc
+set_same (z ∷ xs) (suc i) x e = cc (set_same xs i x e)
+set_same xs i x e = cc
 
 -- two reads of one place
 pub same_read : {A : Type 0} (xs : List A) (i : ℕ) (a b : A) → i < length xs → a ≡ get_or xs i a
@@ -42,8 +42,7 @@ pub map_at : {A B : Type 0} (f : A → B) (xs : List A) (i : ℕ) (a : A) → sl
 map_at f xs i a there = slice_get-map f xs i ∙ ap (option_map f) there
 
 -- in a mapped list with an element at this place: an element that was read, and its image
-module _ {A B : Type 0} (f : A → B) (xs : List A) (i : ℕ) (b : B)
-    (is : slice_get (map f xs) i ≡ Some b) where
+module _ {A B : Type 0} (f : A → B) (xs : List A) (i : ℕ) (b : B) (is : slice_get (map f xs) i ≡ Some b) where
   pub map_within : i < length xs
   map_within = let a = map_element f xs i b is in slice_get_within xs i a.0 a.1
 
@@ -54,28 +53,17 @@ module _ {A B : Type 0} (f : A → B) (xs : List A) (i : ℕ) (b : B)
 pub map_same : {A B : Type 0} (f : A → B) (xs ys : List A) → length xs ≡ length ys
     → ((i : ℕ) (a b : A) → slice_get xs i ≡ Some a → slice_get ys i ≡ Some b → f a ≡ f b) → map f xs ≡ map f ys
 map_same f [] [] size each = refl
-map_same f [] (y ∷ ys) size each = absurd (omega arith)
-map_same f (x ∷ xs) [] size each = absurd (omega arith)
-map_same f (x ∷ xs) (y ∷ ys) size each =
-    let head : f x ≡ f y = each 0 x y refl refl in
-    let rest : map f xs ≡ map f ys = map_same f xs ys (omega arith) (λ i a b ea eb. each (suc i) a b ea eb) in
-    cc
+map_same f (x ∷ xs) (y ∷ ys) size each = cc (each 0 x y refl refl, map_same f xs ys (omega arith) (λ i. each (suc i)))
+map_same f xs ys size each = absurd (omega arith)
 
 pub all_same : {A B : Type 0} (f : A → B) (v : B) (xs : List A) (n : ℕ) → length xs ≡ n
     → ((i : ℕ) (x : A) → slice_get xs i ≡ Some x → f x ≡ v) → map f xs ≡ replicate n v
 all_same f v [] zero size each = refl
-all_same f v [] (suc n) size each = absurd (omega arith)
-all_same f v (x ∷ xs) zero size each = absurd (omega arith)
-all_same f v (x ∷ xs) (suc n) size each =
-    let head : f x ≡ v = each 0 x refl in
-    let rest : map f xs ≡ replicate n v = all_same f v xs n (omega arith) (λ i y. each (suc i) y) in
-    cc
+all_same f v (x ∷ xs) (suc n) size each = cc (each 0 x refl, all_same f v xs n (omega arith) (λ i. each (suc i)))
+all_same f v xs n size each = absurd (omega arith)
 
 -- the element that an element of the second list is paired with
 pub origin : {A B : Type 0} {R : ℕ → A → B → Type 0} {xs : List A} {ys : List B} (i : ℕ) (b : B)
     → Pairs R xs ys → slice_get ys i ≡ Some b → (a : A) × (slice_get xs i ≡ Some a) × R i a b
 origin {xs = xs} {ys = ys} i b p e =
-    let low : i < length ys = slice_get_within ys i b e in
-    let size : length xs ≡ length ys = p.size in
-    let a = element xs i (omega arith) in
-    (a.0, a.1, p.each i a.0 b a.1 e)
+    let a = element xs i (omega (arith, slice_get_within ys i b e, p.size)) in (a.0, a.1, p.each i a.0 b a.1 e)

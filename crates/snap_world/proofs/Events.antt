@@ -1,31 +1,34 @@
 -- An event of a writer or a scanner, as a step of the node, with the devices meanwhile; an event that may not come.
+-- device i changes
+use Rattle.snap_persist.specs.Stage.{PersistState, calls_left, first_stage}
 use Rattle.std.proofs.Common.{rules, map, ◌≡◌, ◌≢◌, ℕ, ◌+◌, Bool, false, true, List, [], ◌∷◌, ◌++◌, Some, slice_get}
-use Rattle.snap_world.specs.inside.NodeSteps.{IsNodeStep, IsActorsStep, node_of, phases_of_node, devices_of_node}
 use Rattle.std.proofs.Common.{slice_set, refl, sym, ◌∙◌, subst, ◌<◌, length, Result, Ok, Err, IfOk}
-use Rattle.std.{specs.declared.alloc.AllocError.AllocError, proofs.lemmas.Bool.cases_eq, proofs.lemmas.List.map-set}
-use Rattle.std.{proofs.Math.Logic.∥∥₁_map, specs.Global.Vec}
-use Rattle.snap_disk.specs.Device.{Device}
-use Rattle.snap_persist.specs.{Stage.PersistState, Stage.calls_left, Stage.first_stage, declared.persist.Stage.Stage}
-use Rattle.snap_persist.proofs.Stages.{begins}
 use Rattle.snap_history.proofs.Moments.{number-push, number-push_other, value-push, value-push_other}
 use Rattle.snap_history.specs.History.{Update, from_nothing, number_after, value_after}
-use Rattle.snap_history.proofs.Lists.{get-set_other}
-use Rattle.snap_world.specs.inside.Drives.{IsReady, IsStoreUnderWay, DriveStands, DrivesStand, device_of}
 use Rattle.snap_world.specs.Machine.{WriterState, State, ScannerState, Step, with_writer, with_scanner}
-use Rattle.snap_world.proofs.PhaseMoves.{with_actors_writer, with_actors_scanner, writer_moved}
-use Rattle.snap_world.specs.inside.Stands.{ActorsStand, Stand, WriterStands, ScannerStands}
+use Rattle.snap_world.specs.inside.NodeSteps.{IsNodeStep, IsActorsStep, node_of, phases_of_node, devices_of_node}
+use Rattle.snap_world.specs.inside.NodeSteps.{store_left}
+use Rattle.snap_world.specs.inside.Drives.{IsReady, IsStoreUnderWay, DriveStands, DrivesStand, device_of}
 use Rattle.snap_world.specs.inside.NodeStands.{NodeStands, NodeStand, IsUp, IsNodeAt}
-use Rattle.snap_world.specs.{NodePhases.WorldPhases, NodePhases.MayCome, NodePhases.PhasesMove, declared.node.Node.Node}
-use Rattle.snap_world.specs.{Devices.Changes, Devices.DevicesMove, Devices.GatesTold, declared.scanner.Scanner.Scanner}
-use Rattle.snap_world.specs.declared.{writer.WriterPhase.WriterPhase, event.Reply.TheVariants.NotNow, drive.Drive.Drive}
-use Rattle.snap_world.specs.declared.{event.Event.TheVariants.Serve, node.NodePhase.TheVariants.Up, event.Event.Event}
-use Rattle.snap_world.{proofs.Moves.writer_moves, proofs.Moves.scanner_moves, specs.inside.Steps.phases_of_actors}
-use Rattle.snap_world.specs.{declared.actors.Actors.Actors, declared.writer.Writer.Writer, inside.NodeSteps.store_left}
-use Rattle.snap_world.{specs.declared.event.Reply.Reply, proofs.Elements.set_is, proofs.Elements.map_at}
-use Rattle.snap_world.specs.Phases.{Phases}
+use Rattle.snap_world.specs.inside.Stands.{ActorsStand, Stand, WriterStands, ScannerStands}
+use Rattle.snap_world.specs.NodePhases.{WorldPhases, MayCome, PhasesMove}
+use Rattle.snap_world.specs.Devices.{Changes, DevicesMove, GatesTold}
+use Rattle.snap_world.proofs.PhaseMoves.{with_actors_writer, with_actors_scanner, writer_moved}
+use Rattle.snap_persist.specs.{declared.persist.Stage.Stage}
+use Rattle.snap_persist.proofs.{Stages.begins}
+use Rattle.std.specs.{declared.alloc.AllocError.AllocError, Global.Vec}
+use Rattle.std.proofs.{lemmas.List.map-set, lemmas.Bool.cases_eq, Math.Logic.∥∥₁_map}
+use Rattle.snap_history.proofs.{Lists.get-set_other}
+use Rattle.snap_world.specs.{inside.Steps.phases_of_actors, declared.writer.WriterPhase.WriterPhase}
+use Rattle.snap_world.specs.{declared.writer.Writer.Writer, declared.actors.Actors.Actors}
+use Rattle.snap_world.specs.{declared.scanner.Scanner.Scanner, declared.node.Node.Node}
+use Rattle.snap_world.specs.{declared.node.NodePhase.TheVariants.Up, declared.event.Event.TheVariants.Serve}
+use Rattle.snap_world.specs.{declared.event.Event.Event, declared.event.Reply.TheVariants.NotNow}
+use Rattle.snap_world.specs.{declared.event.Reply.Reply, declared.drive.Drive.Drive, Phases.Phases}
+use Rattle.snap_world.proofs.{Elements.set_is, Elements.map_at, Moves.writer_moves, Moves.scanner_moves}
+use Rattle.snap_disk.specs.{Device.Device}
 use Rattle.snap_world.specs.declared.writer.WriterPhase.TheVariants as writer
 
--- device i changes
 pub device_changes : (ds : List Drive) (i : ℕ) (d e : Drive) → slice_get ds i ≡ Some d → (R : Device → Device → Type 0)
     → R (device_of d) (device_of e) → Changes i R (map device_of ds) (map device_of (slice_set ds i e))
 device_changes ds i d e there R change = search (rules, map_at, map-set)
@@ -76,8 +79,7 @@ module _ (n : ℕ) (h : List Update) (ss : List WriterState) (ps : List WriterPh
       (λ j ne. (
         sym (number-push_other from_nothing h u j (λ e. ne (sym e))),
         sym (value-push_other from_nothing h u j (λ e. ne (sym e))),
-      ))
-      (λ d ph ed eq. (
+      )) (λ d ph ed eq. (
       let At : ℕ → List ℕ → Type 0 = λ k z. IsReady w n k z (device_of d) d.persist in
       subst (λ z. DriveStands n (h ++ u ∷ []) w z t.pending d) (set_is ps w writer.Shown ph eq)
       (subst (At (number_after from_nothing (h ++ u ∷ []) w)) (sym (value-push from_nothing h u))

@@ -1,18 +1,20 @@
 -- A fill for each device, whatever a crash left of them.
+-- each device is short enough for an index
+use Rattle.snap_world.specs.Devices.{AreRefilled, Changes, IsRefilled}
+use Rattle.snap_world.specs.Crashes.{CrashMayLeave, SomeCrashLeaves, AnyCrash, CrashInsideAnyWrite, AnyFault}
 use Rattle.std.proofs.Common.{rules, ◌≡◌, ℕ, zero, suc, ◌^◌, ◌<◌, List, [], ◌∷◌, length, map, Some, slice_get}
 use Rattle.std.proofs.Common.{slice_set, refl, sym, ◌∙◌, ap, subst, arith}
-use Rattle.std.proofs.lemmas.{Option.slice_get_within, Option.same_Some, List.length-set, List.length-map}
-use Rattle.std.{proofs.lemmas.Bool.or_parts, specs.Global.Vec}
 use Rattle.snap_disk.specs.Device.{Device, in_range, opened, IsTouched, IsUnsynced}
-use Rattle.snap_disk.{proofs.Fills.vec_of, proofs.Fills.any_crash, proofs.Fills.any_failed_write, specs.Fills.SomeFill}
-use Rattle.snap_disk.specs.declared.fill.Fill.{TheVariants.At, Fill}
-use Rattle.snap_history.proofs.Lists.{get-set_same, get-set_other}
-use Rattle.snap_world.specs.Crashes.{CrashMayLeave, SomeCrashLeaves, AnyCrash, CrashInsideAnyWrite, AnyFault}
-use Rattle.snap_world.specs.{Devices.AreRefilled, Devices.Changes, Devices.IsRefilled, declared.drive.Drive.Drive}
-use Rattle.snap_world.{proofs.Elements.map_element, proofs.Elements.each-set, specs.declared.world.World.World}
-use Rattle.snap_world.specs.{inside.Drives.device_of, Surface.devices_of}
+use Rattle.snap_disk.proofs.Fills.{vec_of, any_crash, any_failed_write}
+use Rattle.snap_world.specs.{Surface.devices_of, declared.drive.Drive.Drive, declared.world.World.World}
+use Rattle.snap_world.specs.{inside.Drives.device_of}
+use Rattle.snap_world.proofs.{Elements.map_element, Elements.each-set}
+use Rattle.std.specs.{Global.Vec}
+use Rattle.std.proofs.{lemmas.Bool.or_parts, lemmas.Option.slice_get_within, lemmas.Option.same_Some}
+use Rattle.std.proofs.{lemmas.List.length-set, lemmas.List.length-map}
+use Rattle.snap_history.proofs.{Lists.get-set_same, Lists.get-set_other}
+use Rattle.snap_disk.specs.{declared.fill.Fill.TheVariants.At, declared.fill.Fill.Fill, Fills.SomeFill}
 
--- each device is short enough for an index
 abbrev pub AllSmall : List Device → Type 0
 AllSmall devices = (i : ℕ) (d : Device) → slice_get devices i ≡ Some d → length d.bytes < 2 ^ 63
 
@@ -34,11 +36,8 @@ fills_for [] left small may = ([], refl, record { size = may.size; each = λ i a
 fills_for (d ∷ old) [] small may = absurd (omega (arith, may.size))
 fills_for (d ∷ old) (e ∷ left) small may =
     let here = refilled d e (small 0 d refl) (may.each 0 d e refl refl) in
-    let same : length (d ∷ old) ≡ length (e ∷ left) = may.size in
-    let rest = fills_for old left (λ i. small (suc i)) (record {
-      size = omega (arith, same);
-      each = λ i. may.each (suc i);
-    }) in (
+    let rest = fills_for old left (λ i. small (suc i))
+    (record { size = omega (arith, may.size); each = λ i. may.each (suc i) }) in (
       here.0 ∷ rest.0,
       ap suc rest.1,
       record { size = may.size; each = cons_refilled here.0 rest.0 d e old left here.1 rest.2 },
@@ -48,22 +47,19 @@ crash_of : (devices : List Device) → length devices < 2 ^ 63 → AllSmall devi
     → (left : List Device) → CrashMayLeave devices left → SomeCrashLeaves devices left
 crash_of devices few small left may =
     let f = fills_for devices left small may in
-    let size : length f.0 ≡ length devices = f.1 in
-    record { fills = vec_of f.0 (omega (arith, size, few)); one_each = f.1; filled = f.2 }
+    record { fills = vec_of f.0 (omega (arith, f.1, few)); one_each = f.1; filled = f.2 }
 
 -- whatever a crash inside a write leaves of a device, one right after the write leaves
 inside : (at n : ℕ) (old new left : Device) → IsTouched at n old new
     → IsUnsynced (opened at n old) left → IsUnsynced new left
 inside at n old new left touched is = search (rules, or_parts)
 
-module _ (devices : List Device) (w at n : ℕ) (device : Device)
-    (there : slice_get devices w ≡ Some device) where
+module _ (devices : List Device) (w at n : ℕ) (device : Device) (there : slice_get devices w ≡ Some device) where
   -- one device is written
   after_write : (new : Device) (left : List Device) → IsTouched at n device new
       → CrashMayLeave (slice_set devices w (opened at n device)) left → CrashMayLeave (slice_set devices w new) left
   after_write new left touched may =
-      let within : w < length devices = slice_get_within devices w device there in
-      record {
+      let within : w < length devices = slice_get_within devices w device there in record {
         size = length-set devices w new ∙ sym (length-set devices w (opened at n device)) ∙ may.size;
         each = λ i a b ea eb. each-set (λ j c. (d : Device) → slice_get left j ≡ Some d
             → IsUnsynced c d) devices w new (λ d ed. inside at n device new d touched
@@ -72,10 +68,8 @@ module _ (devices : List Device) (w at n : ℕ) (device : Device)
       }
 
   small_after : (new : Device) → IsTouched at n device new → AllSmall devices → AllSmall (slice_set devices w new)
-  small_after new touched small =
-      let size : length new.bytes ≡ length device.bytes = touched.bytes_elsewhere.size in
-      let here : length device.bytes < 2 ^ 63 = small w device there in
-      each-set (λ j d. length d.bytes < 2 ^ 63) devices w new (omega (arith, size, here)) (λ j d ne e. small j d e)
+  small_after new touched small = each-set (λ j d. length d.bytes < 2 ^ 63) devices w new
+      (omega (arith, touched.bytes_elsewhere.size, small w device there)) (λ j d ne. small j d)
 
 crash_inside_of : (devices : List Device) → length devices < 2 ^ 63 → AllSmall devices → (w at n : ℕ) (device : Device)
     (after left : List Device) → slice_get devices w ≡ Some device → Changes w (IsTouched at n) devices after

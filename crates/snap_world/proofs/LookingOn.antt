@@ -1,36 +1,42 @@
 -- The events of a scan as steps of the actors: what a scanner is asked for, one look, also of a writer's embedded
 -- scan, and the reply.
-use Rattle.std.proofs.Common.{rules, ◌≡◌, ℕ, suc, ◌^◌, ◌<◌, ◌≤◌, List, [], ◌∷◌, length, map, take, Some, slice_get}
-use Rattle.snap_world.specs.Answers.{ScanState, scan_from, IsAnswer, all_of, set_of, value_at, entry_at, part_at}
-use Rattle.snap_world.specs.inside.Gathers.{IsSeen, entry_in, value_in, Gathers, IsLookOf, IsUnderWay, MayLook}
-use Rattle.snap_world.specs.Machine.{State, Closed, Opened, with_scanner, WriterState, ScannerState, IsLook}
-use Rattle.snap_world.proofs.PhaseMoves.{with_actors_scanner, scanner_moved, writers_phases, writer_read, scanner_read}
-use Rattle.std.proofs.Common.{refl, ap, sym, ◌∙◌, subst, arith, ◌⊎◌, inl, inr, ◌++◌, get_or}
-use Rattle.std.proofs.lemmas.{Option.get_or_from_slice_get, Option.slice_get_within, Option.same_Some, Nat.pow_pos}
-use Rattle.std.{proofs.Math.Nat.pow-le-pow_right, proofs.Math.Logic.∥∥₁_map, specs.Global.Vec}
-use Rattle.snap_world.proofs.PhaseMoves.{scanner_there, with_actors_writer, writer_moved, writer_kept, scanner_kept}
-use Rattle.snap_world.proofs.Moves.{whole, WriterFound, ScannerFound, the_writer, the_scanner, within, answered}
-use Rattle.snap_world.specs.inside.Stands.{ActorsStand, Stand, WriterStands, ScannerStands, HasBegun}
-use Rattle.snap_world.specs.declared.event.Reply.TheVariants.{ScanBegun, Memory, Part, Number}
-use Rattle.snap_world.proofs.Events.{up_at, came, store_begins, writer_goes, scanner_goes}
-use Rattle.snap_world.specs.{Phases.ScannerIs, Phases.scanner_to, Phases.WriterIs, Phases.writer_to, Answers.number_at}
-use Rattle.snap_world.specs.inside.{Steps.phases_of_actors, Steps.asking, Steps.IsReplyOf, Gathers.RegistersStand}
-use Rattle.snap_world.specs.declared.{event.Event.TheVariants.Answer, event.Event.TheVariants.Look, scanner.Asked.Asked}
-use Rattle.snap_world.specs.declared.scanner.{Asked.TheVariants.All, Asked.TheVariants.Only, ScannerPhase.ScannerPhase}
-use Rattle.snap_world.specs.declared.{writer.WriterPhase.WriterPhase, collector.Collector.Collector, drive.Drive.Drive}
-use Rattle.snap_world.{proofs.Looks.undecided, proofs.Looks.decided, proofs.Looks.look_from, specs.Machine.with_writer}
-use Rattle.snap_world.specs.declared.{register.Register.Register, scanner.Scanner.Scanner, actors.Actors.Actors}
-use Rattle.snap_world.specs.{NodePhases.WorldPhases, NodePhases.LooksOn, inside.NodeSteps.IsActorsStep}
-use Rattle.snap_world.specs.{declared.writer.Writer.Writer, declared.event.Reply.Reply, inside.Drives.DriveStands}
-use Rattle.snap_world.specs.inside.NodeStands.{IsUp}
+-- a scan of all segments names existing ones
 use Rattle.snap_history.specs.History.{Update, from_nothing, IsMemory}
-use Rattle.snap_scan.specs.{declared.set.SegmentSet.SegmentSet, Sets.named, Sets.size, Sets.IsAt, Looks.IsDecided}
-use Rattle.snap_scan.proofs.Sets.{some}
+use Rattle.snap_scan.specs.Sets.{named, size, IsAt}
+use Rattle.snap_world.specs.Phases.{ScannerIs, scanner_to, WriterIs, writer_to}
+use Rattle.snap_world.specs.Machine.{State, Closed, Opened, with_scanner, WriterState, ScannerState, IsLook}
+use Rattle.snap_world.specs.Machine.{with_writer}
+use Rattle.snap_world.specs.declared.event.Reply.TheVariants.{ScanBegun, Memory, Part, Number}
+use Rattle.snap_world.specs.Answers.{ScanState, scan_from, IsAnswer, all_of, set_of, value_at, entry_at, part_at}
+use Rattle.snap_world.specs.inside.Steps.{phases_of_actors, asking, IsReplyOf}
+use Rattle.snap_world.specs.inside.Stands.{ActorsStand, Stand, WriterStands, ScannerStands, HasBegun}
+use Rattle.snap_world.specs.inside.Gathers.{IsSeen, entry_in, value_in, Gathers, IsLookOf, IsUnderWay, MayLook}
+use Rattle.snap_world.specs.inside.Gathers.{RegistersStand}
+use Rattle.snap_world.proofs.PhaseMoves.{with_actors_scanner, scanner_moved, writers_phases, writer_read, scanner_read}
+use Rattle.snap_world.proofs.PhaseMoves.{scanner_there, with_actors_writer, writer_moved, writer_kept, scanner_kept}
+use Rattle.snap_world.proofs.Looks.{undecided, decided, look_from}
+use Rattle.snap_world.proofs.Events.{up_at, came, store_begins, writer_goes, scanner_goes}
+use Rattle.snap_world.proofs.Moves.{whole, WriterFound, ScannerFound, the_writer, the_scanner, within, answered}
+use Rattle.std.proofs.Common.{rules, ◌≡◌, ℕ, suc, ◌^◌, ◌<◌, ◌≤◌, List, [], ◌∷◌, length, map, take, Some, slice_get}
+use Rattle.std.proofs.Common.{refl, ap, sym, ◌∙◌, subst, arith, ◌⊎◌, inl, inr, ◌++◌, get_or}
+use Rattle.std.proofs.lemmas.Option.{get_or_from_slice_get, slice_get_within, same_Some}
+use Rattle.snap_scan.proofs.{Sets.some}
+use Rattle.snap_scan.specs.{declared.set.SegmentSet.SegmentSet}
+use Rattle.snap_world.specs.{NodePhases.WorldPhases, NodePhases.LooksOn, declared.scanner.Scanner.Scanner}
+use Rattle.snap_world.specs.{declared.scanner.ScannerPhase.ScannerPhase, declared.scanner.Asked.TheVariants.All}
+use Rattle.snap_world.specs.{declared.scanner.Asked.TheVariants.Only, declared.scanner.Asked.Asked}
+use Rattle.snap_world.specs.{declared.collector.Collector.Collector, declared.writer.WriterPhase.WriterPhase}
+use Rattle.snap_world.specs.{declared.writer.Writer.Writer, declared.register.Register.Register}
+use Rattle.snap_world.specs.{declared.drive.Drive.Drive, declared.actors.Actors.Actors}
+use Rattle.snap_world.specs.{declared.event.Event.TheVariants.Answer, declared.event.Event.TheVariants.Look}
+use Rattle.snap_world.specs.{declared.event.Reply.Reply, inside.NodeStands.IsUp, inside.Drives.DriveStands}
+use Rattle.snap_world.specs.{inside.NodeSteps.IsActorsStep}
+use Rattle.std.proofs.{Math.Nat.pow-le-pow_right, Math.Logic.∥∥₁_map, lemmas.Nat.pow_pos}
+use Rattle.std.specs.{Global.Vec}
 use Rattle.snap_world.specs.declared.scanner.ScannerPhase.TheVariants as scanner
 use Rattle.snap_world.specs.declared.event.Actor.TheVariants as actor
 use Rattle.snap_world.specs.declared.writer.WriterPhase.TheVariants as writer
 
--- a scan of all segments names existing ones
 pub all_among : (n : ℕ) → all_of n < 2 ^ n
 all_among n = let pos : 0 < 2 ^ n = pow_pos n in omega arith
 
@@ -46,14 +52,11 @@ IsAnswer-as a As is = record { p = a.p; moment = a.moment; is_moment = a.is_mome
 entries : (h : List Update) (set : ℕ) (memory : List (List ℕ)) (p : ℕ) → IsSeen set h memory p
     → map (entry_in memory) (named set) ≡ part_at set h p
 entries h set memory p seen = same (named set) (λ place j at.
-    get_or_from_slice_get memory j (value_at h p j) [] (seen place j at))
-  where
-    same : (js : List ℕ) → ((place j : ℕ) → slice_get js place ≡ Some j → value_in memory j ≡ value_at h p j)
-        → map (entry_in memory) js ≡ map (entry_at h p) js
-    same [] alike = refl
-    same (j ∷ js) alike =
-        ap (λ v. (let e : ℕ × List ℕ = (j, v) in e) ∷ map (entry_in memory) js) (alike 0 j refl)
-        ∙ ap (λ es. entry_at h p j ∷ es) (same js (λ place l at. alike (suc place) l at))
+    get_or_from_slice_get memory j (value_at h p j) [] (seen place j at)) where
+      same : (js : List ℕ) → ((place j : ℕ) → slice_get js place ≡ Some j → value_in memory j ≡ value_at h p j)
+          → map (entry_in memory) js ≡ map (entry_at h p) js
+      same [] alike = refl
+      same (j ∷ js) alike = cc (alike 0 j refl, same js (λ place. alike (suc place)))
 
 module _ (w : Actors) (i : ℕ) (a : Scanner) where
   moves : (p : ScannerPhase) → a.phase ≡ p → (ds : Vec Drive)
@@ -74,8 +77,7 @@ module _ (w : Actors) (i : ℕ) (a : Scanner) where
         refl,
         is,
         (some, subst (λ m. set.bits < 2 ^ m) (sym (writers_phases w x stands)) among),
-      ))
-      (λ ds x stands. moves scanner.Scanning phase ds)
+      )) (λ ds x stands. moves scanner.Scanning phase ds)
 
   -- a scanner answers what it was asked for
   pub answers : (asked : Asked) (memory : List (List ℕ)) (reply : Reply) → IsReplyOf asked memory reply
@@ -95,15 +97,13 @@ module _ (w : Actors) (i : ℕ) (a : Scanner) where
           refl,
         ),
         f.4,
-      )))
-      (λ ds x stands. (refl, ready)) (λ ds x stands. moves scanner.Idle phase ds)
+      ))) (λ ds x stands. (refl, ready)) (λ ds x stands. moves scanner.Idle phase ds)
   answers (Only set) memory (Part m) is ready phase goes = came w _ _ _ (λ e. cc) (λ _ _ _ _ _ _. (refl, tt)) refl
       (λ ds x up. (let f = goes ds x up in (
         _,
         (set, f.0, f.1, IsAnswer-as f.2 _ (is ∙ entries x.history set.bits memory f.2.p f.2.is), refl),
         f.4,
-      )))
-      (λ ds x stands. (refl, ready)) (λ ds x stands. moves scanner.Idle phase ds)
+      ))) (λ ds x stands. (refl, ready)) (λ ds x stands. moves scanner.Idle phase ds)
   answers All memory reply is ready phase goes = absurd is
   answers (Only set) memory reply is ready phase goes = absurd is
 
@@ -140,14 +140,7 @@ module _ {n set k : ℕ} {x : State} {s t : ScanState} {c : Collector} (look : I
   -- the phases that the actors then have
   looks_on : {P Q : Type 0} (phases : P → Q) (p r q : P) (now next : Q) → phases p ≡ now
       → phases r ≡ next → Ends c p r q → LooksOn set (s.told ++ k ∷ []) now next (phases q)
-  looks_on phases p r q now next kept moved ends =
-      let told : t.told ≡ s.told ++ k ∷ [] = ap (λ (z : ScanState). z.told) look.after in
-      ends_in c p r q (λ z. LooksOn set (s.told ++ k ∷ []) now next (phases z)) ends (λ goes. (
-      let none = subst (λ L. IsDecided (size set) L → ⊥) told
-      (undecided set t.told c.scan.next goes.0 gathers.next goes.1) in
-      record { ends = λ has. absurd (none has); goes_on = λ _. kept; either = inr kept })) (λ done. (
-      let has = subst (IsDecided (size set)) told (decided set t.told c.scan.next gathers.next (λ j e. done (j, e))) in
-      record { ends = λ _. moved; goes_on = λ none. absurd (none has); either = inl moved }))
+  looks_on phases p r q now next kept moved ends = grind (arith, ends_in, undecided, decided, look.after)
 
 module _ (w : Actors) (i : ℕ) (is : WriterIs (phases_of_actors w) i writer.Scanning) (old : Writer)
     (read : old ≡ get_or w.writers.items i old) where
@@ -175,37 +168,17 @@ module _ (w : Actors) (i : ℕ) (is : WriterIs (phases_of_actors w) i writer.Sca
       told : (t : ScanState) × IsLook (all_of w.segments) x (at x stands).state.scan k t
           × Gathers w.segments (all_of w.segments) x.history t c
       told =
-          let a = at x stands in
-          look w.segments (all_of w.segments) x stands.since a.state.scan a.phase.0.born
+          let a = at x stands in look w.segments (all_of w.segments) x stands.since a.state.scan a.phase.0.born
           stands.registers a.phase.0.gathers
 
       abbrev next : WriterState
       next = record (at x stands).state { scan = told.0 }
 
       begun : HasBegun w.segments x.history stands.since i old.value c next
-      begun =
-          let before = (at x stands).phase.0 in
-          let start = start_is told.1 told.2 in
-          record {
-            born = subst (λ b. stands.since ≤ b) (sym start) before.born;
-            pending = before.pending;
-            fits = before.fits;
-            room = before.room;
-            own = ap (λ b. number_at x.history b i) start ∙ before.own;
-            gathers = told.2;
-          }
+      begun = grind (arith, at, start_is, told)
 
       stands_on : WriterStands w.segments x.history stands.since i (writer_in q) next
-      stands_on =
-          let fenced = (at x stands).fenced in
-          let answer = answered (all_of w.segments) x.history told.0 c.memory.items c.scan.next in
-          ends_in c writer.Scanning writer.Storing q
-          (λ p. WriterStands w.segments x.history stands.since i (writer_in p) next) ends
-          (λ goes. record { size = told.2.size; fenced = fenced; phase = (begun, goes) }) (λ done. record {
-            size = told.2.size;
-            fenced = fenced;
-            phase = (begun, answer (λ j e. done (j, e)) told.2.gathered);
-          })
+      stands_on = grind (arith, at, answered, told, ends_in, begun)
 
       -- the device is ready, also for a store of any value
       device_on : (d : Drive) → DriveStands w.segments x.history i writer.Scanning next.pending d
@@ -223,8 +196,7 @@ module _ (w : Actors) (i : ℕ) (is : WriterIs (phases_of_actors w) i writer.Sca
           writer_goes w ds x up i (writer_in q) a.state (next x stands) (within w x stands i is)
               a.there refl (stands_on x stands)
               (λ d ed. device_on x stands d (up.drives_stand i d a.state writer.Scanning ed a.there is)),
-        )))
-        (λ ds x stands. (refl, is)) (λ ds x stands s e. (
+        ))) (λ ds x stands. (refl, is)) (λ ds x stands s e. (
         let a = at x stands in
         let t = told x stands in
         let p = up_at ds (phases_of_actors w) in
@@ -253,8 +225,7 @@ module _ (w : Actors) (i : ℕ) (is : ScannerIs (phases_of_actors w) i scanner.S
 
   pub scanner_can_look : Stand w → IsUnderWay old.collector × MayLook w.registers.items old.collector
   scanner_can_look stand = can_look w.registers.items old.collector (∥∥₁_map stand (λ q. (
-      let a = (scanner_at q.0 q.1).phase in
-      (w.segments, set, q.0, q.1.since, a.0, a.2, q.1.registers, a.3, a.4))))
+      let a = (scanner_at q.0 q.1).phase in (w.segments, set, q.0, q.1.since, a.0, a.2, q.1.registers, a.3, a.4))))
 
   module _ (k : ℕ) (c : Collector) (look : IsLookOf w.registers.items old.collector k c)
       (q : ScannerPhase) (ends : Ends c scanner.Scanning scanner.Ready q) where
@@ -266,8 +237,7 @@ module _ (w : Actors) (i : ℕ) (is : ScannerIs (phases_of_actors w) i scanner.S
       scanner_told : (t : ScanState) × IsLook set x (scanner_at x stands).phase.0 k t
           × Gathers w.segments set x.history t c
       scanner_told =
-          let a = (scanner_at x stands).phase in
-          look w.segments set x stands.since a.0 a.2 stands.registers a.3
+          let a = (scanner_at x stands).phase in look w.segments set x stands.since a.0 a.2 stands.registers a.3
 
       scanner_stands_on : ScannerStands w.segments x.history stands.since i (scanner_in q)
           (Opened old.asked scanner_told.0)
@@ -291,8 +261,7 @@ module _ (w : Actors) (i : ℕ) (is : ScannerIs (phases_of_actors w) i scanner.S
           (old.asked, a.phase.0, a.there ∙ ap (λ z. Some z) a.phase.1, t.0, t.1, refl),
           scanner_goes w ds x up i (scanner_in q) (Opened old.asked t.0) (scanner_there w i is)
               (scanner_stands_on x stands),
-        )))
-        (λ ds x stands. (refl, is)) (λ ds x stands asked s e. (
+        ))) (λ ds x stands. (refl, is)) (λ ds x stands asked s e. (
         let a = scanner_at x stands in
         let t = scanner_told x stands in
         let p = up_at ds (phases_of_actors w) in

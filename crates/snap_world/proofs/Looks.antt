@@ -1,59 +1,53 @@
 -- One look of a collector is a look of the abstract machine; the next step of a scan, by the numbers that it
 -- has read; a memory's values at the places of a set.
-use Rattle.std.proofs.Common.{rules, ◌≡◌, ℕ, ◌+◌, ◌*◌, ◌<◌, List, [], inl, inr, slice_index, refl, arith, length}
-use Rattle.std.proofs.Common.{get_or, Some, slice_get, slice_set, ap, sym, ◌∙◌, subst, ◌≤◌, ◌∷◌, ◌++◌, take, Option}
-use Rattle.std.proofs.lemmas.Option.{slice_get-map, get_or_from_slice_get, unwrap_or-slice_get, same_Some}
-use Rattle.snap_world.specs.inside.Gathers.{value_in, picked, MayLook, Gathers, Gathered, RegisterStands, ViewStands}
-use Rattle.std.proofs.lemmas.{List.length-map, List.length-set, List.ext_get_or, Bool.cases_eq}
-use Rattle.std.proofs.{lemmas.Option.slice_get_read, lemmas.Option.slice_get-get_or, Math.Logic.∥∥₁_elim, Common.None}
-use Rattle.std.{specs.Prelude.option_map, specs.Prelude.unwrap_or, proofs.Props.props}
+-- a scan that has a look to make has no answer, and any other one has
+use Rattle.snap_scan.proofs.Sets.{at_some, at_once, at_within, at_is, at_below}
 use Rattle.snap_scan.proofs.Collects.{same_turn, Collects-push, no_fall, rose, borrow_moment, clean_moment}
 use Rattle.snap_scan.specs.Looks.{IsDecided, IsClean, IsBorrow, IsTurn, IsNoFall}
-use Rattle.snap_scan.proofs.Sets.{at_some, at_once, at_within, at_is, at_below}
-use Rattle.snap_scan.specs.declared.next.Next.{TheVariants.Look, TheVariants.Clean, TheVariants.Borrow, Next}
-use Rattle.snap_scan.specs.{Collects.IsRising, Collects.IsKept, Collects.Collects, Sets.named, Sets.size, Sets.IsAt}
 use Rattle.snap_scan.specs.Course.{IsNext, Course, Borrows}
+use Rattle.snap_scan.specs.Collects.{IsRising, IsKept, Collects}
+use Rattle.snap_scan.specs.declared.next.Next.TheVariants.{Look, Clean, Borrow}
+use Rattle.snap_scan.specs.Sets.{named, size, IsAt}
+use Rattle.snap_history.proofs.Moments.{number-le, value_same, take-now}
 use Rattle.snap_history.specs.History.{Update, from_nothing, number_after, value_after, IsMemory}
-use Rattle.snap_history.proofs.{Moments.number-le, Moments.value_same, Moments.take-now, Pairs.partner}
-use Rattle.snap_history.proofs.Lists.{get-set_same, get-set_other}
+use Rattle.snap_world.specs.inside.Gathers.{value_in, picked, MayLook, Gathers, Gathered, RegisterStands, ViewStands}
+use Rattle.snap_world.specs.inside.Gathers.{RegistersStand}
 use Rattle.snap_world.specs.Machine.{State, WriterState, ShownWith, Decides, looked, IsLook}
 use Rattle.snap_world.specs.Answers.{ScanState, number_at, value_at, numbers_of, values_of}
-use Rattle.snap_world.specs.declared.{collector.Collector.Collector, register.Register.Register}
-use Rattle.snap_world.specs.inside.Gathers.{RegistersStand}
+use Rattle.std.proofs.Common.{rules, ◌≡◌, ℕ, ◌+◌, ◌<◌, List, [], inl, inr, slice_index, refl, arith, length, get_or}
+use Rattle.std.proofs.Common.{Some, slice_get, slice_set, ap, sym, ◌∙◌, subst, ◌≤◌, ◌∷◌, ◌++◌, take, Option, None}
+use Rattle.std.proofs.lemmas.List.{length-map, length-set, ext_get_or}
+use Rattle.std.proofs.lemmas.Option.{slice_get-map, get_or_from_slice_get, unwrap_or-slice_get, same_Some}
+use Rattle.std.proofs.lemmas.Option.{slice_get_read, slice_get-get_or}
+use Rattle.snap_scan.specs.{declared.next.Next.Next}
+use Rattle.snap_history.proofs.{Pairs.partner, Lists.get-set_same, Lists.get-set_other}
+use Rattle.snap_world.specs.{declared.collector.Collector.Collector, declared.register.Register.Register}
+use Rattle.std.specs.{Prelude.option_map, Prelude.unwrap_or}
+use Rattle.std.proofs.{Math.Logic.∥∥₁_elim, lemmas.Bool.cases_eq, Props.props}
 
--- a scan that has a look to make has no answer, and any other one has
 pub undecided : (set : ℕ) (L : List ℕ) (v : Next) (j : ℕ) → IsNext set L v → v ≡ Look j → IsDecided (size set) L → ⊥
 undecided set L v j is e (inl clean) = let f : v ≡ Clean = is.clean.1 clean in cc
 undecided set L v j is e (inr borrow) =
-    let i = slice_index (named set) borrow.0 in
     let at = at_some set borrow.0 borrow.1.segment in
-    let f : v ≡ Borrow i = (is.borrow i).1 (borrow.0, at, borrow.1) in
-    cc
+    cc ((is.borrow (slice_index (named set) borrow.0)).1 (borrow.0, at, borrow.1))
 
 pub decided : (set : ℕ) (L : List ℕ) (v : Next) → IsNext set L v → ((j : ℕ) → v ≡ Look j → ⊥) → IsDecided (size set) L
 decided set L (Look j) is none = absurd (none j refl)
 decided set L Clean is none = inl (is.clean.0 refl)
 decided set L (Borrow j) is none =
-    let borrows = (is.borrow j).0 refl in
-    inr (borrows.0, borrows.2)
+    let borrows = (is.borrow j).0 refl in inr (borrows.0, borrows.2)
 
 -- a scan that has read no number has a look to make
 pub first_look : (set : ℕ) (v : Next) → 0 < size set → IsNext set [] v → (j : ℕ) × (v ≡ Look j)
 first_look set (Look j) pos is = (j, refl)
-first_look set Clean pos is =
-    let clean = is.clean.0 refl in
-    absurd (omega arith)
+first_look set Clean pos is = search (rules, is.clean.0)
 first_look set (Borrow j) pos is =
-    let borrows = (is.borrow j).0 refl in
-    let long : 0 ≡ borrows.2.last.0 * size set + borrows.0 + 1 = borrows.2.last.1 in
-    absurd (omega arith)
+    let borrows = (is.borrow j).0 refl in absurd (omega (arith, borrows.2.last.1))
 
 -- the segment of the look follows from the fact that there is one
 pub look_from : (v : Next) → ∥ ((j : ℕ) × (v ≡ Look j)) ∥₁ → (j : ℕ) × (v ≡ Look j)
 look_from (Look j) some = (j, refl)
-look_from Clean some = absurd (∥∥₁_elim some (hlevel props) (λ q. (cc)))
-look_from (Borrow j) some =
-    absurd (∥∥₁_elim some (hlevel props) (λ q. (let e : Borrow j ≡ Look q.0 = q.1 in cc)))
+look_from v some = absurd (∥∥₁_elim some (hlevel props) (λ q. (cc (q.1))))
 
 -- equal elements are read alike
 read_alike : (xs ys : List (List ℕ)) (i j : ℕ) → slice_get xs i ≡ slice_get ys j → get_or xs i [] ≡ get_or ys j []
@@ -168,8 +162,7 @@ module _ (n set : ℕ) (x : State) (g : ℕ) (s : ScanState) (col : Collector)
       let no_borrow : (p : ℕ) → IsBorrow (size set) (s.told ++ k ∷ []) p → ⊥ = λ p br. none (slice_index (named set) p)
       ((is.borrow (slice_index (named set) p)).1 (p, at_some set p br.segment, br)) in
       let clean : IsClean (size set) (s.told ++ k ∷ []) = is.clean.0 refl in
-      let pos : 0 < size set =
-      (let w : place < size set = at_within set place j at in omega arith) in
+      let pos : 0 < size set = omega (arith, at_within set place j at) in
       let q = clean_moment _ _ _ _ _ _ _ _ c (rising set h) (kept set h) pos clean no_borrow in (
         Some q.0,
         (inl clean, q.1, λ i br. absurd (no_borrow br.0 br.2)),
@@ -177,10 +170,9 @@ module _ (n set : ℕ) (x : State) (g : ℕ) (s : ScanState) (col : Collector)
           p = q.0;
           moment = refl;
           is_moment = q.1;
-          is = λ p i at_p. (
-              let low : i < n = at_below set n p i gat.among at_p in
-              slice_get-get_or memory i [] (omega arith) ∙ sym (picked_at set memory p i at_p)
-              ∙ q.2 p (at_within set p i at_p) ∙ ap (λ z. Some (value_at h q.0 z)) (at_is set p i at_p));
+          is = λ p i at_p. slice_get-get_or memory i [] (omega (arith, long, at_below set n p i gat.among at_p))
+              ∙ sym (picked_at set memory p i at_p) ∙ q.2 p (at_within set p i at_p)
+              ∙ ap (λ z. Some (value_at h q.0 z)) (at_is set p i at_p);
         },
       )
 
@@ -279,33 +271,25 @@ module _ (n set : ℕ) (x : State) (g : ℕ) (s : ScanState) (col : Collector)
         (same_turn (size set) s.told k borrows.0 place here borrows.2) borrows.2 in
         let high : numbers_of set h s.start place + 2 ≤ k =
         rose _ _ _ _ _ _ _ _ collects (rising set h) now place gat.end here br in
-        let base : number_at h g j ≤ number_at h s.start j = number-le from_nothing h j g s.start born in
-        let start_is : numbers_of set h s.start place ≡ number_at h s.start j = ap (number_at h s.start) segment_is in
-        let is_k : r.number ≡ k = number_is in
-        let p = own.2.kept (omega arith) in
-        let view = own.2.is_view p.0 p.1 in
-        goes col2 scan-is (ap length memory-is ∙ stand.size)
+        let base = number-le from_nothing h j g s.start born in
+        let p = own.2.kept (omega (arith, high, base, ap (number_at h s.start) segment_is, number_is)) in
+        let view = own.2.is_view p.0 p.1 in goes col2 scan-is (ap length memory-is ∙ stand.size)
         (subst (Goes col2.memory.items) (sym is_borrow) (goes_borrow i col2.memory.items p.0 next view.until
-        (ap (λ z. number_at h p.0 z + 1) segment_is ∙ view.before ∙ is_k) (
+        (ap (λ z. number_at h p.0 z + 1) segment_is ∙ view.before ∙ number_is) (
           own.0,
           own.1,
           p.1,
         ) (subst (IsMemory n from_nothing (take p.0 h)) (sym memory-is) view.is_memory)))
 
 -- the facts for the code, if the registers and the collector represent some state
-module _ (rs : List Register) (col : Collector) (may : MayLook rs col) (j : ℕ)
-    (turn : col.scan.next ≡ Look j) where
+module _ (rs : List Register) (col : Collector) (may : MayLook rs col) (j : ℕ) (turn : col.scan.next ≡ Look j) where
   pub place_there : j < length col.memory.items
   place_there = ∥∥₁_elim may (hlevel props) (λ q. (
-      let low : j < q.0 = turn_within q.0 q.1 q.2 q.3 q.4 col q.7 j turn in
-      let size : length col.memory.items ≡ q.0 = q.7.size in
-      omega arith))
+      omega (arith, turn_within q.0 q.1 q.2 q.3 q.4 col q.7 j turn, q.7.size)))
 
   pub register_there : j < length rs
   register_there = ∥∥₁_elim may (hlevel props) (λ q. (
-      let low : j < q.0 = turn_within q.0 q.1 q.2 q.3 q.4 col q.7 j turn in
-      let size : length rs ≡ q.0 = q.6.size in
-      omega arith))
+      omega (arith, turn_within q.0 q.1 q.2 q.3 q.4 col q.7 j turn, q.6.size)))
 
   module _ (r : Register) (read : r ≡ get_or rs j r) where
     pub view_fits : length col.memory.items ≡ length r.view.items

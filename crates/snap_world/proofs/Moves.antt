@@ -1,29 +1,34 @@
 -- The parts of a world that stay when one writer, one scanner or the history changes.
+-- a scan that has read no number
 use Rattle.std.proofs.Common.{rules, ◌≡◌, ◌≢◌, ℕ, ◌+◌, ◌^◌, ◌<◌, ◌≤◌, List, [], ◌∷◌, ◌++◌, length, take, get_or, Option}
-use Rattle.snap_history.proofs.Moments.{number-push, number-push_other, value-push, value-push_other, take-push}
-use Rattle.snap_world.specs.inside.Stands.{HasBegun, WriterStands, ScannerStands, ActorsStand, IsAtPhase, IsScannerAt}
-use Rattle.snap_world.proofs.PhaseMoves.{writer_there, writer_read, scanner_read, with_actors_writer}
 use Rattle.std.proofs.Common.{Some, slice_get, refl, ap, sym, ◌∙◌, subst, arith}
-use Rattle.std.proofs.lemmas.{Option.slice_get_read, Option.same_Some, List.length-set, List.length_push}
-use Rattle.std.specs.Vec.{with_item}
+use Rattle.snap_history.proofs.Moments.{number-push, number-push_other, value-push, value-push_other, take-push}
+use Rattle.snap_history.proofs.Moments.{number-le}
+use Rattle.snap_history.proofs.Pairs.{partner, Pairs-set, Pairs-right, Pairs-map}
 use Rattle.snap_history.specs.History.{Update, from_nothing, number_after, value_after, IsMemory}
-use Rattle.snap_history.proofs.{Pairs.partner, Pairs.Pairs-set, Pairs.Pairs-right, Pairs.Pairs-map, Moments.number-le}
-use Rattle.snap_scan.proofs.{Collects.Collects-none, Collects.Collects-same, Collects.IsMoment-same, Sets.all_at}
-use Rattle.snap_scan.specs.declared.next.Next.{TheVariants.Look, TheVariants.Clean, TheVariants.Borrow, Next}
-use Rattle.snap_scan.specs.{Course.IsNext, Sets.size}
+use Rattle.snap_world.specs.inside.Stands.{HasBegun, WriterStands, ScannerStands, ActorsStand, IsAtPhase, IsScannerAt}
+use Rattle.snap_world.specs.inside.Stands.{is_fenced}
 use Rattle.snap_world.specs.inside.Gathers.{Gathers, Gathered, IsSeen, IsUnderWay, RegisterStands, IsView, ViewStands}
+use Rattle.snap_world.specs.inside.Gathers.{RegistersStand}
 use Rattle.snap_world.specs.Machine.{State, WriterState, ScannerState, with_writer, with_scanner, with_update}
 use Rattle.snap_world.specs.Answers.{ScanState, scan_from, IsAnswer, number_at, value_at, all_of, set_of}
-use Rattle.snap_world.specs.declared.{scanner.ScannerPhase.ScannerPhase, writer.WriterPhase.WriterPhase}
-use Rattle.snap_world.specs.declared.{collector.Collector.Collector, register.Register.Register, actors.Actors.Actors}
-use Rattle.snap_world.{specs.declared.scanner.Scanner.Scanner, proofs.PhaseMoves.with_actors_scanner}
-use Rattle.snap_world.specs.{declared.writer.Writer.Writer, inside.Steps.phases_of_actors, inside.Stands.is_fenced}
-use Rattle.snap_world.{proofs.Looks.number_now, proofs.Looks.first_look, specs.Phases.WriterIs, specs.Phases.ScannerIs}
-use Rattle.snap_world.proofs.Elements.{each-set}
-use Rattle.snap_world.specs.declared.writer.WriterPhase.TheVariants as writer
+use Rattle.snap_world.proofs.PhaseMoves.{writer_there, writer_read, scanner_read, with_actors_writer}
+use Rattle.snap_world.proofs.PhaseMoves.{with_actors_scanner}
+use Rattle.snap_scan.proofs.Collects.{Collects-none, Collects-same, IsMoment-same}
+use Rattle.snap_scan.specs.declared.next.Next.TheVariants.{Look, Clean, Borrow}
+use Rattle.std.proofs.{lemmas.Option.slice_get_read, lemmas.Option.same_Some, lemmas.List.length-set}
+use Rattle.std.proofs.{lemmas.List.length_push}
+use Rattle.std.specs.{Vec.with_item}
+use Rattle.snap_world.specs.{inside.Steps.phases_of_actors, declared.scanner.ScannerPhase.ScannerPhase}
+use Rattle.snap_world.specs.{declared.scanner.Scanner.Scanner, declared.writer.WriterPhase.WriterPhase}
+use Rattle.snap_world.specs.{declared.writer.Writer.Writer, declared.collector.Collector.Collector}
+use Rattle.snap_world.specs.{declared.register.Register.Register, declared.actors.Actors.Actors, Phases.WriterIs}
+use Rattle.snap_world.specs.{Phases.ScannerIs}
+use Rattle.snap_world.proofs.{Looks.number_now, Looks.first_look, Elements.each-set}
+use Rattle.snap_scan.proofs.{Sets.all_at}
+use Rattle.snap_scan.specs.{declared.next.Next.Next, Course.IsNext, Sets.size}
 use Rattle.snap_world.specs.declared.scanner.ScannerPhase.TheVariants as scanner
 
--- a scan that has read no number
 pub Gathers-none : (n set : ℕ) (h : List Update) (c : Collector) → 0 < size set → set < 2 ^ n → c.scan.set ≡ set
     → c.scan.told ≡ [] → IsNext c.scan.set c.scan.told c.scan.next → length c.memory.items ≡ n
     → Gathers n set h (scan_from (length h)) c × IsUnderWay c
@@ -59,21 +64,14 @@ module _ (w : Actors) (x : State) (stands : ActorsStand w x) where
   the_writer i is a read =
       let here = writer_read w i is a read in
       let s = partner (WriterStands w.segments x.history stands.since) w.writers.items x.writers
-      i a stands.writers here.0 in
-      search rules
+      i a stands.writers here.0 in search rules
 
   pub the_scanner : (i : ℕ) {p : ScannerPhase} → ScannerIs (phases_of_actors w) i p → (a : Scanner)
       → a ≡ get_or w.scanners.items i a → ScannerFound w.segments x.history stands.since i x.scanners a p
   the_scanner i is a read =
       let here = scanner_read w i is a read in
       let s = partner (ScannerStands w.segments x.history stands.since) w.scanners.items x.scanners
-      i a stands.scanners here.0 in
-      record {
-        state = s.0;
-        there = s.1;
-        size = s.2.size;
-        phase = subst (IsScannerAt w.segments x.history stands.since a s.0) here.1 s.2.phase;
-      }
+      i a stands.scanners here.0 in search rules
 
   -- the register of segment i
   pub the_register : (i : ℕ) (r : Register) → i < w.segments → r ≡ get_or w.registers.items i r
@@ -85,33 +83,22 @@ module _ (w : Actors) (x : State) (stands : ActorsStand w x) where
       → s.view ≡ old.view → WriterStands w.segments x.history stands.since i a s
       → ActorsStand (with_actors_writer w i a) (with_writer x i s)
   writer_moves i a old s l there same here =
-      let size : length w.writers.items ≡ w.segments = stands.writers_n in
-      let long : length w.writers.items ≡ length x.writers = stands.writers.size in
       let regs = stands.registers in
-      record {
-        least = stands.least;
-        most = stands.most;
-        since = stands.since;
-        within = stands.within;
-        registers = record {
-          size = regs.size;
-          each = regs.each;
-          views = Pairs-right (λ j r (z : WriterState). ViewStands w.segments x.history stands.since j r z.view)
-              w.registers.items x.writers i s (omega arith) (λ r er. subst (ViewStands w.segments x.history stands.since
-              i r) (sym same) (regs.views.each i r old er there)) regs.views;
-        };
-        writers_n = length-set w.writers.items i a ∙ size;
-        writers = Pairs-set (WriterStands w.segments x.history stands.since) (WriterStands w.segments x.history
-            stands.since) w.writers.items x.writers i a s (omega arith) (λ j c d ne r. r) here stands.writers;
-        scanners = stands.scanners;
-      }
+      let now : RegistersStand w.segments (with_writer x i s) stands.since w.registers.items = record {
+        size = regs.size;
+        each = regs.each;
+        views = Pairs-right (λ j r (z : WriterState). ViewStands w.segments x.history stands.since j r z.view)
+            w.registers.items x.writers i s (omega (arith, stands.writers_n, stands.writers.size)) (λ r er. subst
+            (ViewStands w.segments x.history stands.since i r) (sym same) (regs.views.each i r old er there))
+            regs.views;
+      } in search (rules, Pairs-set, now)
 
   pub scanner_moves : (i : ℕ) (a : Scanner) (s : ScannerState) → i < length w.scanners.items → ScannerStands w.segments
       x.history stands.since i a s → ActorsStand (with_actors_scanner w i a) (with_scanner x i s)
   scanner_moves i a s l here = search (rules, Pairs-set)
 
 later : (h : List Update) (u : Update) (e : ℕ) → e ≤ length h → e ≤ length (h ++ u ∷ [])
-later h u e l = let y : length (h ++ u ∷ []) ≡ length h + 1 = length_push h u in omega arith
+later h u e l = omega (arith, length_push h u)
 
 -- the history grows by one update of segment u.segment
 module _ (h : List Update) (u : Update) where
@@ -140,24 +127,12 @@ module _ (h : List Update) (u : Update) where
       HasBegun-grow : HasBegun n h since i w.value w.collector s
           → HasBegun n (h ++ u ∷ []) since i w.value w.collector s
       HasBegun-grow g =
-          let same : number_after from_nothing (h ++ u ∷ []) i ≡ number_after from_nothing h i =
-          number-push_other from_nothing h u i ne in
-          record {
-            born = g.born;
-            pending = g.pending;
-            fits = g.fits;
-            room = subst (λ x. x + 1 < 2 ^ 63) (sym same) g.room;
-            own = numbers_stay s.scan.last g.gathers.end s.scan.start i g.gathers.start ∙ g.own ∙ sym same;
-            gathers = Gathers-grow (all_of n) s.scan w.collector g.gathers;
-          }
+          let same = number-push_other from_nothing h u i ne in
+          let own = numbers_stay s.scan.last g.gathers.end s.scan.start i g.gathers.start in
+          search (rules, same, own, Gathers-grow)
 
       phase-grow : (p : WriterPhase) → IsAtPhase n h since i w s p → IsAtPhase n (h ++ u ∷ []) since i w s p
-      phase-grow writer.Idle g = g
-      phase-grow writer.Scanning g = (HasBegun-grow g.0, g.1)
-      phase-grow writer.Storing g = search (rules, HasBegun-grow, IsAnswer-grow)
-      phase-grow writer.Stored g = search (rules, HasBegun-grow, IsAnswer-grow)
-      phase-grow writer.Shown g = g
-      phase-grow writer.Fenced g = g
+      phase-grow p g = search (rules, HasBegun-grow, IsAnswer-grow)
 
       WriterStands-grow : WriterStands n h since i w s → WriterStands n (h ++ u ∷ []) since i w s
       WriterStands-grow g = record { size = g.size; fenced = g.fenced; phase = phase-grow w.phase g.phase }
@@ -214,30 +189,26 @@ module _ (w : Actors) (x : State) (stands : ActorsStand w x) (i : ℕ) (v : List
         writers = with_item w.writers i a;
       }) (with_update x i v s)
   world_shows r a s l here_r here_v here_a =
-      let size : length w.writers.items ≡ w.segments = stands.writers_n in
-      let many : length w.registers.items ≡ w.segments = stands.registers.size in
       let View : List Update → ℕ → Register → WriterState → Type 0 =
-      λ h j c d. ViewStands w.segments h stands.since j c d.view in
-      record {
+      λ h j c d. ViewStands w.segments h stands.since j c d.view in record {
         least = stands.least;
         most = stands.most;
         since = stands.since;
         within = later x.history the_update stands.since stands.within;
         registers = record {
-          size = length-set w.registers.items i r ∙ many;
+          size = length-set w.registers.items i r ∙ stands.registers.size;
           each = each-set (RegisterStands w.segments grown) w.registers.items i r here_r (λ j c ne e.
               RegisterStands-grow x.history the_update w.segments j c (λ f. ne (sym f)) (stands.registers.each j c e));
           views = Pairs-set (View x.history) (View grown) w.registers.items x.writers i r s
-              (omega arith) (λ j c d ne g. ViewStands-grow x.history the_update w.segments j c stands.since d.view
-              stands.within g) here_v stands.registers.views;
+              (omega (arith, stands.registers.size)) (λ j c d ne. ViewStands-grow x.history the_update w.segments j c
+              stands.since d.view stands.within) here_v stands.registers.views;
         };
-        writers_n = length-set w.writers.items i a ∙ size;
+        writers_n = length-set w.writers.items i a ∙ stands.writers_n;
         writers = Pairs-set (WriterStands w.segments x.history stands.since) (WriterStands w.segments grown
-            stands.since) w.writers.items x.writers i a s (omega arith) (λ j c d ne g. WriterStands-grow x.history
-            the_update w.segments stands.since j c d (λ f. ne (sym f)) g) here_a stands.writers;
-        scanners = Pairs-map (ScannerStands w.segments x.history stands.since)
-            (ScannerStands w.segments grown stands.since) w.scanners.items x.scanners
-            (λ j c d g. ScannerStands-grow x.history the_update w.segments stands.since j c d g) stands.scanners;
+            stands.since) w.writers.items x.writers i a s (omega (arith, stands.writers_n)) (λ j c d ne.
+            WriterStands-grow x.history the_update w.segments stands.since j c d (λ f. ne (sym f)))
+            here_a stands.writers;
+        scanners = search (rules, Pairs-map, ScannerStands-grow);
       }
 
 -- a scan whose machine has no look to make has its answer
@@ -257,9 +228,10 @@ pub own_moment : (n : ℕ) (h : List Update) (since i : ℕ) (a : Writer) (s : W
     (begun : HasBegun n h since i a.value a.collector s) (p : ℕ) → s.scan.start ≤ p → p ≤ s.scan.last
     → number_at h p i ≡ number_after from_nothing h i
 own_moment n h since i a s begun p lo hi =
-    let x : number_at h s.scan.start i ≤ number_at h p i = number-le from_nothing h i s.scan.start p lo in
-    let end : s.scan.last ≤ length h = begun.gathers.end in
-    let y : number_at h p i ≤ number_at h (length h) i = number-le from_nothing h i p (length h) (omega arith) in
-    let z : number_at h (length h) i ≡ number_after from_nothing h i = number_now h i in
-    let v : number_at h s.scan.start i ≡ number_after from_nothing h i = begun.own in
-    omega arith
+    let end : s.scan.last ≤ length h = begun.gathers.end in omega (
+      arith,
+      number-le from_nothing h i s.scan.start p lo,
+      number-le from_nothing h i p (length h) (omega arith),
+      number_now h i,
+      begun.own,
+    )

@@ -1,26 +1,24 @@
 -- Idle actors: those of a new world, and those after a restart.
-use Rattle.std.proofs.Common.{rules, ◌≡◌, ℕ, ◌<◌, ◌≤◌, length, Some, None, slice_get, ap, sym, ◌∙◌, subst, arith}
-use Rattle.std.proofs.lemmas.List.{length-replicate}
-use Rattle.snap_history.{specs.History.from_nothing, specs.History.number_after, proofs.Lists.get-replicate}
-use Rattle.snap_world.specs.inside.Fresh.{Each, IsFreshRegister, IsFreshWriter, IsFreshScanner}
-use Rattle.snap_world.specs.inside.Stands.{ActorsStand, IsAtPhase, IsScannerAt, is_fenced}
+-- idle actors, whose registers have what the history says, represent it: nothing was shown since now
 use Rattle.snap_world.specs.Machine.{State, WriterState, ScannerState, Closed, resting}
-use Rattle.snap_world.specs.{inside.NodeStands.IsSized, inside.NodeStands.ActorsRest, declared.scanner.Scanner.Scanner}
-use Rattle.snap_world.specs.{declared.register.Register.Register, Start.start_state, Start.start_phases}
-use Rattle.snap_world.specs.{inside.Gathers.RegisterStands, inside.Steps.phases_of_actors, Answers.number_at}
-use Rattle.snap_world.specs.declared.{actors.Actors.Actors, writer.Writer.Writer}
+use Rattle.snap_world.specs.inside.Fresh.{Each, IsFreshRegister, IsFreshWriter, IsFreshScanner}
+use Rattle.std.proofs.Common.{rules, ◌≡◌, ℕ, ◌<◌, ◌≤◌, length, Some, None, slice_get, ap, sym, ◌∙◌, arith}
+use Rattle.snap_history.proofs.{Lists.get-replicate}
+use Rattle.snap_world.specs.{Start.start_state, Start.start_phases, declared.scanner.Scanner.Scanner}
+use Rattle.snap_world.specs.{declared.register.Register.Register, declared.actors.Actors.Actors}
+use Rattle.snap_world.specs.{declared.writer.Writer.Writer, inside.NodeStands.IsSized, inside.NodeStands.ActorsRest}
+use Rattle.snap_world.specs.{inside.Gathers.RegisterStands, inside.Steps.phases_of_actors, inside.Stands.ActorsStand}
 use Rattle.snap_world.proofs.{Elements.all_same, Looks.number_now}
+use Rattle.std.proofs.{lemmas.List.length-replicate}
 use Rattle.snap_world.specs.declared.writer.WriterPhase.TheVariants as writer
 use Rattle.snap_world.specs.declared.scanner.ScannerPhase.TheVariants as scanner
 
--- idle actors, whose registers have what the history says, represent it: nothing was shown since now
 pub idle_stand : (w : Actors) (x : State) → ActorsRest w x → ((i : ℕ) (r : Register) → slice_get w.registers.items i
     ≡ Some r → RegisterStands w.segments x.history i r) → ((i : ℕ) (s : WriterState) → slice_get x.writers i ≡ Some s
     → resting ≡ s) → ((i : ℕ) (s : ScannerState) → slice_get x.scanners i ≡ Some s → Closed ≡ s) → ActorsStand w x
 idle_stand w x rest registers writers scanners =
     let is : IsSized w x = rest.sized in
-    let h = x.history in
-    record {
+    let h = x.history in record {
       least = is.least;
       most = is.most;
       since = length h;
@@ -31,31 +29,20 @@ idle_stand w x rest registers writers scanners =
         views = record {
           size = is.registers_n ∙ sym is.writers_n ∙ is.writers;
           each = λ i r s er es. (
-              let none : s.view ≡ None = ap (λ (z : WriterState). z.view) (sym (writers i s es)) in
-              let number : r.number ≡ number_after from_nothing h i = (registers i r er).number in
-              let now : number_at h (length h) i ≡ number_after from_nothing h i = number_now h i in
-              record { kept = λ above. absurd (omega arith); is_view = λ p e. cc });
+              let none : s.view ≡ None = ap (λ (z : WriterState). z.view) (sym (writers i s es)) in record {
+                kept = λ above. absurd (omega (arith, (registers i r er).number, number_now h i));
+                is_view = λ p e. cc;
+              });
         };
       };
       writers_n = is.writers_n;
       writers = record {
         size = is.writers;
-        each = λ i a s ea es. (
-            let idle : a.phase ≡ writer.Idle = rest.writers i a ea in
-            let new : resting ≡ s = writers i s es in
-            record {
-              size = is.writers_memory i a ea;
-              fenced = ap (λ (z : WriterState). z.fenced) (sym new) ∙ ap is_fenced (sym idle);
-              phase = subst (IsAtPhase w.segments h (length h) i a s) (sym idle)
-                  (ap (λ (z : WriterState). z.pending) (sym new));
-            });
+        each = λ i a s ea es. search (rules, is.writers_memory i a ea, rest.writers i a ea, writers i s es);
       };
       scanners = record {
         size = is.scanners;
-        each = λ i a s ea es. record {
-          size = is.scanners_memory i a ea;
-          phase = subst (IsScannerAt w.segments h (length h) a s) (sym (rest.scanners i a ea)) (sym (scanners i s es));
-        };
+        each = λ i a s ea es. search (rules, is.scanners_memory i a ea, rest.scanners i a ea, scanners i s es);
       };
     }
 

@@ -1,14 +1,15 @@
 -- Reading and moving the phases of the actors.
-use Rattle.std.proofs.Common.{rules, ◌≡◌, ℕ, ◌<◌, length, get_or, Some, slice_get, ◌∙◌, arith}
-use Rattle.std.{proofs.lemmas.List.map-set, proofs.lemmas.List.length-map, specs.Vec.vec_len, specs.Vec.with_item}
-use Rattle.std.proofs.Math.Seq.{map-set_same}
-use Rattle.snap_world.specs.{Phases.WriterIs, Phases.ScannerIs, Phases.writer_to, Phases.scanner_to, Machine.State}
-use Rattle.snap_world.specs.declared.{scanner.ScannerPhase.ScannerPhase, writer.WriterPhase.WriterPhase}
-use Rattle.snap_world.{specs.declared.scanner.Scanner.Scanner, proofs.Elements.map_within, proofs.Elements.map_read}
-use Rattle.snap_world.specs.{inside.Steps.phases_of_actors, declared.actors.Actors.Actors, inside.Stands.ActorsStand}
-use Rattle.snap_world.specs.declared.writer.Writer.{Writer}
-
 -- the actors with one writer, or one scanner, changed
+use Rattle.snap_world.specs.Phases.{WriterIs, ScannerIs, writer_to, scanner_to}
+use Rattle.std.proofs.Common.{rules, ◌≡◌, ℕ, ◌<◌, length, get_or, Some, slice_get, ◌∙◌, arith}
+use Rattle.snap_world.proofs.{Elements.map_within, Elements.map_read}
+use Rattle.snap_world.specs.{inside.Steps.phases_of_actors, inside.Stands.ActorsStand, Machine.State}
+use Rattle.snap_world.specs.{declared.scanner.Scanner.Scanner, declared.scanner.ScannerPhase.ScannerPhase}
+use Rattle.snap_world.specs.{declared.actors.Actors.Actors, declared.writer.Writer.Writer}
+use Rattle.snap_world.specs.{declared.writer.WriterPhase.WriterPhase}
+use Rattle.std.proofs.{Math.Seq.map-set_same, lemmas.List.map-set, lemmas.List.length-map}
+use Rattle.std.specs.{Vec.vec_len, Vec.with_item}
+
 abbrev pub with_actors_writer : Actors → ℕ → Writer → Actors
 with_actors_writer w i a = record w { writers = with_item w.writers i a }
 

@@ -1,40 +1,46 @@
 -- A crash, and the calls of a restart, as steps of the node.
-use Rattle.std.proofs.Common.{rules, ◌≡◌, ℕ, ◌+◌, ◌<◌, ◌≤◌, inl, inr, ⊎_elim, List, length, map, Some, slice_get, ap}
-use Rattle.snap_world.specs.Machine.{State, WriterState, Pending, Begun, Closed, crashed, crashed_pending}
-use Rattle.snap_world.specs.inside.NodeStands.{NodeStand, IsSized, ActorsRest, IsUp, IsDown, IsNodeAt, NodeStands}
-use Rattle.snap_world.specs.inside.Drives.{IsDriveAt, DrivesDown, HoldsEither, IsCrashed, AreCrashed, device_of}
-use Rattle.snap_world.specs.inside.NodeSteps.{store_left, IsNodeStep, phases_of_node, devices_of_node}
-use Rattle.snap_world.specs.NodePhases.{all_idle, node_to, after_opening_call, MayCome, PhasesMove}
-use Rattle.snap_world.specs.inside.Stands.{ActorsStand, WriterStands, ScannerStands, IsAtPhase}
-use Rattle.snap_world.specs.declared.node.NodePhase.TheVariants.{Up, Down, Restarting, Ready}
-use Rattle.snap_world.specs.declared.event.Reply.TheVariants.{Called, DeviceFailed, NotNow}
-use Rattle.snap_world.specs.declared.event.Event.{TheVariants.RestartCall, TheVariants.RestartFail, Event}
+-- what a crash leaves of a segment, by the phase of its writer
 use Rattle.snap_world.specs.Devices.{AreRefilled, IsRefilled, DevicesMove, GatesTold}
-use Rattle.snap_world.proofs.Elements.{map_element, map_same, origin, each-set}
-use Rattle.snap_world.specs.inside.{NodeStands.IsRecovering, NodeStands.IsRestarting, Steps.phases_of_actors}
-use Rattle.snap_world.proofs.{Events.steps, Events.same_phases, Events.device_changes, NewWorld.phases_idle}
-use Rattle.snap_world.specs.declared.{writer.WriterPhase.WriterPhase, node.NodePhase.NodePhase, actors.Actors.Actors}
-use Rattle.snap_world.specs.{inside.Fresh.IsHalted, inside.Fresh.IsScannerHalted, declared.node.OpeningCall.OpeningCall}
-use Rattle.snap_world.specs.{declared.writer.Writer.Writer, Machine.crashed_writer, Machine.Step}
-use Rattle.snap_world.specs.declared.{drive.Drive.Drive, event.Reply.Reply, node.Node.Node}
-use Rattle.std.proofs.lemmas.Option.{slice_get-map, slice_get_within, slice_get_read}
+use Rattle.snap_world.specs.Machine.{State, WriterState, Pending, Begun, Closed, crashed, crashed_pending}
+use Rattle.snap_world.specs.Machine.{crashed_writer, Step}
+use Rattle.snap_world.specs.inside.Drives.{IsDriveAt, DrivesDown, HoldsEither, AreCrashed, device_of}
+use Rattle.snap_world.specs.inside.Stands.{ActorsStand, WriterStands, ScannerStands, IsAtPhase}
+use Rattle.snap_world.specs.inside.NodeSteps.{store_left, IsNodeStep, phases_of_node, devices_of_node}
+use Rattle.snap_world.specs.inside.NodeStands.{NodeStand, IsSized, ActorsRest, IsUp, IsDown, IsNodeAt, NodeStands}
+use Rattle.snap_world.specs.inside.NodeStands.{IsRecovering, IsRestarting}
+use Rattle.snap_world.specs.declared.node.NodePhase.TheVariants.{Up, Down, Restarting}
+use Rattle.snap_world.specs.declared.event.Reply.TheVariants.{Called, DeviceFailed, NotNow}
+use Rattle.snap_world.specs.NodePhases.{all_idle, node_to, after_opening_call, MayCome, PhasesMove}
+use Rattle.snap_world.proofs.Elements.{map_element, map_same, origin, each-set, map_at}
+use Rattle.snap_world.proofs.Events.{steps, same_phases, device_changes}
+use Rattle.snap_disk.specs.Device.{Device, MayLeave, IsSettled, IsSynced}
+use Rattle.std.proofs.Common.{rules, ◌≡◌, ℕ, ◌+◌, ◌<◌, ◌≤◌, inl, inr, ⊎_elim, List, length, map, Some, slice_get, ap}
 use Rattle.std.proofs.Common.{sym, ◌∙◌, subst, arith, get_or, slice_set, refl}
-use Rattle.std.proofs.{lemmas.List.length-map, lemmas.List.length-set, lemmas.Bool.Decides.nat_tests, Props.props}
-use Rattle.std.proofs.Math.{Logic.∥∥₁_elim, Logic.∥∥₁_map, Seq.map-set_same}
-use Rattle.std.specs.{Vec.with_item, Vec.vec_len, Prelude.option_map}
-use Rattle.snap_disk.specs.{Device.Device, Device.MayLeave, Device.IsSettled, Device.IsSynced, declared.fill.Fill.Fill}
-use Rattle.snap_disk.specs.Laws.{unsynced_leaves, synced_leaves}
-use Rattle.snap_slot.{proofs.Rest.at_rest_leaves, specs.Findings.IsFound, specs.States.IsEither, specs.Layout.IsFileOf}
-use Rattle.snap_persist.{specs.Stage.PersistState, specs.Stage.calls_left, proofs.Stages.stage_leaves}
 use Rattle.snap_history.specs.History.{Update, from_nothing, number_after, value_after}
-use Rattle.snap_history.{proofs.Pairs.element, proofs.Pairs.partner, proofs.Lists.get-set_other, specs.Pairs.Pairs}
+use Rattle.snap_world.specs.{inside.Fresh.IsHalted, inside.Fresh.IsScannerHalted, inside.Steps.phases_of_actors}
+use Rattle.snap_world.specs.{declared.writer.WriterPhase.WriterPhase, declared.writer.Writer.Writer}
+use Rattle.snap_world.specs.{declared.actors.Actors.Actors, declared.node.Node.Node}
+use Rattle.snap_world.specs.{declared.node.OpeningCall.OpeningCall, declared.node.NodePhase.NodePhase}
+use Rattle.snap_world.specs.{declared.drive.Drive.Drive, declared.event.Event.Event}
+use Rattle.snap_world.specs.{declared.event.Event.TheVariants.RestartCall, declared.event.Event.TheVariants.RestartFail}
+use Rattle.snap_world.specs.{declared.event.Reply.Reply}
+use Rattle.snap_world.proofs.{NewWorld.phases_idle}
+use Rattle.snap_slot.specs.{Findings.IsFound, Layout.IsFileOf, States.IsEither}
+use Rattle.snap_slot.proofs.{Rest.at_rest_leaves}
+use Rattle.snap_disk.specs.{declared.fill.Fill.Fill, Laws.unsynced_leaves, Laws.synced_leaves}
+use Rattle.snap_persist.proofs.{Stages.stage_leaves}
+use Rattle.snap_persist.specs.{Stage.PersistState, Stage.calls_left}
+use Rattle.std.specs.{Vec.with_item, Vec.vec_len}
+use Rattle.std.proofs.{Math.Logic.∥∥₁_elim, Math.Logic.∥∥₁_map, Math.Seq.map-set_same, lemmas.Option.slice_get_within}
+use Rattle.std.proofs.{lemmas.Option.slice_get_read, lemmas.List.length-map, lemmas.List.length-set}
+use Rattle.std.proofs.{lemmas.Bool.Decides.nat_tests, Props.props}
+use Rattle.snap_history.specs.{Pairs.Pairs}
+use Rattle.snap_history.proofs.{Lists.get-set_other, Pairs.element, Pairs.partner}
 use Rattle.snap_world.specs.declared.node.OpeningCall.TheVariants as opening
 use Rattle.snap_world.specs.declared.writer.WriterPhase.TheVariants as writer
 use Rattle.snap_world.specs.declared.event.Kind.TheVariants as kind
 
--- what a crash leaves of a segment, by the phase of its writer
-module _ (n : ℕ) (h : List Update) (g i : ℕ) (a : Writer) (s : WriterState) (d : Device)
-    (persist : PersistState) where
+module _ (n : ℕ) (h : List Update) (g i : ℕ) (a : Writer) (s : WriterState) (d : Device) (persist : PersistState) where
   abbrev k : ℕ
   k = number_after from_nothing h i
 
@@ -47,19 +53,16 @@ module _ (n : ℕ) (h : List Update) (g i : ℕ) (a : Writer) (s : WriterState) 
 
   phase_leaves : (phase : WriterPhase) → IsAtPhase n h g i a s phase → IsDriveAt i n k u phase s.pending d persist
       → (b : List ℕ) → MayLeave d b → HoldsEither i n k u (crashed_pending s.pending) b
-  phase_leaves writer.Idle at drive b left = inl (at_rest_leaves i n k u drive.spare_open d drive.rest b left)
-  phase_leaves writer.Scanning at drive b left = inl (at_rest_leaves i n k u drive.spare_open d drive.rest b left)
   phase_leaves writer.Storing at drive b left = begun_either a.value at.0.pending b
       (stage_leaves i n k u a.value at.0.room at.0.fits persist.stage d (drive a.value at.0.pending).at_stage b left)
   phase_leaves writer.Stored at drive b left =
-      let ready = drive a.value at.0.pending in
-      inr (
+      let ready = drive a.value at.0.pending in inr (
         a.value,
         ap crashed_pending at.0.pending,
         at_rest_leaves i n (k + 1) a.value ready.spare_open d ready.rest b left,
       )
-  phase_leaves writer.Shown at drive b left = inl (at_rest_leaves i n k u drive.spare_open d drive.rest b left)
   phase_leaves writer.Fenced at drive b left = begun_either at.0 at.1 b (drive at.0 at.1 b left)
+  phase_leaves phase at drive b left = inl (at_rest_leaves i n k u drive.spare_open d drive.rest b left)
 
 -- what a crash leaves of each device: the same holds after the crash
 abbrev Leaves : ℕ → List Update → List WriterState → List Drive → Type 0
@@ -71,12 +74,9 @@ up_leaves : (actors : Actors) (ds : List Drive) (x : State) → IsUp actors ds x
     → Leaves actors.segments x.history x.writers ds
 up_leaves actors ds x up i d s ed es =
     let stand = up.actors_stand in
-    let size : length actors.writers.items ≡ length x.writers = stand.writers.size in
-    let low : i < length x.writers = slice_get_within x.writers i s es in
-    let a = element actors.writers.items i (omega arith) in
+    let a = element actors.writers.items i (omega (arith, stand.writers.size, slice_get_within x.writers i s es)) in
     let here : WriterStands actors.segments x.history stand.since i a.0 s = stand.writers.each i a.0 s a.1 es in
-    let phase : slice_get (phases_of_actors actors).writers i ≡ Some a.0.phase =
-    slice_get-map (λ (v : Writer). v.phase) actors.writers.items i ∙ ap (option_map (λ (v : Writer). v.phase)) a.1 in
+    let phase = map_at (λ (v : Writer). v.phase) actors.writers.items i a.0 a.1 in
     phase_leaves actors.segments x.history stand.since i a.0 s
     (device_of d) d.persist a.0.phase here.phase (up.drives_stand i d s a.0.phase ed es phase)
 
@@ -92,22 +92,18 @@ down_leaves n h ss ds down i d s ed es b left = search (rules, either_stays)
 leaves : (actors : Actors) (ds : List Drive) (x : State) (phase : NodePhase)
     → IsNodeAt actors ds x phase → Leaves actors.segments x.history x.writers ds
 leaves actors ds x Up at = up_leaves actors ds x at
-leaves actors ds x Down at = down_leaves actors.segments x.history x.writers ds at.drives_down
 leaves actors ds x (Restarting i opening.Sync) at = search (rules, down_leaves)
 leaves actors ds x (Restarting i opening.Read) at = search (rules, down_leaves)
-leaves actors ds x Ready at = down_leaves actors.segments x.history x.writers ds at.down.drives_down
+leaves actors ds x phase at = search (rules, down_leaves)
 
 crashed_drives : (n : ℕ) (h : List Update) (ss : List WriterState) (ds es : List Drive) (fills : List Fill)
     → length fills ≡ length ds → Leaves n h ss ds → AreCrashed fills ds es → DrivesDown n h (map crashed_writer ss) es
 crashed_drives n h ss ds es fills size left crash i e t ee et b may =
     let s = map_element crashed_writer ss i t et in
-    let low : i < length es = slice_get_within es i e ee in
-    let long : length es ≡ length ds = sym crash.size in
-    let d = element ds i (omega arith) in
-    let f = element fills i (omega arith) in
-    let here : IsCrashed f.0 d.0 e = crash.each i d.0 e d.1 ee f.0 f.1 in
+    let d = origin i e crash ee in
+    let f = element fills i (omega (arith, slice_get_within ds i d.0 d.1)) in
     subst (λ (z : WriterState). HoldsEither i n (number_after from_nothing h i) (value_after from_nothing h i) z.pending
-    b) s.2 (left i d.0 s.0 d.1 s.1 b (unsynced_leaves here.refilled.left b may))
+    b) s.2 (left i d.0 s.0 d.1 s.1 b (unsynced_leaves (d.2 f.0 f.1).refilled.left b may))
 
 sized_up : (w : Actors) (x : State) → ActorsStand w x → IsSized w x
 sized_up w x stands = record {
@@ -127,10 +123,9 @@ sized_up w x stands = record {
 pub sized : (actors : Actors) (ds : List Drive) (x : State) (phase : NodePhase)
     → IsNodeAt actors ds x phase → IsSized actors x
 sized actors ds x Up at = sized_up actors x at.actors_stand
-sized actors ds x Down at = at.actors_rest.sized
 sized actors ds x (Restarting i opening.Sync) at = at.1.down.actors_rest.sized
 sized actors ds x (Restarting i opening.Read) at = at.1.down.actors_rest.sized
-sized actors ds x Ready at = at.down.actors_rest.sized
+sized actors ds x phase at = search rules
 
 module _ (w new : Actors) (segments : new.segments ≡ w.segments) (registers : new.registers
     ≡ w.registers) (writers : Pairs (λ i. IsHalted) w.writers.items new.writers.items)
@@ -144,11 +139,9 @@ module _ (w new : Actors) (segments : new.segments ≡ w.segments) (registers : 
       views_n = λ i r e. is.views_n i r (ap (λ z. slice_get z.items i) (sym registers) ∙ e) ∙ sym segments;
       writers_n = sym writers.size ∙ is.writers_n ∙ sym segments;
       writers = sym writers.size ∙ is.writers ∙ sym (length-map x.writers crashed_writer);
-      writers_memory = λ i b e. (let a = origin i b writers e in
-          ap (λ c. length c.memory.items) a.2.collector ∙ is.writers_memory i a.0 a.1 ∙ sym segments);
+      writers_memory = λ i b e. search (rules, origin i b writers e, is.writers_memory, segments);
       scanners = sym scanners.size ∙ is.scanners ∙ sym (length-map x.scanners (λ s. Closed));
-      scanners_memory = λ i b e. (let a = origin i b scanners e in
-          ap (λ c. length c.memory.items) a.2.collector ∙ is.scanners_memory i a.0 a.1 ∙ sym segments);
+      scanners_memory = λ i b e. search (rules, origin i b scanners e, is.scanners_memory, segments);
     };
     writers = λ i b e. (origin i b writers e).2.idle;
     scanners = λ i b e. (origin i b scanners e).2.idle;
@@ -175,8 +168,7 @@ crashed_devices ds es fills crash = search (rules, length-map, map_element)
 pub crashed_calls : (ds es : List Drive) (fills : List Fill) → length fills ≡ length ds
     → AreCrashed fills ds es → map store_left es ≡ map store_left ds
 crashed_calls ds es fills size crash = map_same store_left es ds (sym crash.size) (λ i e d ee ed. (
-    let low : i < length ds = slice_get_within ds i d ed in
-    let f = element fills i (omega arith) in
+    let f = element fills i (omega (arith, slice_get_within ds i d ed)) in
     ap (λ (o : PersistState). calls_left o.stage) (crash.each i d e ed ee f.0 f.1).persist))
 
 -- how many devices there are
@@ -184,24 +176,23 @@ pub few_drives : (w : Node) → NodeStand w → (length w.drives.items ≤ 16) �
 few_drives w t = ∥∥₁_elim t (hlevel props) (search (rules, sized))
 
 -- one device changes, after which a crash leaves no more than before
-module _ (actors : Actors) (ds : List Drive) (x : State) (i : ℕ) (d e : Drive)
-    (there : slice_get ds i ≡ Some d) where
+module _ (actors : Actors) (ds : List Drive) (x : State) (i : ℕ) (d e : Drive) (there : slice_get ds i ≡ Some d) where
   down_set : ((b : List ℕ) → MayLeave (device_of e) b → MayLeave (device_of d) b)
       → IsDown actors ds x → IsDown actors (slice_set ds i e) x
   down_set less down = record {
     actors_rest = down.actors_rest;
-    drives_down = λ j f s ef es b may. each-set (λ j f. (s : WriterState) → slice_get x.writers j ≡ Some s
-        → (b : List ℕ) → MayLeave (device_of f) b → HoldsEither j actors.segments (number_after from_nothing x.history
-        j) (value_after from_nothing x.history j) s.pending b) ds i e (λ s es b may. down.drives_down i d s there es b
-        (less b may)) (λ j f ne ef s es b may. down.drives_down j f s ef es b may) j f ef s es b may;
+    drives_down = λ j f s ef. each-set (λ j f. (s : WriterState) → slice_get x.writers j ≡ Some s → (b : List ℕ)
+        → MayLeave (device_of f) b → HoldsEither j actors.segments (number_after from_nothing x.history j) (value_after
+        from_nothing x.history j) s.pending b) ds i e (λ s es b may. down.drives_down i d s there es b (less b may))
+        (λ j f ne ef s. down.drives_down j f s ef) j f ef s;
   }
 
   sync_goes : IsRecovering actors ds x i i → IsSynced (device_of d) (device_of e)
       → IsRecovering actors (slice_set ds i e) x (i + 1) i
   sync_goes at synced = record {
     down = down_set (λ b may. synced_leaves synced b may) at.down;
-    settled = λ j f ef low. each-set (λ j f. j < i + 1 → IsSettled (device_of f)) ds i e
-        (λ low. synced.settled) (λ j f ne ef low. at.settled j f ef (omega arith)) j f ef low;
+    settled = each-set (λ j f. j < i + 1 → IsSettled (device_of f)) ds i e (λ low. synced.settled)
+        (λ j f ne ef low. at.settled j f ef (omega arith));
     found = λ j f ef low. at.found j f (sym (get-set_other ds i j e (λ same. omega arith)) ∙ ef) low;
   }
 
@@ -209,11 +200,11 @@ module _ (actors : Actors) (ds : List Drive) (x : State) (i : ℕ) (d e : Drive)
       → IsFound i actors.segments (device_of d).bytes e.found → IsRecovering actors (slice_set ds i e) x (i + 1) (i + 1)
   read_goes at same_device found = record {
     down = down_set (λ b may. subst (λ z. MayLeave z b) same_device may) at.down;
-    settled = λ j f ef low. each-set (λ j f. j < i + 1 → IsSettled (device_of f)) ds i e (λ low. subst IsSettled
-        (sym same_device) (at.settled i d there low)) (λ j f ne ef low. at.settled j f ef low) j f ef low;
-    found = λ j f ef low. each-set (λ j f. j < i + 1 → IsFound j actors.segments (device_of f).bytes f.found) ds i e
+    settled = each-set (λ j f. j < i + 1 → IsSettled (device_of f)) ds i e (λ low. subst IsSettled (sym same_device)
+        (at.settled i d there low)) (λ j f ne. at.settled j f);
+    found = each-set (λ j f. j < i + 1 → IsFound j actors.segments (device_of f).bytes f.found) ds i e
         (λ low. subst (λ (z : Device). IsFound i actors.segments z.bytes e.found) (sym same_device) found)
-        (λ j f ne ef low. at.found j f ef (omega arith)) j f ef low;
+        (λ j f ne ef low. at.found j f ef (omega arith));
   }
 
 -- the next segment is opened, or all are
@@ -305,17 +296,15 @@ a_file : (w : Node) (i : ℕ) → w.phase ≡ Restarting i opening.Read → (d :
 a_file w i restarting d read n count x stands =
     let down = (at_call w i opening.Read restarting x stands).1.down in
     let there = drive_there w i opening.Read restarting x stands d read in
-    let low : i < w.actors.segments = (at_call w i opening.Read restarting x stands).0 in
-    let long : length w.actors.writers.items ≡ length x.writers = down.actors_rest.sized.writers in
-    let all : length w.actors.writers.items ≡ w.actors.segments = down.actors_rest.sized.writers_n in
-    let s = element x.writers i (omega arith) in
+    let sized = down.actors_rest.sized in
+    let low = (at_call w i opening.Read restarting x stands).0 in
+    let s = element x.writers i (omega (arith, low, sized.writers, sized.writers_n)) in
     let either = down.drives_down i d s.0 there s.1 (device_of d).bytes (record {
       size = refl;
       elsewhere = λ p closed. refl;
     }) in
     let File : ℕ → List ℕ → ℕ → Type 0 = λ k v n. IsFileOf i n k v (device_of d).bytes in
-    let size : w.actors.segments ≡ n = sym stands.drives_n ∙ count in
-    search rules
+    let size : w.actors.segments ≡ n = sym stands.drives_n ∙ count in search rules
 
 pub some_file : (w : Node) (i : ℕ) → NodeStand w → w.phase ≡ Restarting i opening.Read → (d : Drive)
     → d ≡ get_or w.drives.items i d → (n : ℕ) → length w.drives.items ≡ n

@@ -1,18 +1,17 @@
 -- One more step at the end of a run.
-use Rattle.std.proofs.Common.{◌≡◌, ℕ, ◌+◌, ◌<◌, List, [], ◌∷◌, ◌++◌, length, take, get_or, Result, Ok, Err, IfOk, refl}
-use Rattle.snap_world.specs.declared.event.Event.TheVariants.{Begin, Look, Call, Fail, Show, Acknowledge, Scan, Pick}
-use Rattle.std.specs.declared.alloc.AllocError.{AllocError}
-use Rattle.std.proofs.{Common.ap, Common.sym, Common.◌∙◌, Common.subst, lemmas.List.take_more}
-use Rattle.snap_history.{proofs.Beginnings.beginning-self, proofs.Beginnings.beginning-trans, specs.History.IsBeginning}
-use Rattle.snap_world.specs.declared.event.Event.TheVariants.{Answer, Crash, Restart, RestartCall, RestartFail, Serve}
-use Rattle.snap_world.specs.declared.event.Reply.TheVariants.{Crashed, Restarting, NotNow}
+use Rattle.std.proofs.Common.{rules, ◌≡◌, ℕ, ◌+◌, ◌<◌, List, [], ◌∷◌, ◌++◌, length, take, get_or, Result, Ok, Err, IfOk}
+use Rattle.std.proofs.Common.{refl, ap, sym, ◌∙◌, subst}
+use Rattle.snap_world.specs.Machine.{State, Step, chosen}
 use Rattle.snap_world.specs.Surface.{StandsFor, IsRun, segments_of, configuration}
-use Rattle.snap_world.specs.declared.event.{Actor.TheVariants.Writer, Actor.TheVariants.Scanner, Event.Event}
-use Rattle.snap_world.specs.{Machine.State, Machine.Step, Machine.chosen, inside.NodeSteps.IsNodeStep}
-use Rattle.snap_world.specs.{declared.event.Reply.Reply, declared.world.World.World, Runs.Configuration, Runs.Run}
-use Rattle.snap_world.proofs.Fills.{no_bytes_left_out}
-use Rattle.snap_world.specs.declared.event.Reply.TheVariants.{Begun as Begun_reply, Number, Called, DeviceFailed}
-use Rattle.snap_world.specs.declared.event.Reply.TheVariants.{Shown as Shown_reply, Stored, ScanBegun, Memory, Part}
+use Rattle.std.specs.{declared.alloc.AllocError.AllocError}
+use Rattle.std.proofs.{lemmas.List.take_more}
+use Rattle.snap_world.proofs.{Fills.no_bytes_left_out}
+use Rattle.snap_world.specs.{inside.NodeSteps.IsNodeStep, declared.world.World.World}
+use Rattle.snap_world.specs.{declared.event.Event.TheVariants.Show, declared.event.Event.TheVariants.Serve}
+use Rattle.snap_world.specs.{declared.event.Event.Event, declared.event.Reply.Reply}
+use Rattle.snap_history.specs.{History.IsBeginning}
+use Rattle.snap_history.proofs.{Beginnings.beginning-self, Beginnings.beginning-trans}
+use Rattle.snap_world.specs.{declared.event.Reply.TheVariants.{Shown as Shown_reply, Memory}, Runs.{Configuration, Run}}
 
 stays : (x y : State) → y.history ≡ x.history → IsBeginning x.history y.history
 stays x y e = subst (IsBeginning x.history) (sym e) (beginning-self x.history)
@@ -20,24 +19,9 @@ stays x y e = subst (IsBeginning x.history) (sym e) (beginning-self x.history)
 -- a step only appends to the history
 pub Step-grows : (n : ℕ) (x : State) (event : Event) (reply : Reply) (y : State)
     → Step n x event reply y → IsBeginning x.history y.history
-Step-grows n x event NotNow y s = stays x y (ap (λ v. v.history) s)
-Step-grows n x (Begin w v) Begun_reply y s = stays x y (ap (λ v. v.history) s.4)
-Step-grows n x (Look (Writer w)) (Number k) y s = stays x y (ap (λ v. v.history) s.4)
-Step-grows n x (Look (Scanner i)) (Number k) y s = stays x y (ap (λ v. v.history) s.5)
 Step-grows n x (Show w) Shown_reply y s = (record { segment = w; value = s.1 } ∷ [], ap (λ v. v.history) s.4)
-Step-grows n x (Acknowledge w) (Stored k) y s = stays x y (ap (λ v. v.history) s.5)
-Step-grows n x (Scan i) ScanBegun y s = stays x y (ap (λ v. v.history) s.1)
-Step-grows n x (Pick i set) ScanBegun y s = stays x y (ap (λ v. v.history) s.1)
-Step-grows n x (Answer i) (Memory m) y s = stays x y (ap (λ v. v.history) s.3)
-Step-grows n x (Answer i) (Part m) y s = stays x y (ap (λ v. v.history) s.4)
-Step-grows n x (Call w) (Called kind) y s = stays x y (ap (λ v. v.history) s)
-Step-grows n x (Fail w fill) DeviceFailed y s = stays x y (ap (λ v. v.history) s.4)
-Step-grows n x (Crash fills) Crashed y s = stays x y (ap (λ v. v.history) s)
-Step-grows n x Restart Restarting y s = stays x y (ap (λ v. v.history) s)
-Step-grows n x RestartCall (Called kind) y s = stays x y (ap (λ v. v.history) s)
-Step-grows n x (RestartFail fill) DeviceFailed y s = stays x y (ap (λ v. v.history) s)
 Step-grows n x Serve (Memory m) y s = (chosen 0 x.writers s.0, ap (λ v. v.history) s.2)
-Step-grows n x event reply y s = absurd s
+Step-grows n x event reply y s = search (rules, stays)
 
 -- two runs, one after the other
 pub Run-append : (n : ℕ) (a : Configuration) (events : List Event) (replies : List Reply) (b : Configuration)
@@ -46,8 +30,7 @@ pub Run-append : (n : ℕ) (a : Configuration) (events : List Event) (replies : 
 Run-append n a [] [] b more others c f g = subst (λ v. Run n v more others c) f g
 Run-append n a (event ∷ events) (reply ∷ replies) b more others c f g =
     (f.0, f.1, Run-append n f.0 events replies b more others c f.2 g)
-Run-append n a [] (reply ∷ replies) b more others c f g = absurd f
-Run-append n a (event ∷ events) [] b more others c f g = absurd f
+Run-append n a events replies b more others c f g = absurd f
 
 pub IsRun-append : (old mid new : World) (events : List Event) (replies : List Reply) (more : List Event)
     (others : List Reply) → IsRun old events replies mid → IsRun mid more others new

@@ -1,25 +1,29 @@
 -- The begun updates that a restart takes, and the end of a restart as a step of the node.
 use Rattle.std.proofs.Common.{rules, ◌≡◌, ◌≢◌, ℕ, zero, suc, ◌+◌, ◌<◌, ◌⊎◌, inl, inr, Bool, true, false, List, [], ◌∷◌}
+use Rattle.std.proofs.Common.{◌++◌, Option, Some, None, slice_get, refl, ap, ◌∙◌, arith, length, map, sym, subst}
 use Rattle.snap_history.specs.History.{Update, Start, updates_of, last_value, number_after, value_after, from_nothing}
+use Rattle.snap_history.specs.History.{IsMemory}
+use Rattle.snap_history.proofs.Moments.{updates-append, last-append, last_none}
 use Rattle.snap_world.specs.Machine.{WriterState, Pending, Free, Begun, Shown, begun_update, chosen, State}
-use Rattle.std.proofs.Common.{◌++◌, Option, Some, None, slice_get, refl, ap, ◌∙◌, arith, ◌≤◌, length, map, sym, subst}
-use Rattle.std.proofs.lemmas.{Option.slice_get-map, Option.slice_get_within, Option.same_Some, Bool.Decides.nat_tests}
-use Rattle.std.{specs.Prelude.unwrap_or, specs.Prelude.option_map, proofs.lemmas.List.length-map, proofs.Props.props}
-use Rattle.std.{proofs.Math.Logic.∥∥₁_elim, proofs.Math.Logic.∥∥₁_map, specs.Global.Vec}
-use Rattle.snap_history.proofs.{Moments.updates-append, Moments.last-append, Moments.last_none, Pairs.element}
-use Rattle.snap_history.specs.{History.IsMemory, Pairs.Pairs}
+use Rattle.snap_world.specs.Machine.{ScannerState, Closed, resting, history_with, served}
 use Rattle.snap_world.specs.inside.Recovery.{found_value, IsReadable, AllReadable, IsResumed, IsRecovered, AreRecovered}
 use Rattle.snap_world.specs.inside.NodeStands.{NodeStands, NodeStand, IsSized, ActorsRest, IsRecovering, IsNodeAt}
-use Rattle.snap_world.proofs.Restarts.{sized, few_drives, opening_within, opening_fits, some_file}
-use Rattle.snap_world.specs.Machine.{ScannerState, Closed, resting, history_with, served}
 use Rattle.snap_world.specs.inside.Drives.{IsReady, DrivesStand, HoldsEither, device_of}
-use Rattle.snap_world.specs.declared.{node.NodePhase.TheVariants.Ready, register.Register.Register, drive.Drive.Drive}
-use Rattle.snap_world.proofs.{Elements.map_element, Elements.map_same, Elements.origin, NewWorld.phases_idle}
-use Rattle.snap_world.specs.{inside.Steps.phases_of_actors, declared.actors.Actors.Actors, inside.NodeSteps.store_left}
-use Rattle.snap_world.specs.{Devices.IsServed, Devices.AreServed, inside.Stands.ActorsStand, declared.node.Node.Node}
-use Rattle.snap_world.{specs.NodePhases.all_idle, proofs.NewWorld.idle_stand, specs.inside.Gathers.RegisterStands}
+use Rattle.snap_world.proofs.Restarts.{sized, few_drives, opening_within, opening_fits, some_file}
+use Rattle.snap_world.proofs.Elements.{map_element, map_same, origin, map_at}
+use Rattle.snap_slot.proofs.Whole.{found_is, found_holds, found_rests}
+use Rattle.std.proofs.{lemmas.Option.slice_get_within, lemmas.Option.same_Some, lemmas.Bool.Decides.nat_tests}
+use Rattle.std.proofs.{lemmas.List.length-map, Props.props, Math.Logic.∥∥₁_elim, Math.Logic.∥∥₁_map}
+use Rattle.std.specs.{Prelude.unwrap_or, Global.Vec}
+use Rattle.snap_history.specs.{Pairs.Pairs}
+use Rattle.snap_history.proofs.{Pairs.element}
+use Rattle.snap_world.specs.{inside.Steps.phases_of_actors, inside.NodeSteps.store_left, inside.Stands.ActorsStand}
+use Rattle.snap_world.specs.{inside.Gathers.RegisterStands, declared.node.NodePhase.TheVariants.Ready}
+use Rattle.snap_world.specs.{declared.node.Node.Node, declared.register.Register.Register, declared.drive.Drive.Drive}
+use Rattle.snap_world.specs.{declared.actors.Actors.Actors, Devices.IsServed, Devices.AreServed, NodePhases.all_idle}
+use Rattle.snap_world.proofs.{NewWorld.phases_idle, NewWorld.idle_stand}
 use Rattle.snap_disk.specs.{Device.Device, Device.IsSettled, Image.image_device}
-use Rattle.snap_slot.proofs.{Whole.found_is, Whole.found_holds, Whole.found_rests, Readings.holds_same}
+use Rattle.snap_slot.proofs.{Readings.holds_same}
 use Rattle.snap_slot.specs.{Layout.Holds, Layout.IsSpare, Findings.IsFound, States.IsAtRest}
 use Rattle.snap_persist.specs.{declared.persist.NextCall.NextCall, Stage.store_calls}
 
@@ -43,67 +47,37 @@ times (Some v) = 1
 
 -- the begun update is of its segment alone
 begun-other : (i j : ℕ) (p : Pending) → i ≢ j → updates_of j (begun_update i p) ≡ 0
-begun-other i j Free ne = refl
 begun-other i j (Begun v) ne = grind (arith, nat_tests)
-begun-other i j (Shown v) ne = refl
+begun-other i j p ne = refl
 
 begun-same : (i j : ℕ) (p : Pending) (d : List ℕ) → i ≡ j → (updates_of j (begun_update i p) ≡ times (begun_value p))
     × (last_value d j (begun_update i p) ≡ unwrap_or (begun_value p) d)
-begun-same i j Free d e = (refl, refl)
-begun-same i j (Begun v) d e = search (rules, nat_tests)
-begun-same i j (Shown v) d e = (refl, refl)
+begun-same i j p d e = search (rules, nat_tests)
 
 chosen-below : (ss : List WriterState) (marks : List Bool) (k j : ℕ) → j < k → updates_of j (chosen k ss marks) ≡ 0
-chosen-below [] marks k j l = refl
-chosen-below (s ∷ ss) [] k j l = refl
 chosen-below (s ∷ ss) (false ∷ marks) k j l = chosen-below ss marks (suc k) j (omega arith)
 chosen-below (s ∷ ss) (true ∷ marks) k j l =
-    let a : updates_of j (begun_update k s.pending ++ chosen (suc k) ss marks) ≡ updates_of j (begun_update k s.pending)
-    + updates_of j (chosen (suc k) ss marks) = updates-append j (begun_update k s.pending) (chosen (suc k) ss marks) in
-    let ne : k ≢ j = omega arith in
-    let b : updates_of j (begun_update k s.pending) ≡ 0 = begun-other k j s.pending ne in
-    let c : updates_of j (chosen (suc k) ss marks) ≡ 0 = chosen-below ss marks (suc k) j (omega arith) in
-    omega arith
+    search (rules, updates-append, begun-other, chosen-below ss marks (suc k) j (omega arith))
+chosen-below ss marks k j l = refl
 
 -- a segment has the update that it takes, once and last
 chosen-is : (ss : List WriterState) (marks : List Bool) (k i j : ℕ) (d : List ℕ) → j ≡ k + i
     → (updates_of j (chosen k ss marks) ≡ times (taken ss marks i))
     × (last_value d j (chosen k ss marks) ≡ unwrap_or (taken ss marks i) d)
-chosen-is [] marks k i j d e = (refl, refl)
-chosen-is (s ∷ ss) [] k i j d e = (refl, refl)
 chosen-is (s ∷ ss) (false ∷ marks) k zero j d e = search (rules, chosen-below, last_none)
 chosen-is (s ∷ ss) (false ∷ marks) k (suc i) j d e = chosen-is ss marks (suc k) i j d (omega arith)
 chosen-is (s ∷ ss) (true ∷ marks) k zero j d e =
-    let rest = chosen (suc k) ss marks in
-    let here = begun-same k j s.pending d (omega arith) in
-    let count : updates_of j (begun_update k s.pending) ≡ times (begun_value s.pending) = here.0 in
-    let none : updates_of j rest ≡ 0 = chosen-below ss marks (suc k) j (omega arith) in
-    let sum = updates-append j (begun_update k s.pending) rest in (
-      omega arith,
-      last-append d j (begun_update k s.pending) rest
-          ∙ last_none (last_value d j (begun_update k s.pending)) j rest none ∙ here.1,
-    )
+    search (rules, begun-same k j s.pending d (omega arith), chosen-below, updates-append, last-append, last_none)
 chosen-is (s ∷ ss) (true ∷ marks) k (suc i) j d e =
-    let rest = chosen (suc k) ss marks in
-    let ne : k ≢ j = omega arith in
-    let none : updates_of j (begun_update k s.pending) ≡ 0 = begun-other k j s.pending ne in
-    let more = chosen-is ss marks (suc k) i j d (omega arith) in
-    let count : updates_of j rest ≡ times (taken ss marks i) = more.0 in
-    let sum = updates-append j (begun_update k s.pending) rest in (
-      omega arith,
-      last-append d j (begun_update k s.pending) rest
-          ∙ ap (λ w. last_value w j rest) (last_none d j (begun_update k s.pending) none) ∙ more.1,
-    )
+    search (rules, begun-other, updates-append, last-append, last_none, chosen-is ss marks (suc k) i j d (omega arith))
+chosen-is ss marks k i j d e = (refl, refl)
 
 -- the number and value of segment i after a restart
 pub served-is : (start : Start) (h : List Update) (ss : List WriterState) (marks : List Bool) (i : ℕ)
     → (number_after start (h ++ chosen 0 ss marks) i ≡ number_after start h i + times (taken ss marks i))
     × (value_after start (h ++ chosen 0 ss marks) i ≡ unwrap_or (taken ss marks i) (value_after start h i))
 served-is start h ss marks i =
-    let all = chosen 0 ss marks in
-    let is = chosen-is ss marks 0 i i (last_value (start i).1 i h) (omega arith) in
-    let sum = updates-append i h all in
-    (omega arith, last-append (start i).1 i h all ∙ is.1)
+    search (rules, chosen-is ss marks 0 i i (last_value (start i).1 i h) (omega arith), updates-append, last-append)
 
 -- If each segment's device gives either the history's part or the begun one, some marks give exactly these.
 
@@ -123,8 +97,7 @@ pub marks-exist : (A : ℕ → Type 0) (B : ℕ → List ℕ → Type 0) (ss : L
     → (marks : List Bool) × ((i : ℕ) (s : WriterState) → slice_get ss i ≡ Some s → Given A B ss marks i)
 marks-exist A B [] given = ([], λ i s e. cc)
 marks-exist A B (s ∷ ss) given =
-    let rest = marks-exist (λ k. A (suc k)) (λ k. B (suc k)) ss (λ i t e. given (suc i) t e) in
-    elim (given 0 s refl) [
+    let rest = marks-exist (λ k. A (suc k)) (λ k. B (suc k)) ss (λ i t e. given (suc i) t e) in elim (given 0 s refl) [
       | inl a ↦ (false ∷ rest.0, given_cons A B s ss false rest.0 (inl (refl, a)) rest.1)
       | inr b ↦ (true ∷ rest.0, given_cons A B s ss true rest.0 (inr (b.0, ap begun_value b.1, b.2)) rest.1)
     ]
@@ -159,11 +132,7 @@ module _ (w : Node) (x : State) (stands : NodeStands w x) (is_ready : w.phase �
     found = at.found i d there low
 
     pub state : (s : WriterState) × (slice_get x.writers i ≡ Some s)
-    state =
-        let l : i < n = low in
-        let a : length w.actors.writers.items ≡ length x.writers = sizes.writers in
-        let b : length w.actors.writers.items ≡ n = sizes.writers_n in
-        element x.writers i (omega arith)
+    state = element x.writers i (omega (arith, low, sizes.writers, sizes.writers_n))
 
     pub either : (s : WriterState) → slice_get x.writers i ≡ Some s → HoldsEither i n
         (number_after from_nothing x.history i) (value_after from_nothing x.history i) s.pending (device_of d).bytes
@@ -173,14 +142,7 @@ module _ (w : Node) (x : State) (stands : NodeStands w x) (is_ready : w.phase �
     long = elim (either state.0 state.1) [ inl file ↦ file.size | inr new ↦ new.2.size ]
 
     pub readable : IsReadable d
-    readable = record {
-      size = long;
-      number = found.held.here.number;
-      fits = (
-          let fit : length (found_value d) ≤ 4080 = found.held.here.fits in
-          let is : length (found_value d) ≡ d.found.length = found.held.long in
-          omega arith);
-    }
+    readable = search (rules, long, found)
 
   -- the device holds the number and value of the history, or those of the begun update
   abbrev Kept : ℕ → Type 0
@@ -200,13 +162,9 @@ module _ (w : Node) (x : State) (stands : NodeStands w x) (is_ready : w.phase �
   given : (i : ℕ) (s : WriterState) → slice_get x.writers i ≡ Some s → Kept i
       ⊎ ((v : List ℕ) × (s.pending ≡ Begun v) × Taken i v)
   given i s es =
-      let l : i < length x.writers = slice_get_within x.writers i s es in
-      let a : length w.actors.writers.items ≡ length x.writers = sizes.writers in
-      let b : length w.actors.writers.items ≡ n = sizes.writers_n in
-      let c : length ds ≡ n = size in
-      let d = element ds i (omega arith) in
-      let k = number_after from_nothing x.history i in
-      elim (either i d.0 d.1 s es) [
+      let low = slice_get_within x.writers i s es in
+      let d = element ds i (omega (arith, low, sizes.writers, sizes.writers_n, size)) in
+      let k = number_after from_nothing x.history i in elim (either i d.0 d.1 s es) [
         | inl file ↦ inl (found_as i k (value_after from_nothing x.history i) d.0 d.1 file.holds)
         | inr new ↦ inr (new.0, new.1, found_as i (k + 1) new.0 d.0 d.1 new.2.holds)
       ]
@@ -236,10 +194,8 @@ module _ (w : Node) (x : State) (stands : NodeStands w x) (is_ready : w.phase �
   pub memory : IsMemory n from_nothing h (map found_value ds)
   memory = record {
     size = length-map ds found_value ∙ size;
-    values = λ i l. (
-        let c : length ds ≡ n = size in
-        let d = element ds i (omega arith) in
-        slice_get-map found_value ds i ∙ ap (option_map found_value) d.1 ∙ ap (λ v. Some v) (is_after i d.0 d.1).1);
+    values = λ i l. (let d = element ds i (omega (arith, size)) in
+        map_at found_value ds i d.0 d.1 ∙ ap (λ v. Some v) (is_after i d.0 d.1).1);
   }
 
   module _ (registers : Vec Register) (es : List Drive)
@@ -255,10 +211,8 @@ module _ (w : Node) (x : State) (stands : NodeStands w x) (is_ready : w.phase �
     register_stands : (i : ℕ) (r : Register) → slice_get registers.items i ≡ Some r → RegisterStands n h i r
     register_stands i r er =
         let o = origin i r recovered er in
-        let l : i < length w.actors.registers.items = slice_get_within w.actors.registers.items i o.0 o.1 in
-        let t : length w.actors.registers.items ≡ n = sizes.registers_n in
-        let c : length ds ≡ n = size in
-        let d = element ds i (omega arith) in
+        let low = slice_get_within w.actors.registers.items i o.0 o.1 in
+        let d = element ds i (omega (arith, low, sizes.registers_n, size)) in
         let is : IsRecovered d.0 o.0 r = o.2 d.0 d.1 in
         let after = is_after i d.0 d.1 in
         record { number = is.number ∙ after.0; value = is.value ∙ after.1; size = search rules }
@@ -279,8 +233,7 @@ module _ (w : Node) (x : State) (stands : NodeStands w x) (is_ready : w.phase �
       };
       writers = rest.writers;
       scanners = rest.scanners;
-    }) register_stands
-        (λ i s e. (map_element (λ (z : WriterState). resting) x.writers i s e).2)
+    }) register_stands (λ i s e. (map_element (λ (z : WriterState). resting) x.writers i s e).2)
         (λ i s e. (map_element (λ (z : ScannerState). Closed) x.scanners i s e).2)
 
     ready : (i : ℕ) (e : Drive) → slice_get es i ≡ Some e
@@ -290,8 +243,7 @@ module _ (w : Node) (x : State) (stands : NodeStands w x) (is_ready : w.phase �
         let after = is_after i d.0 d.1 in
         let rest : IsAtRest i n d.0.found.number (found_value d.0) d.0.found.spare_open (device_of d.0) = found_rests i
         n (device_of d.0).bytes d.0.found (device_of d.0) (found i d.0 d.1) (settled i d.0 d.1) refl (long i d.0 d.1) in
-        let At : ℕ → List ℕ → Device → Type 0 = λ k v z. IsAtRest i n k v d.0.found.spare_open z in
-        search (rules, rest)
+        let At : ℕ → List ℕ → Device → Type 0 = λ k v z. IsAtRest i n k v d.0.found.spare_open z in search (rules, rest)
 
     pub drives_stand : DrivesStand actors.segments y.history y.writers (phases_of_actors actors).writers es
     drives_stand i e s phase ee es_ ep = search (rules, map_element, ready)
@@ -312,8 +264,7 @@ module _ (w : Node) (x : State) (stands : NodeStands w x) (is_ready : w.phase �
           head = (found i d.0 d.1).head;
           holds = subst (λ v. Holds (device_of d.0).bytes (number_after from_nothing h i) v) after.1
               (subst (λ k. Holds (device_of d.0).bytes k (found_value d.0)) after.0 holds);
-        } in
-        subst (IsServed i n y) same here
+        } in subst (IsServed i n y) same here
 
     pub gates : (i : ℕ) (device : Device) (calls : List NextCall) → slice_get (map device_of es) i ≡ Some device
         → slice_get (map store_left es) i ≡ Some calls → (spare_open : Bool) × (calls ≡ store_calls spare_open)
@@ -341,7 +292,6 @@ module _ (w : Node) (t : NodeStand w) where
   all_readable is = ∥∥₁_map t (λ q. readable w q.0 q.1 is)
 
   pub registers_there : length w.actors.registers.items ≡ length w.drives.items
-  registers_there = ∥∥₁_elim t (hlevel props) (λ q.
-      (sized w.actors w.drives.items q.0 w.phase q.1.at).registers_n ∙ sym q.1.drives_n)
+  registers_there = ∥∥₁_elim t (hlevel props) (search (rules, sized))
 
 pub ruleset restart_facts = (few_drives, opening_within, opening_fits, some_file, all_readable, registers_there)

@@ -1,9 +1,10 @@
 -- The sizes of actors that represent some state.
 use Rattle.std.proofs.Common.{rules, ◌≡◌, ℕ, ◌<◌, ◌≤◌, length, arith}
-use Rattle.std.{proofs.lemmas.Nat.pow_below, proofs.Math.Logic.∥∥₁_elim, proofs.Props.props, specs.Vec.vec_len}
-use Rattle.snap_world.specs.{declared.writer.WriterPhase.WriterPhase, inside.Steps.phases_of_actors, Phases.WriterIs}
-use Rattle.snap_world.{specs.declared.actors.Actors.Actors, proofs.PhaseMoves.writer_fits, specs.inside.Stands.Stand}
-use Rattle.snap_world.specs.Answers.{all_of}
+use Rattle.std.proofs.{lemmas.Nat.pow_below, Math.Logic.∥∥₁_elim, Props.props}
+use Rattle.std.specs.{Vec.vec_len}
+use Rattle.snap_world.specs.{declared.writer.WriterPhase.WriterPhase, declared.actors.Actors.Actors}
+use Rattle.snap_world.specs.{inside.Steps.phases_of_actors, inside.Stands.Stand, Phases.WriterIs, Answers.all_of}
+use Rattle.snap_world.proofs.{PhaseMoves.writer_fits, PhaseMoves.writer_moved}
 
 module _ (w : Actors) (t : Stand w) where
   pub segments_least : 0 < w.segments
@@ -30,4 +31,4 @@ pub all_some : (n : ℕ) → 0 < n → 0 < all_of n
 all_some n pos = let more = pow_below 0 n pos in omega arith
 
 -- the sizes that the code relies on
-pub ruleset sizes = (segments_least, segments_most, register_fits, all_some)
+pub ruleset sizes = (segments_least, segments_most, register_fits, all_some, writer_moved)

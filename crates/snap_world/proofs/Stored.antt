@@ -1,51 +1,52 @@
 -- One device call of a store, also as a step of the node.
+-- the device of a store has the length of a file
+use Rattle.std.proofs.lemmas.Option.{slice_get_read, get_or_from_slice_get, same_Some}
 use Rattle.std.proofs.Common.{rules, ◌≡◌, ◌≢◌, ℕ, ◌+◌, ◌%◌, ◌^◌, ◌<◌, ◌≤◌, inl, inr, true, List, [], ◌∷◌, length, refl}
 use Rattle.std.proofs.Common.{ap, sym, ◌∙◌, subst, map, get_or, Some, slice_get, slice_set, arith}
-use Rattle.std.proofs.lemmas.Option.{slice_get_read, get_or_from_slice_get, same_Some}
-use Rattle.std.{proofs.lemmas.List.length-set, proofs.lemmas.List.map-set, specs.Vec.with_item, specs.Vec.vec_len}
-use Rattle.std.proofs.{Math.Logic.∥∥₁_elim, Props.props}
-use Rattle.snap_disk.specs.{Device.Device, Device.MayLeave, Device.IsTouched, declared.fill.Fill.Fill}
-use Rattle.snap_slot.{proofs.Blocks.length-body_block, specs.Layout.body_block, specs.States.IsEither}
-use Rattle.snap_persist.specs.Stage.{PersistState, calls_left, first_call, first_stage, after_call, store_calls}
 use Rattle.snap_persist.proofs.Stages.{stage_leaves, write_leaves, write_goes, sync_goes, sync_leaves}
 use Rattle.snap_persist.specs.Device.{IsAtStage, write_at, write_bytes, write_len}
-use Rattle.snap_persist.specs.declared.persist.{NextCall.NextCall, Write.Write, Stage.Stage}
-use Rattle.snap_world.proofs.Events.{is_up, actors_of, same_phases, SameBut, drives_change, device_changes}
+use Rattle.snap_persist.specs.Stage.{PersistState, calls_left, first_call, first_stage, after_call, store_calls}
+use Rattle.snap_world.specs.Devices.{IsMade, IsMissed, Changes, DevicesMove}
 use Rattle.snap_world.specs.inside.Drives.{IsReady, IsStoreUnderWay, DriveStands, DrivesStand, device_of}
 use Rattle.snap_world.specs.inside.NodeSteps.{MayStore, phases_of_node, devices_of_node, store_left}
 use Rattle.snap_world.specs.inside.NodeStands.{NodeStands, NodeStand, IsUp, IsNodeAt}
-use Rattle.snap_world.specs.declared.event.{Reply.TheVariants.Called, Reply.TheVariants.DeviceFailed, Kind.Kind}
 use Rattle.snap_world.specs.Machine.{State, WriterState, Begun, Step, with_writer}
+use Rattle.snap_world.specs.NodePhases.{WorldPhases, AfterCall, PhasesMove}
 use Rattle.snap_world.proofs.Moves.{WriterFound, within, the_writer, the_register}
 use Rattle.snap_world.proofs.Elements.{set_is, same_read, map_element, map_at}
-use Rattle.snap_world.specs.{Devices.IsMade, Devices.IsMissed, Devices.Changes, Devices.DevicesMove, Calls.store_call}
-use Rattle.snap_world.specs.{NodePhases.WorldPhases, NodePhases.AfterCall, NodePhases.PhasesMove, Phases.writer_to}
-use Rattle.snap_world.specs.declared.{event.Event.TheVariants.Call, event.Event.TheVariants.Fail, actors.Actors.Actors}
-use Rattle.snap_world.specs.{declared.writer.WriterPhase.WriterPhase, inside.Stands.ActorsStand, inside.Stands.HasBegun}
-use Rattle.snap_world.{proofs.PhaseMoves.writer_there, proofs.PhaseMoves.writer_fits, specs.declared.drive.Drive.Drive}
-use Rattle.snap_world.specs.{declared.register.Register.Register, inside.Steps.phases_of_actors, Phases.Phases}
-use Rattle.snap_world.{specs.declared.node.Node.Node, proofs.Sizes.register_fits, specs.declared.writer.Writer.Writer}
+use Rattle.snap_world.proofs.Events.{is_up, actors_of, same_phases, SameBut, drives_change, device_changes}
 use Rattle.snap_history.specs.History.{from_nothing, number_after, value_after}
-use Rattle.snap_history.proofs.Lists.{get-set_other}
+use Rattle.snap_disk.specs.Device.{Device, MayLeave, IsTouched}
+use Rattle.std.specs.{Vec.with_item, Vec.vec_len}
+use Rattle.std.proofs.{lemmas.List.length-set, lemmas.List.map-set, Props.props, Math.Logic.∥∥₁_elim}
+use Rattle.snap_slot.specs.{Layout.body_block, States.IsEither}
+use Rattle.snap_slot.proofs.{Blocks.length-body_block}
+use Rattle.snap_persist.specs.{declared.persist.Stage.Stage, declared.persist.NextCall.NextCall}
+use Rattle.snap_persist.specs.{declared.persist.Write.Write}
+use Rattle.snap_world.specs.{Calls.store_call, inside.Steps.phases_of_actors, inside.Stands.ActorsStand}
+use Rattle.snap_world.specs.{inside.Stands.HasBegun, declared.node.Node.Node, declared.writer.Writer.Writer}
+use Rattle.snap_world.specs.{declared.writer.WriterPhase.WriterPhase, declared.actors.Actors.Actors}
+use Rattle.snap_world.specs.{declared.event.Reply.TheVariants.Called, declared.event.Reply.TheVariants.DeviceFailed}
+use Rattle.snap_world.specs.{declared.event.Event.TheVariants.Call, declared.event.Event.TheVariants.Fail}
+use Rattle.snap_world.specs.{declared.event.Kind.Kind, declared.drive.Drive.Drive, declared.register.Register.Register}
+use Rattle.snap_world.specs.{Phases.writer_to, Phases.Phases}
+use Rattle.snap_world.proofs.{Sizes.register_fits, PhaseMoves.writer_there, PhaseMoves.writer_fits}
+use Rattle.snap_history.proofs.{Lists.get-set_other}
+use Rattle.snap_disk.specs.{declared.fill.Fill.Fill}
 use Rattle.snap_persist.specs.declared.persist.Write.TheVariants as write
 use Rattle.snap_persist.specs.declared.persist.NextCall.TheVariants as next
 use Rattle.snap_persist.specs.declared.persist.Stage.TheVariants as stage
 use Rattle.snap_world.specs.declared.writer.WriterPhase.TheVariants as writer
 
--- the device of a store has the length of a file
 pub stage_size : (i n k : ℕ) (u v : List ℕ) (at : Stage) (d : Device) → k + 1 < 2 ^ 63
     → length v ≤ 4080 → IsAtStage i n k u v at d → length d.bytes ≡ 28672
-stage_size i n k u v at d small fits is = either_size (stage_leaves i n k u v small fits at d is d.bytes (record {
-  size = refl;
-  elsewhere = λ p closed. refl;
-}))
-  where
-    either_size : IsEither i n k u v d.bytes → length d.bytes ≡ 28672
-    either_size (inl file) = file.size
-    either_size (inr file) = file.size
+stage_size i n k u v at d small fits is =
+    elim (stage_leaves i n k u v small fits at d is d.bytes (record { size = refl; elsewhere = λ p closed. refl })) [
+      | inl file ↦ file.size
+      | inr file ↦ file.size
+    ]
 
-module _ (i n k : ℕ) (u v : List ℕ) (small : k + 1 < 2 ^ 63) (fits : length v ≤ 4080)
-    (d e : Device) where
+module _ (i n k : ℕ) (u v : List ℕ) (small : k + 1 < 2 ^ 63) (fits : length v ≤ 4080) (d e : Device) where
   -- the stage after a call that succeeded
   made_goes : (at : Stage) (call : NextCall) (rest : List NextCall) → calls_left at ≡ call ∷ rest → IsAtStage i n k u v
       at d → IsMade ((k + 1) % 3) (body_block (k + 1) v) call d e → IsAtStage i n k u v (after_call at) e
@@ -54,9 +55,8 @@ module _ (i n k : ℕ) (u v : List ℕ) (small : k + 1 < 2 ^ 63) (fits : length 
   made_goes at next.Done rest asked is made = absurd made
 
   written : (w : Write) → length (write_bytes (body_block (k + 1) v) w) ≡ write_len w
-  written write.Close = refl
   written write.Body = length-body_block (k + 1) v fits
-  written write.Open = refl
+  written w = refl
 
   -- after a call that failed a crash leaves either value
   missed_leaves : (at : Stage) (fill : Fill) (call : NextCall) (rest : List NextCall) → calls_left at ≡ call ∷ rest
@@ -90,10 +90,7 @@ module _ (i n k : ℕ) (u v : List ℕ) (small : k + 1 < 2 ^ 63) (fits : length 
 -- a current store without a call left is stored
 pub going_done : (at : Stage) → calls_left at ≢ []
     → first_call (calls_left (after_call at)) ≡ next.Done → after_call at ≡ stage.Stored
-going_done stage.Opening going done = refl
-going_done stage.Stored going done = absurd (going refl)
-going_done stage.Fenced going done = absurd (going refl)
-going_done at going done = cc
+going_done at going done = search rules
 
 pub not_done : (at : Stage) → (first_call (calls_left at) ≡ next.Done → ⊥) → calls_left at ≢ []
 not_done at not none = not (ap first_call none)
@@ -134,10 +131,7 @@ module _ (w : Node) (x : State) (stands : NodeStands w x) (i : ℕ) (may : MaySt
 
   -- the begun value
   pending_is : (t : WriterState) → slice_get x.writers i ≡ Some t → (z : List ℕ) → t.pending ≡ Begun z → v ≡ z
-  pending_is t there z is =
-      let same : at.state.pending ≡ t.pending =
-      ap (λ (s : WriterState). s.pending) (same_Some at.state t (sym at.there ∙ there)) in
-      let both : Begun v ≡ Begun z = sym begun.pending ∙ same ∙ is in cc
+  pending_is t there z is = cc (same_Some at.state t (sym at.there ∙ there), begun.pending)
 
   -- the values that the code reads
   pub value_is : (a : Writer) → a ≡ get_or w.actors.writers.items i a → a.value ≡ v
@@ -170,8 +164,7 @@ module _ (w : Node) (x : State) (stands : NodeStands w x) (i : ℕ) (may : MaySt
           actors_stand = actors_stand;
           drives_stand = subst (λ m. DrivesStand m x.history parts (phases_of_actors actors).writers es)
               (sym segments) (subst (λ (q : Phases). DrivesStand n x.history parts q.writers es) (sym moved) drives);
-        } in
-        record {
+        } in record {
           drives_n = length-set w.drives.items i e ∙ stands.drives_n ∙ sym segments;
           at = subst (IsNodeAt actors es (record x { writers = parts })) (sym may.0) now;
         }
@@ -305,15 +298,11 @@ module _ (w : Node) (i : ℕ) (may : MayStore w i) (t : NodeStand w) where
 
   pub drive_fits : i < vec_len w.drives
   drive_fits = ∥∥₁_elim t (hlevel props) (λ q. (
-      let low : i < w.actors.segments = store_within w q.0 q.1 i may in
-      let size : length w.drives.items ≡ w.actors.segments = q.1.drives_n in
-      omega (arith, w.drives.ok.0)))
+      omega (arith, store_within w q.0 q.1 i may, q.1.drives_n, w.drives.ok.0)))
 
   pub number_room : (r : Register) → r ≡ get_or w.actors.registers.items i r → r.number + 1 < 2 ^ 63
   number_room r read = ∥∥₁_elim t (hlevel props) (λ q. (
-      let is : r.number ≡ number_after from_nothing q.0.history i = number_is w q.0 q.1 i may r read in
-      let room : number_after from_nothing q.0.history i + 1 < 2 ^ 63 = (begun w q.0 q.1 i may).room in
-      omega arith))
+      omega (arith, number_is w q.0 q.1 i may r read, (begun w q.0 q.1 i may).room)))
 
   pub value_fits : (a : Writer) → a ≡ get_or w.actors.writers.items i a → length a.value ≤ 4080
   value_fits a read = ∥∥₁_elim t (hlevel props) (λ q. subst (λ (z : List ℕ). length z ≤ 4080)
@@ -328,10 +317,7 @@ module _ (w : Node) (i : ℕ) (may : MayStore w i) (t : NodeStand w) where
         i) (found w q.0 q.1 i may).0.value d.persist.stage (device_of d) is.room is.fits under_way.at_stage))
 
     pub slot_low : d.persist.slot < 3
-    slot_low = ∥∥₁_elim t (hlevel props) (λ q. (
-        let slot : d.persist.slot ≡ (number_after from_nothing q.0.history i + 1) % 3 =
-        (storing w q.0 q.1 i may d read).slot in
-        omega arith))
+    slot_low = ∥∥₁_elim t (hlevel props) (λ q. (omega (arith, (storing w q.0 q.1 i may d read).slot)))
 
     pub call_left : calls_left d.persist.stage ≢ []
     call_left none = ∥∥₁_elim t (hlevel props) (λ q. (storing w q.0 q.1 i may d read).going none)

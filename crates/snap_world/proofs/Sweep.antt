@@ -1,11 +1,13 @@
 -- A list of which each element is changed, one after the other.
-use Rattle.std.proofs.Common.{rules, ◌≡◌, ℕ, ◌+◌, ◌<◌, ◌≤◌, List, length, get_or, Some, slice_get, slice_set, refl, sym}
-use Rattle.std.proofs.lemmas.{Option.slice_get_read, Option.slice_get_within, Option.same_Some, List.length-set}
-use Rattle.std.proofs.Common.{◌∙◌, subst, arith}
-use Rattle.snap_history.{proofs.Lists.get-set_other, specs.Pairs.Pairs}
-use Rattle.snap_world.proofs.Elements.{each-set}
-
 -- the first k elements have changed
+use Rattle.std.proofs.Common.{rules, ◌≡◌, ℕ, ◌+◌, ◌<◌, ◌≤◌, List, length, get_or, Some, slice_get, slice_set, refl, sym}
+use Rattle.std.proofs.Common.{◌∙◌, subst, arith}
+use Rattle.std.proofs.lemmas.Option.{slice_get_read, slice_get_within, same_Some}
+use Rattle.std.proofs.{lemmas.List.length-set}
+use Rattle.snap_history.proofs.{Lists.get-set_other}
+use Rattle.snap_history.specs.{Pairs.Pairs}
+use Rattle.snap_world.proofs.{Elements.each-set}
+
 pub record Swept {A : Type 0} (R : ℕ → A → A → Type 0) (k : ℕ) (old now : List A) : Type 0 where
   pub size : length now ≡ length old
   pub below : (i : ℕ) (a b : A) → i < k → slice_get old i ≡ Some a → slice_get now i ≡ Some b → R i a b

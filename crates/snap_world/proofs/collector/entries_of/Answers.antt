@@ -1,12 +1,15 @@
+-- one more entry
 use Rattle.std.proofs.Common.{rules, ◌≡◌, ℕ, suc, ◌+◌, ◌<◌, List, [], ◌∷◌, ◌++◌, length, map, refl, ap, sym, ◌∙◌, arith}
-use Rattle.std.proofs.lemmas.{Option.slice_get_read, Option.get_or_from_slice_get, Bool.iff_false, List.map_push}
-use Rattle.snap_scan.{proofs.Sets.with, proofs.Sets.without, proofs.Sets.named_at, specs.Sets.named_below}
-use Rattle.snap_world.proofs.collector.entries_of.Goals.{then-has+in_ok-value+in_ok-push, else-has}
+use Rattle.snap_scan.proofs.Sets.{with, without, named_at}
+use Rattle.std.proofs.{lemmas.Option.slice_get_read, lemmas.Option.get_or_from_slice_get, lemmas.Bool.iff_false}
+use Rattle.std.proofs.{lemmas.List.map_push}
+use Rattle.snap_scan.specs.{Sets.named_below}
+use Rattle.snap_world.proofs.{collector.entries_of.Goals.then-has+in_ok-value+in_ok-push}
+use Rattle.snap_world.proofs.{collector.entries_of.Goals.else-has}
 use Rattle.snap_world.specs.{declared.event.PartEntry.PartEntry, inside.Gathers.entry_in, inside.Gathers.value_in}
-use Rattle.snap_world.specs.Answers.{pair_of}
+use Rattle.snap_world.specs.{Answers.pair_of}
 use Rattle.snap_world.proofs.collector.entries_of.Goals as goal
 
--- one more entry
 abbrev behind : List (ℕ × List ℕ) → ℕ → List ℕ → List (ℕ × List ℕ)
 behind entries i value = entries ++ (i, value) ∷ []
 
@@ -23,8 +26,7 @@ loop-segment-preserved c =
     let k = c.loop-segment.segment in
     let set = c.args.set.bits in
     let memory = c.args.values.now.items in
-    let one : suc k ≡ k + 1 = omega arith in
-    elim c.if-has.branch [
+    let one : suc k ≡ k + 1 = omega arith in elim c.if-has.branch [
       | then-has+in_ok-value+in_ok-push w ↦ (
           let l : k < 16 = omega (arith, c.loop-segment-test.true) in
           let names = c.has.ensures.names.0 w.if-has.true in
@@ -33,8 +35,7 @@ loop-segment-preserved c =
           let v = w.index.result.now in
           let value : v ≡ value_in memory k = sym (get_or_from_slice_get memory k v []
           (slice_get_read memory (length memory) k v refl there w.index.ensures)) in
-          let entry : PartEntry = record { segment = k; value = w.in_ok-value.value } in
-          record {
+          let entry : PartEntry = record { segment = k; value = w.in_ok-value.value } in record {
             set = refl;
             entries = ap (λ p. map pair_of p.items) w.part-is ∙ ap (map pair_of) w.in_ok-push.ensures.items
                 ∙ map_push pair_of c.loop-segment.part.items entry ∙ ap (λ xs. xs ++ pair_of entry ∷ []) inv.entries

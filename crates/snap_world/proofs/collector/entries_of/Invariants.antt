@@ -1,5 +1,5 @@
-use Rattle.std.proofs.Common.{◌≡◌, map}
-use Rattle.snap_scan.specs.Sets.{named_below}
+use Rattle.std.proofs.{Common.◌≡◌, Common.map}
+use Rattle.snap_scan.specs.{Sets.named_below}
 use Rattle.snap_world.specs.{Answers.pair_of, inside.Gathers.entry_in}
 use Rattle.snap_world.proofs.collector.entries_of.Given as goal
 

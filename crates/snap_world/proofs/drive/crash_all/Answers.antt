@@ -1,6 +1,7 @@
 use Rattle.std.proofs.Common.{sym, ◌∙◌, subst, length, refl, arith}
-use Rattle.std.proofs.lemmas.Option.{slice_get_read, same_Some}
-use Rattle.snap_world.{proofs.Sweep.swept-more, proofs.Sweep.swept-all, specs.inside.Drives.IsCrashed}
+use Rattle.std.proofs.{lemmas.Option.slice_get_read, lemmas.Option.same_Some}
+use Rattle.snap_world.proofs.{Sweep.swept-more, Sweep.swept-all}
+use Rattle.snap_world.specs.{inside.Drives.IsCrashed}
 use Rattle.snap_world.proofs.drive.crash_all.Goals as goal
 
 pub loop-i-preserved : goal.loop-i-preserved
@@ -18,5 +19,4 @@ loop-i-preserved c =
 
 pub returns : goal.returns
 returns c =
-    let swept = c.loop-i.invariant in
-    swept-all swept (omega (arith, c.args.drives.now.ok.0, swept.size))
+    let swept = c.loop-i.invariant in swept-all swept (omega (arith, c.args.drives.now.ok.0, swept.size))

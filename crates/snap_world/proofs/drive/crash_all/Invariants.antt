@@ -1,6 +1,7 @@
 use Rattle.std.proofs.Common.{◌≡◌, Some, slice_get}
-use Rattle.snap_disk.specs.declared.fill.Fill.{Fill}
-use Rattle.snap_world.{specs.inside.Drives.IsCrashed, proofs.Sweep.Swept}
+use Rattle.snap_disk.specs.{declared.fill.Fill.Fill}
+use Rattle.snap_world.specs.{inside.Drives.IsCrashed}
+use Rattle.snap_world.proofs.{Sweep.Swept}
 use Rattle.snap_world.proofs.drive.crash_all.Given as goal
 
 abbrev pub invariant-loop-i : goal.invariant-loop-i

@@ -1,6 +1,6 @@
 use Rattle.std.proofs.Common.{rules, ◌≡◌, ◌+◌, ◌<◌, [], ◌∷◌, ◌++◌, length, take, ap, sym, ◌∙◌, arith}
-use Rattle.std.proofs.lemmas.{List.map_push, List.take_more, List.take-map, Option.slice_get_read}
-use Rattle.std.proofs.{Math.Logic.∥∥₁_elim, Props.props}
+use Rattle.std.proofs.lemmas.List.{map_push, take_more, take-map}
+use Rattle.std.proofs.{Props.props, Math.Logic.∥∥₁_elim, lemmas.Option.slice_get_read}
 use Rattle.snap_world.proofs.drive.found_values.Goals as goal
 
 pub found_bytes-requires : goal.found_bytes-requires
@@ -14,5 +14,4 @@ loop-i-preserved c =
     let x = c.in_ok-found_bytes.field-0 in
     let low : i < length ds = omega (arith, c.args.drives.now.ok.0) in
     let more : take i ds ++ d ∷ [] ≡ take (i + 1) ds = ap (λ z. take i ds ++ z ∷ []) c.index.ensures
-    ∙ sym (take_more ds i d low) in
-    search (rules, map_push, take-map)
+    ∙ sym (take_more ds i d low) in search (rules, map_push, take-map)

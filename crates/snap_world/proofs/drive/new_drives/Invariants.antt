@@ -1,5 +1,5 @@
-use Rattle.std.proofs.Common.{◌≡◌, length}
-use Rattle.snap_world.specs.inside.Drives.{AllReady}
+use Rattle.std.proofs.{Common.◌≡◌, Common.length}
+use Rattle.snap_world.specs.{inside.Drives.AllReady}
 use Rattle.snap_world.proofs.drive.new_drives.Given as goal
 
 abbrev pub invariant-loop-i : goal.invariant-loop-i

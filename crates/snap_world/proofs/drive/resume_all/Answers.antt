@@ -19,5 +19,4 @@ loop-i-preserved c =
 
 pub returns : goal.returns
 returns c =
-    let swept = c.loop-i.invariant in
-    swept-all swept (omega (arith, c.args.drives.now.ok.0, swept.size))
+    let swept = c.loop-i.invariant in swept-all swept (omega (arith, c.args.drives.now.ok.0, swept.size))

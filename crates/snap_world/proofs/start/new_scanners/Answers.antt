@@ -1,7 +1,7 @@
 use Rattle.std.proofs.Common.{◌≡◌, ◌+◌, length, Some, slice_get, refl, ap, ◌∙◌, subst}
-use Rattle.std.proofs.lemmas.List.{length_push}
-use Rattle.snap_world.specs.inside.Fresh.{IsFreshScanner}
-use Rattle.snap_history.proofs.Lists.{get-push}
+use Rattle.std.proofs.{lemmas.List.length_push}
+use Rattle.snap_world.specs.{inside.Fresh.IsFreshScanner}
+use Rattle.snap_history.proofs.{Lists.get-push}
 use Rattle.snap_world.proofs.start.new_scanners.Goals as goal
 
 pub loop-i-preserved : goal.loop-i-preserved

@@ -1,5 +1,5 @@
-use Rattle.std.proofs.Common.{◌≡◌, length}
-use Rattle.snap_world.specs.inside.Fresh.{Each, IsFreshWriter}
+use Rattle.std.proofs.{Common.◌≡◌, Common.length}
+use Rattle.snap_world.specs.{inside.Fresh.Each, inside.Fresh.IsFreshWriter}
 use Rattle.snap_world.proofs.start.new_writers.Given as goal
 
 abbrev pub invariant-loop-i : goal.invariant-loop-i

@@ -1,7 +1,9 @@
-use Rattle.std.proofs.Common.{refl, ap}
-use Rattle.snap_world.proofs.{Moves.within, Moves.the_writer, Moves.the_register, PhaseMoves.writer_moved}
-use Rattle.snap_world.specs.{Machine.WriterState, Machine.Free, Machine.with_writer, declared.writer.Writer.Writer}
-use Rattle.snap_world.{proofs.Events.up_at, proofs.Events.came, proofs.Events.writer_goes, specs.Answers.scan_from}
+use Rattle.snap_world.proofs.Moves.{within, the_writer, the_register}
+use Rattle.snap_world.proofs.Events.{up_at, came, writer_goes}
+use Rattle.snap_world.specs.Machine.{WriterState, Free, with_writer}
+use Rattle.std.proofs.{Common.refl, Common.ap}
+use Rattle.snap_world.proofs.{PhaseMoves.writer_moved}
+use Rattle.snap_world.specs.{declared.writer.Writer.Writer, Answers.scan_from}
 use Rattle.snap_world.specs.declared.writer.WriterPhase.TheVariants as writer
 use Rattle.snap_world.proofs.actors.Actors.acknowledge.Goals as goal
 
@@ -11,8 +13,7 @@ returns c =
     let i = c.args.segment in
     let is = c.if-not-writer_is.ensures.0 refl in
     let old = c.index_mut.result.now in
-    let new : Writer = record old { phase = writer.Idle } in
-    record {
+    let new : Writer = record old { phase = writer.Idle } in record {
       step = came w _ _ _ (λ e. cc) (λ _ _ _ _ _ _. (refl, tt)) refl (λ ds x up. (
           let stands = up.actors_stand in
           let l = within w x stands i is in
@@ -26,6 +27,5 @@ returns c =
               fenced = a.fenced;
               phase = refl;
             }) (λ d ed. up.drives_stand i d a.state writer.Shown ed a.there is),
-          )))
-          (λ ds x stands. (refl, is)) (λ ds x stands. ap (up_at ds) (writer_moved w i new));
+          ))) (λ ds x stands. (refl, is)) (λ ds x stands. ap (up_at ds) (writer_moved w i new));
     }

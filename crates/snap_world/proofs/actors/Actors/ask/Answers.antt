@@ -1,7 +1,7 @@
 use Rattle.std.proofs.Common.{length, Some, refl, ap, ◌∙◌}
 use Rattle.snap_world.proofs.{LookingOn.some_named, LookingOn.asks, Events.scanner_goes, Moves.the_scanner}
-use Rattle.snap_world.{specs.Answers.scan_from, specs.Answers.set_of, proofs.PhaseMoves.scanner_there}
-use Rattle.snap_world.{specs.Machine.Opened, specs.declared.scanner.Scanner.Scanner, proofs.Moves.Gathers-none}
+use Rattle.snap_world.proofs.{Moves.Gathers-none, PhaseMoves.scanner_there}
+use Rattle.snap_world.specs.{Answers.scan_from, Answers.set_of, Machine.Opened, declared.scanner.Scanner.Scanner}
 use Rattle.snap_world.specs.declared.scanner.ScannerPhase.TheVariants as scanner
 use Rattle.snap_world.proofs.actors.Actors.ask.Goals as goal
 
@@ -16,8 +16,7 @@ returns c =
       phase = scanner.Scanning;
       asked = asked;
       collector = record { scan = c.of-scanner.result; memory = old.collector.memory };
-    } in
-    record {
+    } in record {
       step = asks w i new asked is c.requires.some c.requires.among refl (λ ds x up. (
           let stands = up.actors_stand in
           let a = the_scanner w x stands i is old c.index_mut-scanner.ensures.value in

@@ -1,7 +1,7 @@
-use Rattle.std.proofs.Common.{rules, refl, subst}
-use Rattle.snap_world.proofs.{PhaseMoves.writer_moved, PhaseMoves.with_actors_writer, Sizes.segment_fits}
-use Rattle.snap_world.{proofs.Moves.the_writer, proofs.Moves.writer_moves, specs.declared.writer.Writer.Writer}
-use Rattle.snap_world.{specs.inside.Stands.ActorsStand, proofs.Elements.set_same}
+use Rattle.std.proofs.{Common.refl, Common.subst}
+use Rattle.snap_world.proofs.{PhaseMoves.with_actors_writer, Sizes.segment_fits, Moves.the_writer, Moves.writer_moves}
+use Rattle.snap_world.proofs.{Elements.set_same}
+use Rattle.snap_world.specs.{declared.writer.Writer.Writer, inside.Stands.ActorsStand}
 use Rattle.snap_world.specs.declared.writer.WriterPhase.TheVariants as writer
 use Rattle.snap_world.proofs.actors.Actors.end_store.Goals as goal
 
@@ -18,6 +18,3 @@ returns-clause-stands c x stands storing =
     subst (λ ws. ActorsStand (with_actors_writer w i new) (record x { writers = ws }))
     (set_same x.writers i a.state a.there) (writer_moves w x stands i new a.state a.state c.requires.within a.there refl
     (record { size = a.size; fenced = a.fenced; phase = a.phase }))
-
-pub returns-clause-phases : goal.returns-clause-phases
-returns-clause-phases c = search (rules, writer_moved)

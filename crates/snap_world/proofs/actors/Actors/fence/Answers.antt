@@ -1,7 +1,8 @@
-use Rattle.std.proofs.{Common.rules, Common.true, Common.refl, Common.sym, lemmas.Option.slice_get_read}
-use Rattle.snap_history.proofs.Pairs.{partner}
-use Rattle.snap_world.specs.{declared.writer.Writer.Writer, inside.Stands.WriterStands, Machine.WriterState}
-use Rattle.snap_world.proofs.{PhaseMoves.writer_moved, Moves.writer_moves, Sizes.segment_fits}
+use Rattle.std.proofs.Common.{true, refl, sym}
+use Rattle.snap_history.proofs.{Pairs.partner}
+use Rattle.std.proofs.{lemmas.Option.slice_get_read}
+use Rattle.snap_world.proofs.{Moves.writer_moves, Sizes.segment_fits}
+use Rattle.snap_world.specs.{inside.Stands.WriterStands, declared.writer.Writer.Writer, Machine.WriterState}
 use Rattle.snap_world.specs.declared.writer.WriterPhase.TheVariants as writer
 use Rattle.snap_world.proofs.actors.Actors.fence.Goals as goal
 
@@ -19,6 +20,3 @@ returns-clause-stands c x stands s v there begun =
     let new : Writer = record old { phase = writer.Fenced } in
     let state : WriterState = record s { fenced = true } in
     writer_moves w x stands i new s state l there refl (record { size = was.2.size; fenced = refl; phase = (v, begun) })
-
-pub returns-clause-phases : goal.returns-clause-phases
-returns-clause-phases c = search (rules, writer_moved)

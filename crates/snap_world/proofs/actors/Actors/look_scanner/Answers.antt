@@ -1,9 +1,10 @@
-use Rattle.std.proofs.lemmas.Bool.{MatchBool-at_true, MatchBool-at_false}
 use Rattle.std.proofs.Common.{rules, refl, sym, subst, inl, inr}
-use Rattle.snap_world.proofs.actors.Actors.look_scanner.Goals.{then-is_done, else-is_done}
-use Rattle.snap_world.proofs.{LookingOn.scanner_can_look, LookingOn.scanner_looks, PhaseMoves.scanner_read}
-use Rattle.snap_world.specs.declared.event.{Reply.TheVariants.Number, Event.TheVariants.Look}
-use Rattle.snap_world.specs.inside.{NodeSteps.IsActorsStep, Gathers.IsUnderWay}
+use Rattle.std.proofs.{lemmas.Bool.MatchBool-at_true, lemmas.Bool.MatchBool-at_false}
+use Rattle.snap_world.proofs.{actors.Actors.look_scanner.Goals.then-is_done}
+use Rattle.snap_world.proofs.{actors.Actors.look_scanner.Goals.else-is_done, LookingOn.scanner_can_look}
+use Rattle.snap_world.proofs.{LookingOn.scanner_looks, PhaseMoves.scanner_read}
+use Rattle.snap_world.specs.{declared.event.Reply.TheVariants.Number, declared.event.Event.TheVariants.Look}
+use Rattle.snap_world.specs.{inside.NodeSteps.IsActorsStep, inside.Gathers.IsUnderWay}
 use Rattle.snap_world.specs.declared.event.Actor.TheVariants as actor
 use Rattle.snap_world.specs.declared.scanner.ScannerPhase.TheVariants as scanner
 use Rattle.snap_world.proofs.actors.Actors.look_scanner.Goals as goal
@@ -21,8 +22,7 @@ returns c =
     let old = c.index_mut-scanner.result.now in
     let read = c.index_mut-scanner.ensures.value in
     let looks = scanner_looks w i is old read k new c.look-number.ensures.look in
-    let Step = IsActorsStep w (Look (actor.Scanner i)) (Number k) in
-    record {
+    let Step = IsActorsStep w (Look (actor.Scanner i)) (Number k) in record {
       step = elim c.if-is_done.branch [
         | then-is_done b ↦ subst Step (sym b.self-is) (looks scanner.Ready (inr (
           MatchBool-at_true (IsUnderWay new → ⊥) (IsUnderWay new) b.if-is_done.true c.is_done.ensures.under_way,

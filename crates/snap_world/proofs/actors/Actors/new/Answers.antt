@@ -12,8 +12,7 @@ returns c =
     } in
     let a = c.in_ok-registers.ensures in
     let b = c.in_ok-writers.ensures in
-    let d = c.in_ok-scanners.ensures in
-    record {
+    let d = c.in_ok-scanners.ensures in record {
       segments = refl;
       phases = phases_idle w c.args.segments c.args.scanners b.0 d.0
           (λ i x e. (b.1 i x e).phase) (λ i x e. (d.1 i x e).phase);

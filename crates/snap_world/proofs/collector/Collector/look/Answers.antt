@@ -5,8 +5,7 @@ use Rattle.snap_world.proofs.collector.Collector.look.Goals as goal
 pub index_mut-requires : goal.index_mut-requires
 index_mut-requires c =
     let low = place_there c.args.registers.now.items c.args.self.now c.requires.stands
-    c.in-Look.segment (sym c.next.ensures.same ∙ c.in-Look.is) in
-    omega (arith, c.args.self.now.memory.ok.0)
+    c.in-Look.segment (sym c.next.ensures.same ∙ c.in-Look.is) in omega (arith, c.args.self.now.memory.ok.0)
 
 pub returns-in-Borrow : goal.returns-in-Borrow
 returns-in-Borrow c = record {

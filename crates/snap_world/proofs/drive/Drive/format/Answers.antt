@@ -1,7 +1,7 @@
 use Rattle.std.proofs.Common.{◌≡◌, ℕ, length, ap, sym, ◌∙◌}
-use Rattle.std.proofs.lemmas.List.{length-replicate}
+use Rattle.std.proofs.{lemmas.List.length-replicate}
 use Rattle.snap_disk.specs.{Image.image_device, Laws.part_whole}
-use Rattle.snap_slot.proofs.Blank.{fresh_rests}
+use Rattle.snap_slot.proofs.{Blank.fresh_rests}
 use Rattle.snap_world.proofs.drive.Drive.format.Goals as goal
 
 pub returns : goal.returns

@@ -1,9 +1,10 @@
-use Rattle.snap_world.proofs.Stored.{going_done, not_done, call_goes, call_ends, call_moves, call_stores, there}
-use Rattle.snap_world.proofs.{Stored.storing, Stored.number_is, Stored.value_is, Events.steps, Events.is_up}
-use Rattle.snap_world.specs.{declared.drive.Drive.Drive, Calls.store_call}
 use Rattle.std.proofs.Common.{◌≡◌, ◌∷◌, refl, ap, sym, ◌∙◌}
-use Rattle.snap_persist.specs.declared.persist.NextCall.TheVariants.{Done}
+use Rattle.snap_world.proofs.Stored.{going_done, not_done, call_goes, call_ends, call_moves, call_stores, there}
+use Rattle.snap_world.proofs.Stored.{storing, number_is, value_is}
 use Rattle.snap_persist.specs.Stage.{calls_left, first_call, after_call}
+use Rattle.snap_world.proofs.{Events.steps, Events.is_up}
+use Rattle.snap_world.specs.{Calls.store_call, declared.drive.Drive.Drive}
+use Rattle.snap_persist.specs.{declared.persist.NextCall.TheVariants.Done}
 use Rattle.snap_world.proofs.node.Node.call.Goals as goal
 
 pub returns-in-Done : goal.returns-in-Done
@@ -19,8 +20,7 @@ returns-in-Done c =
     let actors = c.end_store.new.self in
     let at = c.call-kind.ensures.stage in
     let last : first_call (calls_left (after_call d.persist.stage)) ≡ Done =
-    ap (λ s. first_call (calls_left s)) (sym at) ∙ sym c.next.ensures ∙ c.in-Done.is in
-    record {
+    ap (λ s. first_call (calls_left s)) (sym at) ∙ sym c.next.ensures ∙ c.in-Done.is in record {
       step = steps w _ _ _ (λ f. cc) c.end_store.ensures.segments (λ x stands. (
           let done = at ∙ going_done d.persist.stage (storing w x stands i may d read).going last in (
             may,
@@ -47,8 +47,7 @@ returns-in_default c =
     let read = c.index_mut-drive.ensures.value in
     let e = c.call-kind.new.self in
     let kind = c.call-kind.result in
-    let going = not_done e.persist.stage (λ f. c.in_default.not-Done (c.next.ensures ∙ f)) in
-    record {
+    let going = not_done e.persist.stage (λ f. c.in_default.not-Done (c.next.ensures ∙ f)) in record {
       step = steps w _ _ _ (λ f. cc) refl (λ x stands. (
         may,
         call_moves w i d (there w x stands i may d read) kind w.actors.segments x e c.call-kind.ensures.kind going,

@@ -1,8 +1,8 @@
 use Rattle.snap_world.proofs.Restarts.{goes_down, halted_phases, crashed_devices, crashed_calls}
-use Rattle.snap_world.{specs.inside.NodeSteps.store_left, proofs.Events.steps, proofs.Events.same_phases}
-use Rattle.snap_world.specs.Machine.{crashed}
 use Rattle.std.proofs.Common.{◌≡◌, length, refl, sym, ◌∙◌, arith}
-use Rattle.std.proofs.lemmas.List.{length-map}
+use Rattle.snap_world.proofs.{Events.steps, Events.same_phases}
+use Rattle.snap_world.specs.{inside.NodeSteps.store_left, Machine.crashed}
+use Rattle.std.proofs.{lemmas.List.length-map}
 use Rattle.snap_world.proofs.node.Node.crash.Goals as goal
 
 pub returns : goal.returns
@@ -14,8 +14,7 @@ returns c =
     let crash = c.crash_all.ensures in
     let actors = c.halt.new.self in
     let h = c.halt.ensures in
-    let long : length fills ≡ length ds = omega (arith, c.args.fills.now.ok.0, w.drives.ok.0) in
-    record {
+    let long : length fills ≡ length ds = omega (arith, c.args.fills.now.ok.0, w.drives.ok.0) in record {
       step = steps w _ _ _ (λ e. cc) h.segments (λ x stands. (
         long ∙ sym (length-map ds store_left),
         same_phases _ _ refl (halted_phases w.actors actors h.segments h.registers h.writers h.scanners)

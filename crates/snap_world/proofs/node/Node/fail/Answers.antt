@@ -1,6 +1,7 @@
-use Rattle.snap_world.proofs.{Stored.call_fails, Stored.fail_moves, Stored.there, Events.steps, Events.is_up}
-use Rattle.std.proofs.Common.{refl, ap}
-use Rattle.snap_persist.specs.Stage.{calls_left}
+use Rattle.snap_world.proofs.Stored.{call_fails, fail_moves, there}
+use Rattle.snap_world.proofs.{Events.steps, Events.is_up}
+use Rattle.std.proofs.{Common.refl, Common.ap}
+use Rattle.snap_persist.specs.{Stage.calls_left}
 use Rattle.snap_world.proofs.node.Node.fail.Goals as goal
 
 pub returns : goal.returns
@@ -12,8 +13,7 @@ returns c =
     let read = c.index_mut.ensures.value in
     let e = c.fail.new.self in
     let missed = c.fail.ensures.missed in
-    let fenced = c.fence.ensures in
-    record {
+    let fenced = c.fence.ensures in record {
       step = steps w _ _ _ (λ f. cc) fenced.segments (λ x stands. (
         may,
         fail_moves w i d (there w x stands i may d read) w.actors.segments x e c.fence.new.self c.args.fill.now

@@ -1,13 +1,13 @@
 use Rattle.std.proofs.Common.{◌≡◌, ℕ, false, [], Some, slice_get, refl, ap, sym, ◌∙◌, subst}
-use Rattle.std.proofs.lemmas.List.{length-map}
-use Rattle.snap_slot.specs.States.{IsAtRest}
-use Rattle.snap_persist.specs.Stage.{calls_left, store_calls}
-use Rattle.snap_history.proofs.Lists.{get-replicate}
 use Rattle.snap_world.specs.inside.Drives.{DriveStands, IsFormatted, IsReady, device_of}
+use Rattle.std.proofs.{lemmas.List.length-map}
+use Rattle.snap_slot.specs.{States.IsAtRest}
+use Rattle.snap_persist.specs.{Stage.calls_left, Stage.store_calls}
+use Rattle.snap_history.proofs.{Lists.get-replicate}
 use Rattle.snap_world.specs.{inside.NodeSteps.store_left, inside.NodeSteps.phases_of_node, declared.drive.Drive.Drive}
 use Rattle.snap_world.specs.{declared.node.NodePhase.TheVariants.Up, declared.node.Node.Node, Phases.Phases}
-use Rattle.snap_world.{proofs.Elements.map_element, proofs.Elements.all_same, specs.Start.start_world_phases}
-use Rattle.snap_world.proofs.Events.{same_phases}
+use Rattle.snap_world.specs.{Start.start_world_phases}
+use Rattle.snap_world.proofs.{Elements.map_element, Elements.all_same, Events.same_phases}
 use Rattle.snap_world.specs.declared.writer.WriterPhase.TheVariants as writer
 use Rattle.snap_world.proofs.node.Node.new.Goals as goal
 
@@ -26,8 +26,7 @@ returns-clause-phases c =
 pub returns-clause-stands : goal.returns-clause-stands
 returns-clause-stands c =
     let n = c.args.segments in
-    let same = c.in_ok-actors.ensures.segments in
-    record {
+    let same = c.in_ok-actors.ensures.segments in record {
       drives_n = c.in_ok-drives.ensures.0 ∙ sym same;
       at = record {
         actors_stand = c.in_ok-actors.ensures.stands;
@@ -41,8 +40,7 @@ returns-clause-stands c =
 
 pub returns-clause-devices : goal.returns-clause-devices
 returns-clause-devices c =
-    let drives = c.in_ok-drives.drives.items in
-    record {
+    let drives = c.in_ok-drives.drives.items in record {
       size = length-map drives device_of ∙ c.in_ok-drives.ensures.0;
       each = λ i d e. (
           let drive = map_element device_of drives i d e in

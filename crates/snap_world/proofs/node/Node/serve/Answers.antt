@@ -1,8 +1,10 @@
-use Rattle.snap_world.proofs.Events.{steps}
 use Rattle.snap_world.proofs.Serves.{marks, h, memory, y, actors_stand, drives_stand, same_devices, device_served}
-use Rattle.std.proofs.{Common.refl, Common.sym, Common.◌∙◌, Common.subst, lemmas.List.length-map}
-use Rattle.snap_history.specs.History.{from_nothing, IsMemory}
-use Rattle.snap_world.{specs.inside.NodeSteps.store_left, proofs.Serves.gates, proofs.Serves.idle_phases}
+use Rattle.snap_world.proofs.Serves.{gates, idle_phases}
+use Rattle.std.proofs.Common.{refl, sym, ◌∙◌, subst}
+use Rattle.snap_world.proofs.{Events.steps}
+use Rattle.snap_world.specs.{inside.NodeSteps.store_left}
+use Rattle.std.proofs.{lemmas.List.length-map}
+use Rattle.snap_history.specs.{History.from_nothing, History.IsMemory}
 use Rattle.snap_world.proofs.node.Node.serve.Goals as goal
 
 pub returns-in_ok-values-in-Ready-clause-step : goal.returns-in_ok-values-in-Ready-clause-step

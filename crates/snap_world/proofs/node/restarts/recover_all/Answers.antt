@@ -1,8 +1,8 @@
 use Rattle.std.proofs.Common.{rules, ◌<◌, length, refl, ap, sym, ◌∙◌, subst, arith}
-use Rattle.std.proofs.{lemmas.Option.slice_get_read, lemmas.Option.same_Some, Math.Logic.∥∥₁_elim, Props.props}
-use Rattle.snap_world.specs.{inside.Recovery.IsRecovered, inside.Recovery.found_value, declared.drive.Drive.Drive}
-use Rattle.snap_world.{specs.declared.register.Register.Register, proofs.Sweep.swept-more, proofs.Sweep.swept-all}
-use Rattle.snap_world.proofs.Elements.{same_read}
+use Rattle.snap_world.proofs.{Sweep.swept-more, Sweep.swept-all, Elements.same_read}
+use Rattle.snap_world.specs.{declared.drive.Drive.Drive, declared.register.Register.Register}
+use Rattle.snap_world.specs.{inside.Recovery.IsRecovered, inside.Recovery.found_value}
+use Rattle.std.proofs.{Math.Logic.∥∥₁_elim, lemmas.Option.slice_get_read, lemmas.Option.same_Some, Props.props}
 use Rattle.snap_world.proofs.node.restarts.recover_all.Goals as goal
 
 pub found_value-requires : goal.found_value-requires
@@ -27,5 +27,4 @@ loop-i-preserved c =
 
 pub returns : goal.returns
 returns c =
-    let swept = c.loop-i.invariant in
-    swept-all swept (omega (arith, c.args.registers.now.ok.0, swept.size))
+    let swept = c.loop-i.invariant in swept-all swept (omega (arith, c.args.registers.now.ok.0, swept.size))

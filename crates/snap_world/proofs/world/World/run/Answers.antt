@@ -1,6 +1,6 @@
 use Rattle.std.proofs.Common.{rules, inr, length, refl, [], ◌∷◌, ◌++◌, take, sym, subst}
-use Rattle.std.proofs.lemmas.Option.{slice_get_read}
 use Rattle.snap_world.proofs.Runs.{IsRun-append, IsRun-grows, IsRun-same, take-event}
+use Rattle.std.proofs.{lemmas.Option.slice_get_read}
 use Rattle.snap_world.specs.{Surface.IsRun, Surface.phases_of, NodePhases.NeedsMemory}
 use Rattle.snap_world.proofs.world.World.run.Goals as goal
 
@@ -17,8 +17,7 @@ loop-i-preserved c =
     let more = IsRun-append old c.loop-i.self c.step.new.self (take i events) c.loop-i.replies.items
     (event ∷ []) (c.in-Ok.reply ∷ []) c.loop-i.invariant.run c.in-Ok.ensures.run in
     let all = subst (λ e. IsRun old e (c.loop-i.replies.items ++ c.in-Ok.reply ∷ []) c.step.new.self)
-    (take-event events i event c.loop-i-test.true c.index-events-i.is) more in
-    search rules
+    (take-event events i event c.loop-i-test.true c.index-events-i.is) more in search rules
 
 pub returns-clause-grows : goal.returns-clause-grows
 returns-clause-grows c = IsRun-grows c.args.self.now c.loop-i.self _ _ c.loop-i.invariant.run
@@ -26,8 +25,7 @@ returns-clause-grows c = IsRun-grows c.args.self.now c.loop-i.self _ _ c.loop-i.
 pub returns-in-Err-clause-memory : goal.returns-in-Err-clause-memory
 returns-in-Err-clause-memory c =
     let events = c.args.events.now in
-    let event = c.index-events-i.result in
-    inr (
+    let event = c.index-events-i.result in inr (
       event,
       slice_get_read events (length events) c.loop-i.i event refl c.loop-i-test.true c.index-events-i.is,
       subst (λ w. NeedsMemory (phases_of w) event) (sym c.in-Err.ensures.err) c.in-Err.ensures.memory,

@@ -1,6 +1,6 @@
 use Rattle.std.proofs.Common.{◌≡◌, ◌≤◌, length, take}
-use Rattle.std.specs.Prelude.{vec_len, vec_capacity}
-use Rattle.snap_world.specs.Surface.{IsRun}
+use Rattle.std.specs.{Prelude.vec_len, Prelude.vec_capacity}
+use Rattle.snap_world.specs.{Surface.IsRun}
 use Rattle.snap_world.proofs.world.World.run.Given as goal
 
 abbrev pub invariant-loop-i : goal.invariant-loop-i
