@@ -6,8 +6,8 @@ use Rattle.snap_history.specs.History.{number_after, value_after}
 use Rattle.snap_history.proofs.{Beginnings.beginning-trans, Lists.get-set_same, Lists.get-set_other}
 use Rattle.snap_register.specs.{declared.plan.Plan.Plan, History.starts, Rule.segments, Seat.Known, Seat.Grows}
 use Rattle.snap_scan.specs.{declared.segment_value.SegmentValue.SegmentValue}
-use Rattle.snap_memory.specs.Rooms.{WasSeen, IsKeptOf, AreKept, Fits}
-use Rattle.snap_memory.specs.declared.room.Room.{Room, TheVariants.Absent, TheVariants.Kept}
+use Rattle.snap_memory.specs.ScanCaches.{WasSeen, IsKeptOf, AreKept, Fits}
+use Rattle.snap_memory.specs.declared.scan_cache.ScanCache.{ScanCache, TheVariants.Absent, TheVariants.Kept}
 
 pub seen_grown : (a b : Known) (i : ℕ) (x : ℕ × List ℕ) → Grows a b → WasSeen a i x → WasSeen b i x
 seen_grown a b i x g was = record {
@@ -17,32 +17,32 @@ seen_grown a b i x g was = record {
   value_is = was.value_is ∙ ap (λ (p : Plan). value_after (starts p) was.part i) (sym g.plan);
 }
 
-pub kept_grown : (a b : Known) (room : List (Option SegmentValue)) → Grows a b → AreKept a room → AreKept b room
-kept_grown a b room g k = λ i x at. (let was = k i x at in (seen_grown a b i _ g was.0, was.1))
+pub kept_grown : (a b : Known) (cache : List (Option SegmentValue)) → Grows a b → AreKept a cache → AreKept b cache
+kept_grown a b cache g k = λ i x at. (let was = k i x at in (seen_grown a b i _ g was.0, was.1))
 
-pub fits_grown : (a b : Known) (room : Room) → Grows a b → Fits a room → Fits b room
+pub fits_grown : (a b : Known) (cache : ScanCache) → Grows a b → Fits a cache → Fits b cache
 fits_grown a b Absent g f = f
-fits_grown a b (Kept room) g f = (f.0 ∙ ap (λ (p : Plan). segments p) (sym g.plan), kept_grown a b room.items g f.1)
+fits_grown a b (Kept cache) g f = (f.0 ∙ ap (λ (p : Plan). segments p) (sym g.plan), kept_grown a b cache.items g f.1)
 
 -- the cached entry of one segment, and a cache in which one entry is replaced
-kept_at : (seat : Known) (room : List (Option SegmentValue)) (i : ℕ) (kept : Option SegmentValue) → AreKept seat room
-    → slice_get room i ≡ Some kept → IsKeptOf seat i kept
-kept_at seat room i kept all at x e = all i x (at ∙ ap (λ v. Some v) e)
+kept_at : (seat : Known) (cache : List (Option SegmentValue)) (i : ℕ) (kept : Option SegmentValue) → AreKept seat cache
+    → slice_get cache i ≡ Some kept → IsKeptOf seat i kept
+kept_at seat cache i kept all at x e = all i x (at ∙ ap (λ v. Some v) e)
 
-kept_set : (seat : Known) (room : List (Option SegmentValue)) (k : ℕ) (kept : Option SegmentValue) → AreKept seat room
-    → k < length room → IsKeptOf seat k kept → AreKept seat (slice_set room k kept)
-kept_set seat room k kept all inside new i x at = elim (cases_eq i k) [
-  | inl is ↦ rw is (new x (same_Some kept (Some x) (sym (get-set_same room k kept inside) ∙ (rw is at at))))
-  | inr other ↦ all i x (sym (get-set_other room k i kept other) ∙ at)
+kept_set : (seat : Known) (cache : List (Option SegmentValue)) (k : ℕ) (kept : Option SegmentValue) → AreKept seat cache
+    → k < length cache → IsKeptOf seat k kept → AreKept seat (slice_set cache k kept)
+kept_set seat cache k kept all inside new i x at = elim (cases_eq i k) [
+  | inl is ↦ rw is (new x (same_Some kept (Some x) (sym (get-set_same cache k kept inside) ∙ (rw is at at))))
+  | inr other ↦ all i x (sym (get-set_other cache k i kept other) ∙ at)
 ]
 
 -- a cache in which one entry is replaced, by a call that left the seat unchanged
-module _ (a b : Known) (room : List (Option SegmentValue)) (n i end : ℕ) (long : length room ≡ n)
+module _ (a b : Known) (cache : List (Option SegmentValue)) (n i end : ℕ) (long : length cache ≡ n)
     (fits : n ≡ segments a.plan) (count : end ≡ segments a.plan) (test : i < end) where
-  pub kept_in : (kept : Option SegmentValue) → b ≡ a → AreKept a room → IsKeptOf b i kept
-      → AreKept a (slice_set room i kept)
-  kept_in kept same all new = kept_set a room i kept all (omega arith) (rw same at new)
+  pub kept_in : (kept : Option SegmentValue) → b ≡ a → AreKept a cache → IsKeptOf b i kept
+      → AreKept a (slice_set cache i kept)
+  kept_in kept same all new = kept_set a cache i kept all (omega arith) (rw same at new)
 
-  pub kept_of : (kept : Option SegmentValue) → b ≡ a → AreKept a room → kept ≡ get_or room i kept → IsKeptOf b i kept
+  pub kept_of : (kept : Option SegmentValue) → b ≡ a → AreKept a cache → kept ≡ get_or cache i kept → IsKeptOf b i kept
   kept_of kept same all at = rw same
-      (kept_at a room i kept all (slice_get_read room (length room) i kept refl (omega arith) at))
+      (kept_at a cache i kept all (slice_get_read cache (length cache) i kept refl (omega arith) at))

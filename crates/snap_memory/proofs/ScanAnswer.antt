@@ -12,8 +12,9 @@ use Rattle.snap_scan.specs.Sets.{Names, named, size}
 use Rattle.snap_scan.proofs.Sets.{at_named, at_some, at_below, all_at, all_size}
 use Rattle.snap_scan.specs.{Values.pair_of, declared.segment_value.SegmentValue.SegmentValue}
 use Rattle.snap_memory.specs.Scans.{BeginsFresh, IsCleanScan, IsBorrowedScan, IsScan, IsSnapshot, IsPart, HasPart}
-use Rattle.snap_memory.specs.{Scans.AreLooked, Scans.IsSetOf, Scans.all_of, Rooms.WasSeen, declared.room.Found.Found}
-use Rattle.snap_memory.{specs.Rooms.number_of, specs.Rooms.AreEntries, proofs.Collects.beginning-take}
+use Rattle.snap_memory.specs.{Scans.AreLooked, Scans.IsSetOf, Scans.all_of, ScanCaches.WasSeen}
+use Rattle.snap_memory.specs.{declared.scan_cache.ScanSource.ScanSource}
+use Rattle.snap_memory.{specs.ScanCaches.number_of, specs.ScanCaches.AreEntries, proofs.Collects.beginning-take}
 
 -- two beginnings of one list in which a segment has the same number have the same value of it
 ordered : (start : Start) (h p q : List Update) (i : ℕ) → IsBeginning p h → IsBeginning q h → length p ≤ length q
@@ -73,7 +74,7 @@ module _ (set : ℕ) (a b : Known) where
   }
 
   -- entries found are those after `part` if their numbers are
-  listed : (found : Found) (values : List (ℕ × List ℕ)) (part : List Update) → set < 2 ^ segments b.plan
+  listed : (found : ScanSource) (values : List (ℕ × List ℕ)) (part : List Update) → set < 2 ^ segments b.plan
       → AreEntries (named set) b found values → ((i : ℕ) → i < segments b.plan → Names set i
       → number_of found i ≡ number_in b part i) → IsBeginning a.seen part → BeginsFresh a b part
       → IsBeginning part b.seen → IsPart set a b values
@@ -92,7 +93,7 @@ module _ (set : ℕ) (a b : Known) where
   }
 
   -- the entries found can be returned
-  pub entries_short : (found : Found) (values : List SegmentValue)
+  pub entries_short : (found : ScanSource) (values : List SegmentValue)
       → AreEntries (named set) b found (map pair_of values) → All (λ v. IsShort v.value) values
   entries_short found values e k d l =
       let x = e.each k _ (at_some set k (omega (arith, e.count, length-map values pair_of))) in
@@ -101,13 +102,13 @@ module _ (set : ℕ) (a b : Known) where
       slice_get-map pair_of values k ∙ ap (option_map pair_of) (slice_get-get_or values k d l) in
       rw (same_Some x.0 (pair_of v) (sym x.1 ∙ at)) at x.2.1.1
 
-  pub list_clean : (found : Found) (values : List (ℕ × List ℕ)) → set < 2 ^ segments b.plan → IsCleanScan set a b
+  pub list_clean : (found : ScanSource) (values : List (ℕ × List ℕ)) → set < 2 ^ segments b.plan → IsCleanScan set a b
       → AreEntries (named set) b found values → ((i : ℕ) → i < segments b.plan → Names set i
       → looked b i ≡ Some (number_of found i)) → IsPart set a b values
   list_clean found values among s e told = listed found values s.part among e (λ i l named.
       same_Some (number_of found i) _ (sym (told i l named) ∙ s.each i l named)) s.begins s.fresh s.within
 
-  pub list_borrowed : (j : ℕ) (view : List (ℕ × List ℕ)) (found : Found) (values : List (ℕ × List ℕ))
+  pub list_borrowed : (j : ℕ) (view : List (ℕ × List ℕ)) (found : ScanSource) (values : List (ℕ × List ℕ))
       → set < 2 ^ segments b.plan → IsBorrowedScan a b j → IsView b j set view → AreEntries (named set) b found values
       → ((i : ℕ) → number_of found i ≡ (get_or view i (0, [])).0) → IsPart set a b values
   list_borrowed j view found values among s v e are = listed found values v.part among e (λ i l named.

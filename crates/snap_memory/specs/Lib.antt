@@ -1,5 +1,5 @@
 pub mod Scans
-pub mod Rooms
+pub mod ScanCaches
 pub use Rattle.snap_register.specs.Rule
 pub use Rattle.snap_register.specs.Seat
 pub use Rattle.snap_register.specs.declared.plan

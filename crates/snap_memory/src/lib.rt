@@ -16,7 +16,7 @@
 #![tactic(auto)]
 
 mod looks;
-mod room;
+mod scan_cache;
 mod scanner;
 mod snapshot;
 mod update;

@@ -11,7 +11,7 @@ ghost use Rattle.snap_memory.specs.Scans.{TakesLooks, TakesLooksOf, MayRefuse};
 ghost use Rattle.snap_disk.specs.declared.refusal.Refusal.{Refusal};
 
 use crate::looks::scan_some;
-use crate::room::{Room, empty_room, scan_kept};
+use crate::scan_cache::{ScanCache, empty_cache, scan_kept};
 use crate::snapshot::Snapshot;
 use snap_disk::Refusal;
 use snap_history::MAX_VALUE_LEN;
@@ -25,18 +25,18 @@ use std::mem;
 #[derive(Drop)]
 pub struct Scanner {
     seat: ReadSeat,
-    room: Room,
+    cache: ScanCache,
 }
 
 impl Model for Scanner {
     ghost use Rattle.snap_register.specs.Seat.{Known};
-    ghost use Rattle.snap_memory.specs.Rooms.{Fits};
+    ghost use Rattle.snap_memory.specs.ScanCaches.{Fits};
 
     ghost Value = { Known };
 
     ghost view = { λ s. s.seat };
 
-    ghost invariant = { λ s. Fits s.seat s.room };
+    ghost invariant = { λ s. Fits s.seat s.cache };
 }
 
 impl Scanner {
@@ -46,7 +46,7 @@ impl Scanner {
     {
         Scanner {
             seat,
-            room: Room::Absent,
+            cache: ScanCache::Absent,
         }
     }
 
@@ -139,15 +139,15 @@ impl Scanner {
         if self.is_worn(set.len()) {
             return Err(Refusal::Worn);
         }
-        let mut room = match mem::replace(&mut self.room, Room::Absent) {
-            Room::Kept(room) => room,
-            Room::Absent => match empty_room(alloc, self.seat.segments()) {
-                Ok(room) => room,
+        let mut cache = match mem::replace(&mut self.cache, ScanCache::Absent) {
+            ScanCache::Kept(cache) => cache,
+            ScanCache::Absent => match empty_cache(alloc, self.seat.segments()) {
+                Ok(cache) => cache,
                 Err(AllocError) => return Err(Refusal::NoMemory),
             },
         };
-        let values = scan_kept(alloc, &mut self.seat, set, &mut room);
-        self.room = Room::Kept(room);
+        let values = scan_kept(alloc, &mut self.seat, set, &mut cache);
+        self.cache = ScanCache::Kept(cache);
         match values {
             Ok(values) => Ok(values),
             Err(AllocError) => Err(Refusal::NoMemory),

@@ -51,8 +51,7 @@ block_same d w a b whole each fits =
     let bytes : bytes_at d (a + 2) k ≡ bytes_at w (b + 2) k = bytes_same d w (a + 2) (b + 2) k
     (λ q lq. grind (arith, each (2 + q) (omega arith))) in
     let value : value_at d a ≡ value_at w b =
-    ap (λ (n : ℕ). take n (bytes_at d (a + 2) (words_for n))) len
-    ∙ ap (take (length_at w b)) bytes in
+    ap (λ (n : ℕ). take n (bytes_at d (a + 2) (words_for n))) len ∙ ap (take (length_at w b)) bytes in
     record {
       whole = omega (arith, whole.short);
       size = ap (λ (n : ℕ). 2 + words_for n) len;
@@ -97,8 +96,7 @@ blocks_push d w at from k f old whole is =
     (λ q lq. get_or-append-add d p q 0 ∙ piece_get w from n q lq) (omega arith) in
     record {
       each = λ i li. dite (ℕ_discrete i k)
-          (λ same. rw (same, behind_k) (record { whole = new.whole; is = new.block ∙ is }))
-          (λ before.
+          (λ same. rw (same, behind_k) (record { whole = new.whole; is = new.block ∙ is })) (λ before.
           let b = old.each i (omega arith) in
           let s = block_stays d e (behind d at i) pre b.whole in
           rw (behind_stays d e at i pre (λ j lj. (old.each j (omega arith)).whole))
@@ -134,8 +132,7 @@ pub bytes_push : (d value : List ℕ) (k w : ℕ) → length d ≡ 2 + k → byt
     → to_le_bytes w64 w ≡ take 8 (drop (8 * k) value) → bytes_at (d ++ w ∷ []) 2 (k + 1) ≡ take (8 * (k + 1)) value
 bytes_push d value k w long old new =
     let at : 8 * k + 8 ≡ 8 * (k + 1) = omega arith in
-    bytes_next d _ _ k w long old new
-    ∙ (sym (take_piece (8 * k) 8 value) ∙ ap (λ (z : ℕ). take z value) at)
+    bytes_next d _ _ k w long old new ∙ (sym (take_piece (8 * k) 8 value) ∙ ap (λ (z : ℕ). take z value) at)
 
 pub bytes_all : (d bytes : List ℕ) (k : ℕ) → ((q : ℕ) → q < k
     → to_le_bytes w64 (get_or d (2 + q) 0) ≡ take 8 (drop (8 * q) bytes)) → bytes_at d 2 k ≡ take (8 * k) bytes
@@ -153,8 +150,7 @@ pub first_block : (d value : List ℕ) (k : ℕ) → length value ≤ 4080
     → 2 + words_for (length value) ≤ length d → get_or d 0 0 ≡ k → get_or d 1 0 ≡ length value
     → take (length value) (bytes_at d 2 (words_for (length value))) ≡ value → IsBlock d 0 k value
 first_block d value k le fits number len bytes =
-    let val : value_at d 0 ≡ value = ap (λ (n : ℕ). take n (bytes_at d 2 (words_for n))) len
-    ∙ bytes in
+    let val : value_at d 0 ≡ value = ap (λ (n : ℕ). take n (bytes_at d 2 (words_for n))) len ∙ bytes in
     record { whole = omega arith; is = λ t. (number t, val t) }
 
 pub packed_block : (d value bytes : List ℕ) (k n : ℕ) → length value ≤ 4080 → length d ≡ 512 → 510 ≤ n
@@ -164,8 +160,7 @@ packed_block d value bytes k n le long all number len whole each =
     let w = words_enough (length value) le in
     first_block d value k le (omega arith) number len
     (ap (take (length value)) (bytes_all d bytes (words_for (length value)) (λ q lq.
-    each q (omega arith)))
-    ∙ (take-take (length value) (8 * words_for (length value)) bytes w.1 ∙ whole))
+    each q (omega arith))) ∙ (take-take (length value) (8 * words_for (length value)) bytes w.1 ∙ whole))
 
 -- the last word, with the bytes after the whole words
 pub tail_bytes : (d value rest : List ℕ) (k w : ℕ) → length d ≡ 2 + k → bytes_at d 2 k ≡ take (8 * k) value

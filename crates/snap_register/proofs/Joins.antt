@@ -62,13 +62,11 @@ module _ (S : Type 0) where
       → Kept p record { words = s.words; homes = s.homes; views = set s.views id a ++ b ∷ [] }
   over_cut {p} {s} k writer id v a b at lefts pin_quotas pins bare first second others =
       let K = Knows p k.history s.words writer k.pools in
-      over k writer (set s.views id a ++ b ∷ [])
-      (omega (arith, cut (λ u. u.pin_quota) s.views id v a b at))
+      over k writer (set s.views id a ++ b ∷ []) (omega (arith, cut (λ u. u.pin_quota) s.views id v a b at))
       (omega (arith, cut (λ u. u.left) s.views id v a b at))
       (λ i f none. grind (arith, cut (λ u. f (get_or u.pins i 0)) s.views id v a b at, pins i, bare i))
       (λ j u e. ⊎_elim (seats_stay S K s.views id a first others j u)
-      (λ t. rw (t.0 ∙ length-set s.views id a, ← t.1) second)
-      (at_end (set s.views id a) b u j e))
+      (λ t. rw (t.0 ∙ length-set s.views id a, ← t.1) second) (at_end (set s.views id a) b u j e))
 
   -- a new seat without pins that writes nothing; the old one keeps its pins and what it writes
   parts : (p : Plan) (id : ℕ) (v : SeatView) (quota left quota' left' : ℕ) (pins records : List ℕ)
@@ -123,8 +121,7 @@ module _ (S : Type 0) where
   gives p id v seen_end pool_end some_role bare some_looks some_share s k at =
       let writer : ℕ → ℕ = turn k.writer v.low (length s.views) in
       let mine = k.each_seat id v at in
-      over_cut k writer id v (without_first_role v) (first_role v) at (omega arith) (omega arith)
-      (λ i. refl) bare
+      over_cut k writer id v (without_first_role v) (first_role v) at (omega arith) (omega arith) (λ i. refl) bare
       record {
         plan = mine.plan;
         seen = mine.seen;

@@ -5,15 +5,15 @@ use Rattle.std.proofs.Common.{le_refl, cond}
 use Rattle.std.proofs.lemmas.{List.set-get_or, List.length-set, Nat.div-mul-add, Bool.Decides.nat_tests}
 use Rattle.atomic_table.specs.Table.{State, Me, step, stepped, Allows}
 use Rattle.atomic_table.{specs.Table.Act.keeps, proofs.Lists.at_set}
-use Rattle.snap_register.specs.History.{entry, sight, only, count, start_at}
+use Rattle.snap_register.specs.History.{entry, sight, only, count, start_at, record_words}
 use Rattle.snap_register.specs.Rule.{segments, buffers, width, given, cell, Has, IsLegal, total, on, far}
 use Rattle.snap_register.specs.Rule.{beyond, other, Holds, Register, Pinned, Knows, Kept, Learns, pinning, giving}
-use Rattle.snap_register.specs.Rule.{heard, read, revisited}
+use Rattle.snap_register.specs.Rule.{heard, read, revisited, HoldsRecords}
 use Rattle.snap_register.proofs.Lines.{prefix_self, prefix_trans, count_prefix, record_prefix, legal_prefix}
 use Rattle.snap_register.proofs.Places.{Apart, word_apart, given_apart, given_same, given_behind, cell_behind}
 use Rattle.snap_register.proofs.Places.{given_cell, given_inside}
 use Rattle.snap_register.proofs.Sums.{total_set, total_same, total_one, far_none, pins_at}
-use Rattle.snap_register.specs.declared.plan.{Entry.Entry, Plan.Plan, Pool.Pool, SeatView.SeatView}
+use Rattle.snap_register.specs.declared.plan.{Entry.Entry, Plan.Plan, BufferPool.BufferPool, SeatView.SeatView}
 use Rattle.snap_register.specs.declared.plan.UpdatePhase.{UpdatePhase}
 use mathlib.Core.List.{IsPrefix}
 use mathlib.Core.Logic.{dite}
@@ -55,7 +55,8 @@ over_pins f i vs = total (λ v. f (get_or v.pins i 0)) vs
 
 -- a register whose words and pins don't change
 pub register_stays : {p : Plan} {h h' : List Entry} {ws ws' : List ℕ} {vs vs' : List SeatView}
-    {i : ℕ} {d : Pool} {x : ℕ} → SameWords p ws ws' i → ((f : ℕ → ℕ) → f 0 ≡ 0 → over_pins f i vs' ≡ over_pins f i vs)
+    {i : ℕ} {d : BufferPool} {x : ℕ} → SameWords p ws ws' i → ((f : ℕ → ℕ) → f 0 ≡ 0
+    → over_pins f i vs' ≡ over_pins f i vs)
     → total (λ v. v.left) vs' ≤ total (λ v. v.left) vs → only i h' ≡ only i h
     → Register p h ws vs i d x → Register p h' ws' vs' i d x
 register_stays {p} {h} {h'} {ws} {ws'} {vs} {vs'} {i} {d} {x} words pins lefts line r =
@@ -67,11 +68,15 @@ register_stays {p} {h} {h'} {ws} {ws'} {vs} {vs'} {i} {d} {x} words pins lefts l
     let latest = subst (λ (l : List Entry). Holds p ws' i d.current
     (get_or (entry i (start_at p i).words ∷ l) (length l) (entry i [])).words) (sym line)
     (λ q lq lw. words.cells d.current q r.current lq ∙ r.latest q lq lw) in
+    let same : (n : ℕ) → record_words p h i n ≡ record_words p h' i n =
+    λ n. ap (λ (l : List Entry). (get_or (entry i (start_at p i).words ∷ l) n (entry i [])).words) (sym line) in
+    let records : HoldsRecords p h' ws' i d = λ b q lb lq some behind lw. let e = same (get_or d.records b 0) in
+    words.cells b q lb lq ∙ (r.records b q lb lq some behind (rw (← e) at lw) ∙ ap (λ (l : List ℕ). get_or l q 0) e) in
     grind (arith, ap length line)
 
 -- a register whose words don't change, when one view changes but not its pin there
 pub register_beside : {p : Plan} {h h' : List Entry} {ws ws' : List ℕ} {vs : List SeatView} {i : ℕ}
-    {d : Pool} {x : ℕ} (id : ℕ) (v w : SeatView) → get_elem? vs id ≡ some v
+    {d : BufferPool} {x : ℕ} (id : ℕ) (v w : SeatView) → get_elem? vs id ≡ some v
     → get_or v.pins i 0 ≡ get_or w.pins i 0 → w.left ≤ v.left → SameWords p ws ws' i
     → only i h' ≡ only i h → Register p h ws vs i d x → Register p h' ws' (set vs id w) i d x
 register_beside {vs = vs} {i = i} id v w at pin left words line =
@@ -85,7 +90,7 @@ pinned_stays {p} {h} {h'} {ws} {ws'} {i} {b} {r} pre cells k =
 
 -- what a seat knows stays true while the buffers that it pins and what it writes stay
 pub knows_stays : {p : Plan} {h h' : List Entry} {ws ws' : List ℕ} {writer writer' : ℕ → ℕ} {pools pools' : ℕ
-    → Pool} {j : ℕ} {v : SeatView} → IsPrefix h h' → ((i b q : ℕ) → i < segments p → b < buffers p
+    → BufferPool} {j : ℕ} {v : SeatView} → IsPrefix h h' → ((i b q : ℕ) → i < segments p → b < buffers p
     → get_or v.pins i 0 ≡ b + 1 → q < width p → get_or ws' (cell p i b q) 0 ≡ get_or ws (cell p i b q) 0) → ((i : ℕ)
     → Has v i → (writer' i ≡ writer i) × (pools' i ≡ pools i) × (only i h' ≡ only i h)) → Knows p h ws writer pools j v
     → Knows p h' ws' writer' pools' j v
@@ -130,7 +135,7 @@ module _ (S : Type 0) where
   module _ {p : Plan} {s : St} (k : Kept p s) (id : ℕ) {v : SeatView} (w : SeatView)
       (at : get_elem? s.views id ≡ some v) (pin_quota : w.pin_quota ≡ v.pin_quota) where
     -- the rule after seat id has taken a step that left this
-    kept_after : (ws : List ℕ) (h : List Entry) (pools : ℕ → Pool) (pinned : ℕ → ℕ) → length ws ≡ length s.words
+    kept_after : (ws : List ℕ) (h : List Entry) (pools : ℕ → BufferPool) (pinned : ℕ → ℕ) → length ws ≡ length s.words
         → IsLegal p h → ((i : ℕ) → i < segments p → Register p h ws (set s.views id w) i (pools i) (pinned i))
         → Knows p h ws k.writer pools id w → ((j : ℕ) (u : SeatView) → j ≢ id → get_elem? s.views j ≡ some u
         → Knows p h ws k.writer pools j u) → Kept p (after s ws id w)
@@ -148,7 +153,7 @@ module _ (S : Type 0) where
     }
 
     -- a step on register i, whose current word then counts x pins
-    pub step_keeps : (i : ℕ) (ws : List ℕ) (h : List Entry) (pools : ℕ → Pool) (x : ℕ) → w.left ≤ v.left
+    pub step_keeps : (i : ℕ) (ws : List ℕ) (h : List Entry) (pools : ℕ → BufferPool) (x : ℕ) → w.left ≤ v.left
         → length ws ≡ length s.words → IsLegal p h → ((a : ℕ) → a ≢ i → pools a ≡ k.pools a) → ((a : ℕ) → a < segments p
         → a ≢ i → SameWords p s.words ws a) → ((a : ℕ) → a ≢ i → get_or v.pins a 0 ≡ get_or w.pins a 0) → ((a : ℕ)
         → a ≢ i → only a h ≡ only a k.history) → Register p h ws (set s.views id w) i (pools i) x
@@ -246,7 +251,7 @@ module _ (S : Type 0) where
       allowed table slots id m j (λ n. n) (revisited (step slots j 0 0 maybe.none) m) here (λ s k at.
       let v : SeatView = m.0 in
       let h : List Entry = k.history in
-      let d : Pool = k.pools j in
+      let d : BufferPool = k.pools j in
       let x : ℕ = k.pinned j in
       let known = k.each_seat id v at in
       let r = k.registers j lj in
@@ -264,8 +269,7 @@ module _ (S : Type 0) where
         old = le_refl (count j h);
         holds = r.latest;
       }) in
-      dite (ℕ_discrete (get_or v.pins j 0) (get_or s.words j 0 / 2 ^ 56 + 1))
-      (λ same.
+      dite (ℕ_discrete (get_or v.pins j 0) (get_or s.words j 0 / 2 ^ 56 + 1)) (λ same.
       let few : x < 2 ^ 56 = omega (arith, r.wears d.current r.current, pins_at d x d.current refl) in
       let found : get_or s.words j 0 / 2 ^ 56 ≡ d.current = ap (λ (z : ℕ). z / 2 ^ 56) r.word
       ∙ div-mul-add d.current (2 ^ 56) x few in (
@@ -281,8 +285,7 @@ module _ (S : Type 0) where
           pin_quota = known.pin_quota;
         },
         ((λ _. (told_all v w k id at, refl, refl)), λ other. absurd (other same)),
-      ))
-      (λ other. (
+      )) (λ other. (
         v,
         unmoved k id v at refl j m.1 (le_refl v.left) refl known,
         ((λ same. absurd (other same)), λ _. refl),
@@ -297,7 +300,7 @@ module _ (S : Type 0) where
       let v : SeatView = m.0 in
       let p : Plan = v.plan in
       let h : List Entry = k.history in
-      let d : Pool = k.pools j in
+      let d : BufferPool = k.pools j in
       let x : ℕ = k.pinned j in
       let known = k.each_seat id v at in
       let r = k.registers j lj in
@@ -353,8 +356,7 @@ module _ (S : Type 0) where
               pins = λ i b li on_b. dite (ℕ_discrete i j)
                   (λ e. let same : b ≡ d.current = omega (arith, pin, rw e at on_b) in rw (e, same) there)
                   (λ ne. rw (get_or-set_other v.records j i (count j h) 0 ne)
-                  (pinned_stays (prefix_self h) (λ q lq. cells i b q)
-                  (known.pins i b li (elsewhere i ne ∙ on_b))));
+                  (pinned_stays (prefix_self h) (λ q lq. cells i b q) (known.pins i b li (elsewhere i ne ∙ on_b))));
               pin_quota = λ i some_pin. some_share;
             },
         (told_all v w k id at, refl, omega (arith, found, r.current), refl),
@@ -369,7 +371,7 @@ module _ (S : Type 0) where
       let v : SeatView = m.0 in
       let p : Plan = v.plan in
       let h : List Entry = k.history in
-      let d : Pool = k.pools j in
+      let d : BufferPool = k.pools j in
       let x : ℕ = k.pinned j in
       let known = k.each_seat id v at in
       let r = k.registers j lj in
@@ -407,9 +409,7 @@ module _ (S : Type 0) where
               role = λ i has. grind (arith, known.role i has);
               pins = λ i a li on_a. pinned_stays (prefix_self h) (λ q lq. cells i a q)
                   (known.pins i a li (elsewhere i (not_here i (omega arith)) ∙ on_a));
-              pin_quota = λ i some_pin.
-                  known.pin_quota i (omega (arith, elsewhere i (not_here i some_pin)));
+              pin_quota = λ i some_pin. known.pin_quota i (omega (arith, elsewhere i (not_here i some_pin)));
             },
-        λ i a la is. ap (λ (z : ℕ). (record m.0 { pins = set m.0.pins z 0 }, m.1))
-            (given_same p j b i a lb la is).0,
+        λ i a la is. ap (λ (z : ℕ). (record m.0 { pins = set m.0.pins z 0 }, m.1)) (given_same p j b i a lb la is).0,
       )))

@@ -7,7 +7,8 @@ use Rattle.snap_register.specs.History.{sight, count}
 use Rattle.snap_register.specs.Rule.{segments, buffers, size, IsLegal, Publishes}
 use Rattle.snap_register.proofs.Lines.{count_prefix, count-append, count_push_same}
 use Rattle.snap_register.specs.{declared.access.Access.Access, declared.plan.Entry.Entry, declared.plan.Plan.Plan}
-use Rattle.snap_register.specs.{declared.plan.Pool.Pool, declared.plan.SeatView.SeatView, declared.plan.Sight.Sight}
+use Rattle.snap_register.specs.{declared.plan.BufferPool.BufferPool, declared.plan.SeatView.SeatView}
+use Rattle.snap_register.specs.{declared.plan.Sight.Sight}
 use Rattle.snap_register.specs.declared.plan.UpdatePhase.{UpdatePhase}
 use Rattle.snap_register.specs.{Setup.IsSized, Setup.IsSeated, Held.Readable, Steps.view_of}
 use Rattle.snap_register.proofs.Views.{all_readable}
@@ -19,7 +20,8 @@ pub set_each : (P : ℕ → ℕ → Type 0) (l : List ℕ) (j y : ℕ) → j < l
 set_each P l j y inside here others i = grind (arith, get_or-set_same, get_or-set_other)
 
 -- a seat at rest in which only these have changed
-abbrev pub changed : {S : Type 0} → Me S SeatView → List Entry → ℕ → List ℕ → List ℕ → List Sight → Pool → Me S SeatView
+abbrev pub changed : {S : Type 0} → Me S SeatView → List Entry → ℕ → List ℕ → List ℕ → List Sight → BufferPool
+    → Me S SeatView
 changed m seen left pins records sights pool = (
   record m.0 {
     seen = seen;
@@ -42,7 +44,7 @@ module _ {S : Type 0} {words left : ℕ} {pins : List ℕ} {m : Me S SeatView}
 
   -- only the pins, the records, the looks, the pool and what was seen have changed
   seated_with : {words' left' l : ℕ} {pins' : List ℕ} {m' : Me S SeatView} (seen : List Entry)
-      (ps ms : List ℕ) (ss : List Sight) (d : Pool) → words' ≡ words → left' ≡ l
+      (ps ms : List ℕ) (ss : List Sight) (d : BufferPool) → words' ≡ words → left' ≡ l
       → m' ≡ changed m seen l ps ms ss d → length ps ≡ length m.0.pins → length ms ≡ length m.0.records
       → ((i : ℕ) → i < segments m.0.plan → get_or pins' i 0 ≡ get_or ps i 0)
       → ((i : ℕ) → i < segments m.0.plan → get_or ps i 0 ≤ buffers m.0.plan)
@@ -78,8 +80,7 @@ module _ {S : Type 0} {words left : ℕ} {pins : List ℕ} {m : Me S SeatView}
       let ms : List ℕ = set m.0.records j (count j h) in
       let old = looked_records j h lj later in
       seated_with h m.0.pins ms (m.0.sights ++ sight h ∷ []) m.0.pool same (omega (arith, seated.left_is)) is refl
-      (length-set m.0.records j (count j h)) seated.pins_are seated.pins_inside old
-      (all_readable ms sized legal old)
+      (length-set m.0.records j (count j h)) seated.pins_are seated.pins_inside old (all_readable ms sized legal old)
 
   pub seated_pinned : {n s block_words whole words' left' : ℕ} {m' : Me S SeatView} (j x : ℕ)
       → IsSized n s block_words whole m.0.plan → j < segments m.0.plan → j < length pins
@@ -92,8 +93,7 @@ module _ {S : Type 0} {words left : ℕ} {pins : List ℕ} {m : Me S SeatView}
       let ms : List ℕ = set m.0.records j (count j h) in
       let old = looked_records j h lj later in
       seated_set j (x + 1) h ms (m.0.sights ++ sight h ∷ []) lj wide (omega arith) same
-      (omega (arith, seated.left_is)) is (length-set m.0.records j (count j h)) old
-      (all_readable ms sized legal old)
+      (omega (arith, seated.left_is)) is (length-set m.0.records j (count j h)) old (all_readable ms sized legal old)
 
   pub seated_bare : {words' : ℕ} {m' : Me S SeatView} (j : ℕ) → j < segments m.0.plan → j < length pins → words' ≡ words
       → m' ≡ (record m.0 { pins = set m.0.pins j 0 }, m.1) → IsSeated words' (set pins j 0) left m'
@@ -108,12 +108,12 @@ module _ {S : Type 0} {words left : ℕ} {pins : List ℕ} {m : Me S SeatView}
   seated_phase f same is = rw is (search (arith, seated))
 
   -- only the pool has changed
-  pub seated_pool : {words' : ℕ} {m' : Me S SeatView} (d : Pool) → words' ≡ words
+  pub seated_pool : {words' : ℕ} {m' : Me S SeatView} (d : BufferPool) → words' ≡ words
       → m' ≡ (record m.0 { pool = d }, m.1) → IsSeated words' pins left m'
   seated_pool d same is = grind (arith, seated_with, settled)
 
   -- only the pool and what was seen have changed
-  pub seated_shown : {n s block_words whole words' : ℕ} {m' : Me S SeatView} (d : Pool) (seen : List Entry)
+  pub seated_shown : {n s block_words whole words' : ℕ} {m' : Me S SeatView} (d : BufferPool) (seen : List Entry)
       → IsSized n s block_words whole m.0.plan → words' ≡ words → m' ≡ (record m.0 { seen = seen; pool = d }, m.1)
       → IsPrefix m.0.seen seen → IsLegal m.0.plan seen → IsSeated words' pins left m'
   seated_shown d seen sized same is later legal =

@@ -10,6 +10,7 @@ pub mod Later
 pub mod Views
 pub mod Opens
 pub mod Updates
+pub mod Aligned
 pub mod Drafts
 pub mod Pairs
 pub mod Packed

@@ -70,10 +70,8 @@ last_view (x ∷ xs) = ⊎_elim (λ e. inr ([], x, ap (λ w. x ∷ w) e)) (λ t.
 pub legal_push : (p : Plan) (h : List Entry) (x : Entry) → IsLegal p h → Follows p h x → IsLegal p (h ++ x ∷ [])
 legal_push p h x legal follows a b e is = ⊎_elim
     (λ none. let s = same_from_push a h e x (ap (λ w. a ++ e ∷ w) (sym none) ∙ is) in
-    rw (s.1, s.0) follows)
-    (λ t. let s = same_from_push (a ++ e ∷ t.0) h t.1 x (append_assoc a (e ∷ t.0) (t.1 ∷ [])
-    ∙ (ap (λ w. a ++ e ∷ w) (sym t.2) ∙ is)) in legal a t.0 e s.0)
-    (last_view b)
+    rw (s.1, s.0) follows) (λ t. let s = same_from_push (a ++ e ∷ t.0) h t.1 x (append_assoc a (e ∷ t.0) (t.1 ∷ [])
+    ∙ (ap (λ w. a ++ e ∷ w) (sym t.2) ∙ is)) in legal a t.0 e s.0) (last_view b)
 
 pub legal_prefix : (p : Plan) (a h : List Entry) → IsPrefix a h → IsLegal p h → IsLegal p a
 legal_prefix p a h pre legal l r e is =

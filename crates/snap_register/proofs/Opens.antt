@@ -156,6 +156,7 @@ module _ (p : Plan) (ready : IsReady p) where
       nat_tests,
       length-replicate {A = ℕ},
       none_counted,
+      none_at (buffers p),
       zero_given i,
       no_pin i,
       zero_at i,

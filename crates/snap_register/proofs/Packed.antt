@@ -30,8 +30,7 @@ ready_is scanners looks vs os few_scanners few some p =
           let number = ap (λ (z : ℕ × List ℕ). z.0) o.2.block.is ∙ sym o.2.number_is in
           let own : IsBlock words 0 o.0.number (value_at words 0) =
           record { whole = o.2.block.whole; is = λ t. (number t, value_at words 0) } in
-          rw (start_is scanners looks os i o.0 o.1)
-          ((o.2.wide, own), omega (arith, o.2.low, o.2.number_is));
+          rw (start_is scanners looks os i o.0 o.1) ((o.2.wide, own), omega (arith, o.2.low, o.2.number_is));
       block_words_is = refl;
       few = omega arith;
       looks = omega (arith, mul-le-mul_right looks most);
@@ -43,8 +42,7 @@ opening_is scanners looks vs os p = record {
   segments_are = length-map os start_of ∙ sym p.size;
   looks_are = refl;
   each = λ i x e. let o = partner (λ _. IsPacked) vs os i x p e in
-      rw (start_is scanners looks os i o.0 o.1)
-      (λ t. (o.2.number_is t, ap (λ (z : ℕ × List ℕ). z.1) o.2.block.is t));
+      rw (start_is scanners looks os i o.0 o.1) (λ t. (o.2.number_is t, ap (λ (z : ℕ × List ℕ). z.1) o.2.block.is t));
 }
 
 -- after all were packed

@@ -20,8 +20,7 @@ module _ (p : Plan) where
   pub cell_same : (i r q j s t : ℕ) → r < buffers p → s < buffers p → q < width p → t < width p
       → cell p i r q ≡ cell p j s t → (i ≡ j) × (r ≡ s) × (q ≡ t)
   cell_same i r q j s t lr ls lq lt e =
-      let outer = parts_same (i * buffers p + r) (j * buffers p + s) (width p) q t lq lt
-      (omega arith) in
+      let outer = parts_same (i * buffers p + r) (j * buffers p + s) (width p) q t lq lt (omega arith) in
       let each = parts_same i j (buffers p) r s lr ls outer.0 in (each.0, each.1, outer.1)
 
   pub given_same : (i r j s : ℕ) → r < buffers p → s < buffers p → given p i r ≡ given p j s → (i ≡ j) × (r ≡ s)

@@ -2,17 +2,20 @@
 -- publication.
 use Rattle.std.proofs.Common.{◌≡◌, ◌≢◌, ℕ, ◌+◌, ◌-◌, ◌*◌, ◌^◌, ◌<◌, ◌≤◌, List, [], ◌∷◌, ◌++◌, length, get_or, set}
 use Rattle.std.proofs.Common.{false, refl, ap, sym, ◌∙◌, arith, length-append, get_or-set_same, get_or-set_other}
-use Rattle.std.proofs.Common.{le_refl}
-use Rattle.std.proofs.lemmas.List.{get_or_append_left, get_or_push, get_or-take, length-take-le, length-set}
+use Rattle.std.proofs.Common.{le_refl, suc}
+use Rattle.std.proofs.lemmas.List.{get_or_append_left, get_or-append_right, get_or_push, get_or-take, length-take-le}
+use Rattle.std.proofs.lemmas.List.{length-set}
 use Rattle.atomic_table.specs.Table.{State, Me, step, stepped, Allows}
 use Rattle.atomic_table.specs.Table.Act.{keeps}
 use Rattle.snap_history.specs.Limits.{IsNumber}
 use Rattle.snap_register.specs.History.{entry, only, count, number}
 use Rattle.snap_register.specs.Rule.{segments, buffers, width, given, cell, Follows, IsLegal, IsWriter, total}
 use Rattle.snap_register.specs.Rule.{on, beyond, other, pins_of, Register, Writes, Knows, Kept, checked, reused}
-use Rattle.snap_register.specs.Rule.{redrafted, without_last, next_other, moved_pool, published}
+use Rattle.snap_register.specs.Rule.{redrafted, without_last, next_other, moved_pool, published, kept, old_record}
+use Rattle.snap_register.specs.Rule.{old_words, HoldsRecords}
 use Rattle.snap_register.proofs.Lines.{prefix_self, prefix_trans, only_push_other, count_push_same, count_push_other}
-use Rattle.snap_register.proofs.Lines.{record_last, none_between, legal_push, legal_prefix, follows_later}
+use Rattle.snap_register.proofs.Lines.{record_last, record_prefix, none_between, legal_push, legal_prefix}
+use Rattle.snap_register.proofs.Lines.{follows_later}
 use Rattle.snap_register.proofs.Places.{cell_same, cell_behind, given_cell, cell_inside}
 use Rattle.snap_register.proofs.Places.{word_apart, cell_apart}
 use Rattle.snap_register.proofs.Sums.{total_same, total_le, none_on, other_ne, beyond_next, pins_at}
@@ -20,15 +23,16 @@ use Rattle.snap_register.proofs.Sums.{pins_else, pins_moved}
 use Rattle.snap_register.proofs.Keeps.{turn, turn_here, turn_else, SameWords, words_same, words_beside, register_beside}
 use Rattle.snap_register.proofs.Keeps.{pinned_stays, knows_stays, allowed, after, step_keeps, loaded}
 use Rattle.std.proofs.lemmas.Bool.Decides.{nat_tests}
-use Rattle.snap_register.specs.declared.plan.{Entry.Entry, Plan.Plan, Pool.Pool, SeatView.SeatView}
+use Rattle.snap_register.specs.declared.plan.{Entry.Entry, Plan.Plan, BufferPool.BufferPool, SeatView.SeatView}
 use Rattle.snap_register.specs.declared.plan.{UpdatePhase.UpdatePhase, UpdatePhase.TheVariants.Shown}
 use mathlib.Core.List.{IsPrefix}
 use Rattle.snap_register.specs.Rule.{Holds}
-use Rattle.snap_register.specs.History.{record_words}
+use Rattle.snap_register.specs.{History.record_words, Words.piece}
+use Rattle.snap_register.proofs.Blocks.{piece_length, piece_get}
 use mathlib.Core.Logic.{dite}
 use mathlib.Core.Option as maybe
 use mathlib.Core.Option.{some}
-use native.Mathlib.Decide.{ℕ_discrete}
+use native.Mathlib.Decide.{ℕ_discrete, dec_le}
 use lib.ListN.{get_elem?}
 
 module _ (S : Type 0) where
@@ -55,7 +59,8 @@ module _ (S : Type 0) where
 
     -- a step that changes its pool, perhaps words of its free buffer, and perhaps adds its own
     -- update to the history and changes its phase
-    pool_step : (ws : List ℕ) (seen h : List Entry) (d : Pool) (f : UpdatePhase) (x : ℕ) → length ws ≡ length s.words
+    pool_step : (ws : List ℕ) (seen h : List Entry) (d : BufferPool) (f : UpdatePhase) (x : ℕ)
+        → length ws ≡ length s.words
         → IsPrefix k.history h → IsLegal v.plan h → IsPrefix seen h → only i seen ≡ only i h → ((a : ℕ) → a ≢ i
         → only a h ≡ only a k.history) → ((a : ℕ) → a < segments v.plan → a ≢ i → SameWords v.plan s.words ws a)
         → ((b q : ℕ) → b < buffers v.plan → q < width v.plan → b ≢ v.pool.free_buffer
@@ -89,7 +94,7 @@ module _ (S : Type 0) where
         (refl, turn_else k.pools i d a apart, lines a apart)) t)
 
     -- a load that changes the pool
-    pool_load : (c : ℕ) (cs : List (ℕ × S)) (d : Pool) (x : ℕ)
+    pool_load : (c : ℕ) (cs : List (ℕ × S)) (d : BufferPool) (x : ℕ)
         → Register v.plan k.history s.words (set s.views id (record v { pool = d })) i d x
         → Kept v.plan (stepped s c (get_or s.words c 0) id cs (record v { pool = d }) keeps)
     pool_load c cs d x mine = loaded S s c id cs (record v { pool = d })
@@ -97,20 +102,36 @@ module _ (S : Type 0) where
         (λ a ne. refl) (λ a la ne. words_same v.plan s.words a) (λ b q lb lq ne. refl) mine)
 
     -- the register, over the views with another pool
-    with_pool : (seen : List Entry) (d : Pool) (f : UpdatePhase) → Register v.plan k.history s.words
+    with_pool : (seen : List Entry) (d : BufferPool) (f : UpdatePhase) → Register v.plan k.history s.words
         (set s.views id (record v { seen = seen; pool = d; phase = f })) i v.pool (k.pinned i)
     with_pool seen d f = register_beside id v (record v { seen = seen; pool = d; phase = f }) at refl
         (le_refl v.left) (words_same v.plan s.words i) refl register
 
+    -- the record of the free buffer is among those that the seat has seen
+    old_seen : old_record v ≤ count i v.seen
+    old_seen = omega (arith, register.old v.pool.free_buffer, ap length all)
+
+    old_words_are : old_words v ≡ record_words v.plan k.history i (old_record v)
+    old_words_are = rw role.0 (sym (record_prefix v.plan v.seen k.history i (old_record v) known.seen old_seen))
+
+    -- a word of that record, behind the draft
+    old_word : (q : ℕ) → v.pool.free_buffer < buffers v.plan → q < width v.plan → 0 < old_record v
+        → length v.pool.draft ≤ q → q < length (old_words v)
+        → get_or s.words (cell v.plan i v.pool.free_buffer q) 0 ≡ get_or (old_words v) q 0
+    old_word q free lq any behind lw = let e = old_words_are in
+        register.records v.pool.free_buffer q free lq any (λ _. behind) (rw e at lw)
+        ∙ ap (λ (l : List ℕ). get_or l q 0) (sym e)
+
     -- the next word of the free buffer, after the words l of the draft that stay, is y
     draft_at : (c y : ℕ) (cs : List (ℕ × S)) (l : List ℕ) → v.pool.free_buffer < buffers v.plan
-        → length l ≤ length v.pool.draft → length l < width v.plan → ((q : ℕ) → q < length l
+        → length l ≤ length v.pool.draft → length v.pool.draft ≤ length l + 1 → length l < width v.plan
+        → ((q : ℕ) → q < length l
         → get_or v.pool.draft q 0 ≡ get_or l q 0) → c ≡ cell v.plan i v.pool.free_buffer (length l)
         → Kept v.plan (stepped s c y id cs (record v { pool = record v.pool { draft = l ++ y ∷ [] } }) keeps)
-    draft_at c y cs l free kept short same place =
+    draft_at c y cs l free stays few short same place =
         let p : Plan = v.plan in
-        let d : Pool = v.pool in
-        let e : Pool = record d { draft = l ++ y ∷ [] } in
+        let d : BufferPool = v.pool in
+        let e : BufferPool = record d { draft = l ++ y ∷ [] } in
         let r = with_pool v.seen e v.phase in
         let n : ℕ = length l in
         let at_n : ℕ = cell p i d.free_buffer n in
@@ -126,36 +147,37 @@ module _ (S : Type 0) where
         let last = get_or-set_same s.words at_n y 0 (omega (arith, k.wide)) in
         let givens : (b : ℕ) → b < buffers p → get_or ws (given p i b) 0 ≡ get_or s.words (given p i b) 0 =
         λ b lb. get_or-set_other s.words at_n _ y 0 (given_cell p i b i d.free_buffer n inside lb) in
+        let records : HoldsRecords p k.history ws i e = λ b q lb lq any behind lw.
+        cells b q lb lq (λ f z. absurd (omega (arith, behind f, long, z)))
+        ∙ r.records b q lb lq any (λ f. omega (arith, behind f, long, few)) lw in
         rw place (pool_step ws v.seen k.history e v.phase (k.pinned i) (length-set s.words at_n y)
         (prefix_self k.history) k.legal known.seen all (λ a ne. refl)
         (λ a la ne. words_beside s.words at_n y a (cell_apart p a i d.free_buffer n la free short ne))
-        (λ b q lb lq ne. cells b q lb lq (λ e _. ne e))
-        (grind (arith, get_or_push, get_or_append_left)))
+        (λ b q lb lq ne. cells b q lb lq (λ e _. ne e)) (grind (arith, get_or_push, get_or_append_left)))
 
   pub checks : (p : Plan) (slots id : ℕ) (m : M) (i c : ℕ) → m.0.spent ≡ false → IsWriter m.0 i → i < segments m.0.plan
-      → next_other m.0.pool < buffers m.0.plan → c ≡ given m.0.plan i (next_other m.0.pool)
+      → m.0.pool.draft ≡ [] → next_other m.0.pool < buffers m.0.plan → c ≡ given m.0.plan i (next_other m.0.pool)
       → Allows (Kept p) slots id m c (λ n. n) (checked (step slots c 0 0 maybe.none) m)
-  checks table slots id m i c here role inside lb place = rw place
+  checks table slots id m i c here role inside empty lb place = rw place
       (allowed S table slots id m (given m.0.plan i (next_other m.0.pool)) (λ n. n)
-      (checked (step slots (given m.0.plan i (next_other m.0.pool)) 0 0 maybe.none) m) here
-      (λ s k at.
+      (checked (step slots (given m.0.plan i (next_other m.0.pool)) 0 0 maybe.none) m) here (λ s k at.
       let v : SeatView = m.0 in
-      let d : Pool = v.pool in
+      let d : BufferPool = v.pool in
       let b : ℕ = next_other d in
       let x : ℕ = k.pinned i in
       let at_b : ℕ = given v.plan i b in
       let apart : d.current ≢ b = λ e. other_ne d.current d.found_pinned (sym e) in
       let counted = pins_else d x b apart in
-      dite (ℕ_discrete (get_or s.words at_b 0) (get_or d.counted b 0))
-      (λ same.
-      let e : Pool = record d { free_buffer = b; draft = [] } in
-      let o = with_pool id k at role inside v.seen e v.phase in (
+      dite (ℕ_discrete (get_or s.words at_b 0) (get_or d.counted b 0)) (λ same.
+      let e : BufferPool = record d { free_buffer = b; draft = [] } in
+      let o = with_pool id k at role inside v.seen e v.phase in
+      let records : HoldsRecords v.plan k.history s.words i e = λ a q la lq any _ lw.
+      o.records a q la lq any (λ _. omega (arith, ap length empty)) lw in (
         record v { pool = e },
-        pool_load id k at role inside at_b m.1 e x (omega (arith, o.balance b lb)),
+        pool_load id k at role inside at_b m.1 e x (omega (arith, o.balance b lb, records)),
         (λ _. refl, λ ne. absurd (ne same)),
-      ))
-      (λ differs.
-      let e : Pool = record d { found_pinned = d.found_pinned + 1 } in
+      )) (λ differs.
+      let e : BufferPool = record d { found_pinned = d.found_pinned + 1 } in
       let o = with_pool id k at role inside v.seen e v.phase in
       let vs : List SeatView = set s.views id (record v { pool = e }) in
       let next = beyond_next i d.current d.found_pinned vs in
@@ -174,8 +196,45 @@ module _ (S : Type 0) where
       allowed S p slots id m c (λ n. n) (reused (step slots c 0 0 maybe.none) m) here (λ s k at. (
         record m.0 { pool = record m.0.pool { draft = m.0.pool.draft ++ get_or s.words c 0 ∷ [] } },
         draft_at id k at role inside c (get_or s.words c 0) m.1 m.0.pool.draft free
-            (le_refl (length m.0.pool.draft)) short (λ q lq. refl) place,
-        refl,
+            (le_refl (length m.0.pool.draft)) (omega arith) short (λ q lq. refl) place,
+        (
+          refl,
+          λ any. (
+            rw role.0 (old_seen id k at role inside),
+            legal_prefix m.0.plan m.0.seen k.history (k.each_seat id m.0 at).seen k.legal,
+            λ lw. ap (λ (z : ℕ). get_or s.words z 0) place ∙ old_word id k at role inside (length m.0.pool.draft) free
+                short any (le_refl (length m.0.pool.draft)) lw,
+          ),
+        ),
+      ))
+
+  -- after a load the draft has the words of the old record as far as the one loaded
+  pub keeps_record : (p : Plan) (slots id : ℕ) (m : M) (i q c : ℕ) → m.0.spent ≡ false → IsWriter m.0 i
+      → i < segments m.0.plan → m.0.pool.free_buffer < buffers m.0.plan → 0 < old_record m.0
+      → length m.0.pool.draft ≤ q + 1 → q < width m.0.plan → q < length (old_words m.0)
+      → c ≡ cell m.0.plan i m.0.pool.free_buffer q
+      → Allows (Kept p) slots id m c (λ n. n) (kept (step slots c 0 0 maybe.none) m)
+  keeps_record table slots id m i q c here role inside free any behind lq lw place =
+      allowed S table slots id m c (λ n. n) (kept (step slots c 0 0 maybe.none) m) here (λ s k at.
+      let v : SeatView = m.0 in
+      let d : BufferPool = v.pool in
+      let n : ℕ = length d.draft in
+      let l : List ℕ = piece (old_words v) n (q + 1 - n) in
+      let e : BufferPool = record d { draft = d.draft ++ l } in
+      let o = with_pool id k at role inside v.seen e v.phase in
+      let count_l : length l ≡ q + 1 - n = piece_length (old_words v) n (q + 1 - n) in
+      let long : length (d.draft ++ l) ≡ q + 1 = length-append d.draft l ∙ omega arith in
+      let draft : (a : ℕ) → d.free_buffer < buffers v.plan → a < length (d.draft ++ l)
+      → get_or s.words (cell v.plan i d.free_buffer a) 0 ≡ get_or (d.draft ++ l) a 0 = λ a _ la. dite (dec_le (suc a) n)
+      (λ lt. o.draft a free lt ∙ sym (get_or_append_left d.draft l 0 a lt))
+      (λ ge. old_word id k at role inside a free (omega arith) any (omega arith) (omega arith)
+      ∙ sym (get_or-append_right d.draft l n a 0 refl (omega arith) ∙ (piece_get (old_words v) n (q + 1 - n) (a - n)
+      (omega arith) ∙ ap (λ (z : ℕ). get_or (old_words v) z 0) (omega arith)))) in
+      let records : HoldsRecords v.plan k.history s.words i e = λ a r la lr any' behind' lw'.
+      o.records a r la lr any' (λ f. omega (arith, behind' f, long)) lw' in (
+        record v { pool = e },
+        pool_load id k at role inside c m.1 e (k.pinned i) (grind arith),
+        λ a la is. search (arith),
       ))
 
   -- after a store the word is the one stored
@@ -187,10 +246,9 @@ module _ (S : Type 0) where
       let d : List ℕ = m.0.pool.draft in
       let l : List ℕ = without_last d in
       let long : length l ≡ length d - 1 = length-take-le (length d - 1) d (omega arith) in
-      allowed S p slots id m c (λ _. y) (λ _. redrafted (step slots c y 0 maybe.none) m y) here
-      (λ s k at. (
+      allowed S p slots id m c (λ _. y) (λ _. redrafted (step slots c y 0 maybe.none) m y) here (λ s k at. (
         record m.0 { pool = record m.0.pool { draft = l ++ y ∷ [] } },
-        draft_at id k at role inside c y m.1 l free (omega arith) (omega arith)
+        draft_at id k at role inside c y m.1 l free (omega arith) (omega arith) (omega arith)
             (λ q lq. sym (get_or-take (length d - 1) d q 0 (omega arith)))
             (place ∙ ap (cell m.0.plan i m.0.pool.free_buffer) (sym long)),
         refl,
@@ -202,13 +260,12 @@ module _ (S : Type 0) where
       → y ≡ m.0.pool.free_buffer * 2 ^ 56
       → Allows (Kept p) slots id m i (λ _. y) (published (step slots i y 0 maybe.none) m)
   publishes table slots id m i y here role inside free small follows is =
-      allowed S table slots id m i (λ _. y) (published (step slots i y 0 maybe.none) m) here
-      (λ s k at.
+      allowed S table slots id m i (λ _. y) (published (step slots i y 0 maybe.none) m) here (λ s k at.
       let v : SeatView = m.0 in
       let p : Plan = v.plan in
       let h : List Entry = k.history in
       let known = k.each_seat id v at in
-      let d : Pool = v.pool in
+      let d : BufferPool = v.pool in
       let x : ℕ = k.pinned i in
       let seen_all : count i v.seen ≡ count i h = ap length (all id k at role inside) in
       let e : Entry = entry i d.draft in
@@ -218,7 +275,7 @@ module _ (S : Type 0) where
       (follows (legal_prefix p v.seen h known.seen k.legal))) in
       let x' : ℕ = get_or s.words i 0 - d.current * 2 ^ 56 in
       let c' : ℕ = get_or d.counted d.current 0 + x' in
-      let d' : Pool = moved_pool v d.free_buffer x' in
+      let d' : BufferPool = moved_pool v d.free_buffer x' in
       let w : SeatView = record v { seen = h'; pool = d'; phase = Shown } in
       let r = with_pool id k at role inside h' d' Shown in
       let is_x : x' ≡ x = omega (arith, r.word) in
@@ -236,12 +293,26 @@ module _ (S : Type 0) where
       let latest : Holds p ws i d.free_buffer (record_words p h' i (count i h')) =
       rw (one_more, record_last p h i d.draft) (λ q lq lw. cells d.free_buffer q ∙ r.draft q free lw) in
       let word = get_or-set_same s.words i y 0 (omega (arith, k.wide)) in
-      let far_same = total_same (beyond i t d.free_buffer) s.views id v w at refl in (
+      let far_same = total_same (beyond i t d.free_buffer) s.views id v w at refl in
+      let own_count : count v.low v.seen + 1 ≡ count i h' = omega (arith, ap (λ (z : ℕ). count z v.seen) role.0) in
+      let wide_free : d.free_buffer < length d.records = omega (arith, r.wide_records) in
+      let old_ones : (b : ℕ) → get_or d'.records b 0 ≤ count i h' = λ b. dite (ℕ_discrete b d.free_buffer)
+      (λ z. rw (z, get_or-set_same d.records d.free_buffer (count v.low v.seen + 1) 0 wide_free) (omega arith))
+      (λ z. rw (get_or-set_other d.records d.free_buffer b (count v.low v.seen + 1) 0 z) (omega (arith, r.old b))) in
+      let records : HoldsRecords p h' ws i d' = λ b q lb lq any _ lw. dite (ℕ_discrete b d.free_buffer)
+      (λ z. let same : record_words p h' i (get_or d'.records b 0) ≡ d.draft =
+      rw (z, get_or-set_same d.records d.free_buffer (count v.low v.seen + 1) 0 wide_free, own_count, one_more)
+      (record_last p h i d.draft) in
+      cells b q ∙ (rw z (r.draft q free (rw same at lw)) ∙ ap (λ (l : List ℕ). get_or l q 0) (sym same)))
+      (λ z. let stays = get_or-set_other d.records d.free_buffer b (count v.low v.seen + 1) 0 z in
+      let same : record_words p h' i (get_or d'.records b 0) ≡ record_words p h i (get_or d.records b 0) =
+      rw stays (record_prefix p h h' i (get_or d.records b 0) (e ∷ [], refl) (r.old b)) in
+      cells b q ∙ (r.records b q lb lq (rw stays at any) (λ f. absurd (z f)) (rw same at lw)
+      ∙ ap (λ (l : List ℕ). get_or l q 0) (sym same))) in (
         w,
         pool_step id k at role inside ws h' h' d' Shown 0 (length-set s.words i y) (e ∷ [], refl)
             legal' (prefix_self h') refl (λ a ne. only_push_other a h e (λ z. ne (sym z)))
-            (λ a la ne. words_beside s.words i y a (word_apart p a i inside ne))
-            (λ b q lb lq ne. cells b q)
+            (λ a la ne. words_beside s.words i y a (word_apart p a i inside ne)) (λ b q lb lq ne. cells b q)
             (grind (arith, length-set {A = ℕ}, get_or-set_other {A = ℕ})),
         (
           record {

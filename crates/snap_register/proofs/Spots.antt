@@ -2,7 +2,7 @@
 use Rattle.std.proofs.Common.{◌≡◌, ℕ, ◌+◌, ◌<◌, ◌++◌, List, length, arith, length-append}
 use Rattle.atomic_table.specs.Table.{Me}
 use Rattle.snap_register.specs.Rule.{width, cell}
-use Rattle.snap_register.specs.Steps.{Owns, IsFree, LiesAt, IsNext, IsLast}
+use Rattle.snap_register.specs.Steps.{Owns, IsFree, LiesAt, IsNext, IsOld}
 use Rattle.snap_register.specs.{declared.plan.SeatView.SeatView, Held.held, Setup.IsSeated}
 use Rattle.snap_register.proofs.Places.{cell_inside}
 
@@ -26,5 +26,5 @@ module _ {S : Type 0} {words left : ℕ} {pins : List ℕ} {m : Me S SeatView}
   pub next_inside : {place : ℕ} → IsNext m.0 place → place < words
   next_inside next = grind (arith, cell_inside)
 
-  pub last_inside : {place : ℕ} → IsLast m.0 place → place < words
-  last_inside last = grind (arith, cell_inside)
+  pub old_inside : {q place : ℕ} → IsOld m.0 q place → place < words
+  old_inside old = grind (arith, cell_inside)

@@ -3,7 +3,7 @@ use Rattle.std.proofs.Common.{◌≡◌, ◌≢◌, ℕ, zero, suc, ◌+◌, ◌
 use Rattle.std.proofs.Common.{ap, sym, arith, length, get_or-set_same, get_or-set_other}
 use Rattle.std.proofs.lemmas.Bool.Decides.{nat_tests}
 use Rattle.snap_register.specs.Rule.{total, on, far, beyond, other, pins_of}
-use Rattle.snap_register.specs.declared.plan.{Pool.Pool, SeatView.SeatView}
+use Rattle.snap_register.specs.declared.plan.{BufferPool.BufferPool, SeatView.SeatView}
 use mathlib.Core.Option.{some, some-injective, some-ne-none}
 use lib.ListN.{get_elem?}
 
@@ -64,13 +64,14 @@ beyond_next i c k vs = total_add (on i (other c k)) (beyond i (other c (k + 1)) 
     (beyond i (other c k) c) vs (λ v. far_next c k (get_or v.pins i 0))
 
 -- pins that the current word counts: on its own buffer, and on others
-pub pins_at : (d : Pool) (x b : ℕ) → d.current ≡ b → pins_of d x b ≡ get_or d.counted b 0 + x
+pub pins_at : (d : BufferPool) (x b : ℕ) → d.current ≡ b → pins_of d x b ≡ get_or d.counted b 0 + x
 pins_at d x b e = grind (arith, nat_tests)
 
-pub pins_else : (d : Pool) (x b : ℕ) → d.current ≢ b → pins_of d x b ≡ get_or d.counted b 0
+pub pins_else : (d : BufferPool) (x b : ℕ) → d.current ≢ b → pins_of d x b ≡ get_or d.counted b 0
 pins_else d x b e = grind (arith, nat_tests)
 
 -- the pins on each buffer, after the current word's were added and buffer f became current
-pub pins_moved : (d : Pool) (x c f : ℕ) → d.current < length d.counted → get_or d.counted d.current 0 + x ≡ c → (b : ℕ)
+pub pins_moved : (d : BufferPool) (x c f : ℕ) → d.current < length d.counted → get_or d.counted d.current 0 + x ≡ c
+    → (b : ℕ)
     → get_or (set d.counted d.current c) b 0 + cond (f == b) 0 0 ≡ pins_of d x b
 pins_moved d x c f inside sum b = grind (arith, nat_tests, get_or-set_same {A = ℕ}, get_or-set_other {A = ℕ})

@@ -130,8 +130,7 @@ view_shown z v j set xs legal found le size each =
       before = found.is ∙ ap Some (omega (arith, number_is v.plan u.part j, u.before, t.1));
       memory = record {
         size = size;
-        each = λ k lk named. each k lk named
-            ∙ ap Some ((u.view.each k lk).is ∙ memory_is v.plan u.part k);
+        each = λ k lk named. each k lk named ∙ ap Some ((u.view.each k lk).is ∙ memory_is v.plan u.part k);
       };
     }
 
@@ -156,8 +155,7 @@ may_take z v Collected read m =
           let words : held v k ≡ record_words v.plan b.0 k (count k b.0) =
           ap (record_words v.plan v.seen k) c
           ∙ record_prefix v.plan b.0 v.seen k (count k b.0) b.1 (le_refl (count k b.0)) in
-          (read k lk).own.is
-          ∙ (λ s. ((start_at v.plan k).number + c s, value_at (words s) 0)),
+          (read k lk).own.is ∙ (λ s. ((start_at v.plan k).number + c s, value_at (words s) 0)),
     )
 may_take z v (Borrowed j) read m = λ part pre before.
     let t = last_look_is z v j m.found.told m.found.is in

@@ -5,8 +5,8 @@ use Rattle.std.specs.Prelude.{slice_index, slice_set, take, true, false}
 use Rattle.atomic_table.specs.Table.{State, Me, Step}
 use Rattle.snap_history.specs.Limits.{IsNumber}
 use Rattle.snap_register.specs.History.{entry, sight, only, count, number, record_words, memory}
-use Rattle.snap_register.specs.Words.{value_at, IsRecord}
-use Rattle.snap_register.specs.declared.plan.{Entry.Entry, Plan.Plan, Pool.Pool, SeatView.SeatView}
+use Rattle.snap_register.specs.Words.{value_at, piece, IsRecord}
+use Rattle.snap_register.specs.declared.plan.{Entry.Entry, Plan.Plan, BufferPool.BufferPool, SeatView.SeatView}
 use Rattle.snap_register.specs.declared.plan.UpdatePhase.TheVariants.{Shown, Storing, Stored}
 use mathlib.Core.Option.{some}
 use mathlib.Core.List.{IsPrefix}
@@ -78,18 +78,24 @@ abbrev pub other : ℕ → ℕ → ℕ
 other c k = cond (ltb k c) k (k + 1)
 
 -- all pins that the writer counted on buffer b, with the x that the current word counts
-abbrev pub pins_of : Pool → ℕ → ℕ → ℕ
+abbrev pub pins_of : BufferPool → ℕ → ℕ → ℕ
 pins_of d x b = slice_index d.counted b + cond (d.current == b) x 0
 
 -- buffer b of register i holds the words l, as far as it reaches
 abbrev pub Holds : Plan → List ℕ → ℕ → ℕ → List ℕ → Type 0
 Holds p words i b l = (q : ℕ) → q < width p → q < length l → slice_index words (cell p i b q) ≡ slice_index l q
 
+-- each buffer holds its record, the free one behind the words of its draft
+abbrev pub HoldsRecords : Plan → List Entry → List ℕ → ℕ → BufferPool → Type 0
+HoldsRecords p h words i d = (b q : ℕ) → b < buffers p → q < width p → 0 < slice_index d.records b
+    → (b ≡ d.free_buffer → length d.draft ≤ q) → q < length (record_words p h i (slice_index d.records b))
+    → slice_index words (cell p i b q) ≡ slice_index (record_words p h i (slice_index d.records b)) q
+
 -- Register i, whose current word counts x pins. The pins counted for a buffer are those returned and those held. The
 -- buffer found free has no pins. The buffers found pinned, plus the pins on buffers other than these and the current
 -- one, are no more than the seats. No count comes near 2^56.
 module _ (p : Plan) (h : List Entry) (words : List ℕ) (views : List SeatView) (i : ℕ) where
-  pub record Register (d : Pool) (x : ℕ) : Type 0 where
+  pub record Register (d : BufferPool) (x : ℕ) : Type 0 where
     pub word : slice_index words i ≡ d.current * 2 ^ 56 + x
     pub current : d.current < buffers p
     pub number : IsNumber (number p h i)
@@ -103,6 +109,9 @@ module _ (p : Plan) (h : List Entry) (words : List ℕ) (views : List SeatView) 
     pub draft : (q : ℕ) → d.free_buffer < buffers p → q < length d.draft
         → slice_index words (cell p i d.free_buffer q) ≡ slice_index d.draft q
     pub latest : Holds p words i d.current (record_words p h i (count i h))
+    pub wide_records : length d.records ≡ buffers p
+    pub old : (b : ℕ) → slice_index d.records b ≤ count i h
+    pub records : HoldsRecords p h words i d
 
 -- the pin on buffer b of register i is on record r, which the buffer holds
 pub record Pinned (p : Plan) (h : List Entry) (words : List ℕ) (i b r : ℕ) : Type 0 where
@@ -110,7 +119,7 @@ pub record Pinned (p : Plan) (h : List Entry) (words : List ℕ) (i b r : ℕ) :
   pub old : r ≤ count i h
   pub holds : Holds p words i b (record_words p h i r)
 
-module _ (p : Plan) (h : List Entry) (words : List ℕ) (writer : ℕ → ℕ) (pools : ℕ → Pool)
+module _ (p : Plan) (h : List Entry) (words : List ℕ) (writer : ℕ → ℕ) (pools : ℕ → BufferPool)
     (seat : ℕ) (v : SeatView) where
   -- the seat is the writer of segment i: it has seen or received all its updates, and knows its pool
   pub record Writes (i : ℕ) : Type 0 where
@@ -133,7 +142,7 @@ module _ (p : Plan) (h : List Entry) (words : List ℕ) (writer : ℕ → ℕ) (
 pub record Kept {S : Type 0} (p : Plan) (s : State S SeatView) : Type 0 where
   pub history : List Entry
   pub writer : ℕ → ℕ
-  pub pools : ℕ → Pool
+  pub pools : ℕ → BufferPool
   pub pinned : ℕ → ℕ
   pub wide : length s.words ≡ size p
   pub shares : total (λ v. v.pin_quota) s.views ≤ seats p
@@ -152,14 +161,27 @@ pub record Learns (v w : SeatView) : Type 0 where
   pub below : IsBelow v.plan w.seen
 
 -- the pool after buffer b became current, when the word before counted x pins
-abbrev pub moved_pool : SeatView → ℕ → ℕ → Pool
+abbrev pub moved_pool : SeatView → ℕ → ℕ → BufferPool
 moved_pool v b x = record {
   current = b;
   found_pinned = 0;
   free_buffer = buffers v.plan;
   counted = slice_set v.pool.counted v.pool.current (slice_index v.pool.counted v.pool.current + x);
   draft = [];
+  records = slice_set v.pool.records b (count v.low v.seen + 1);
 }
+
+-- which update's record the free buffer held when it was found, and the words of that record
+abbrev pub old_record : SeatView → ℕ
+old_record v = slice_index v.pool.records v.pool.free_buffer
+
+abbrev pub old_words : SeatView → List ℕ
+old_words v = record_words v.plan v.seen v.low (old_record v)
+
+-- if there is such a record, the seat has seen it and a legal history, and x is its word q
+abbrev pub WasAt : SeatView → ℕ → ℕ → Type 0
+WasAt v q x = 0 < old_record v → (old_record v ≤ count v.low v.seen) × IsLegal v.plan v.seen
+    × (q < length (old_words v) → x ≡ slice_index (old_words v) q)
 
 -- the last update that the seat has seen is its own, with the words that it drafted, and the free
 -- buffer is the current one
@@ -172,8 +194,8 @@ pub record Publishes (v w : SeatView) (i x : ℕ) : Type 0 where
   pub below : IsBelow v.plan w.seen
   pub small : slice_index v.pool.counted v.pool.current + x < 2 ^ 56
 
-abbrev pub no_pool : Pool
-no_pool = record { current = 0; found_pinned = 0; free_buffer = 0; counted = []; draft = [] }
+abbrev pub no_pool : BufferPool
+no_pool = record { current = 0; found_pinned = 0; free_buffer = 0; counted = []; draft = []; records = [] }
 
 abbrev pub spent : SeatView
 spent = record {
@@ -253,7 +275,7 @@ abbrev pub without_last : List ℕ → List ℕ
 without_last ws = take (length ws - 1) ws
 
 -- the buffer whose given-back count is loaded next
-abbrev pub next_other : Pool → ℕ
+abbrev pub next_other : BufferPool → ℕ
 next_other d = other d.current d.found_pinned
 
 module _ {S : Type 0} where
@@ -330,7 +352,21 @@ module _ {S : Type 0} where
 
   -- a load of the next word of the free buffer, which becomes a part of the draft
   abbrev pub reused : Step S → Me S SeatView → ℕ → Me S SeatView → Type 0
-  reused st m found m' = m' ≡ (record m.0 { pool = record m.0.pool { draft = m.0.pool.draft ++ found ∷ [] } }, m.1)
+  reused st m found m' = (m' ≡ (record m.0 { pool = record m.0.pool { draft = m.0.pool.draft ++ found ∷ [] } }, m.1))
+      × WasAt m.0 (length m.0.pool.draft) found
+
+  -- a load of a word of the free buffer, up to which the draft takes on what is left of the old record
+  abbrev pub kept : Step S → Me S SeatView → ℕ → Me S SeatView → Type 0
+  kept st m found m' = (q : ℕ) → q < width m.0.plan → st.word ≡ cell m.0.plan m.0.low m.0.pool.free_buffer q
+      → m' ≡ (
+        record m.0 {
+          pool = record m.0.pool {
+            draft = m.0.pool.draft
+                ++ piece (old_words m.0) (length m.0.pool.draft) (q + 1 - length m.0.pool.draft);
+          };
+        },
+        m.1,
+      )
 
   -- a store in place of the last drafted word
   abbrev pub redrafted : Step S → Me S SeatView → ℕ → Me S SeatView → Type 0

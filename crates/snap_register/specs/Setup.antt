@@ -9,7 +9,7 @@ use Rattle.snap_register.specs.Words.{value_at, IsBlock}
 use Rattle.snap_register.specs.Rule.{segments, seats, buffers, width, size, IsWriter}
 use Rattle.snap_register.specs.{declared.words.TheConstants.BLOCK_WORDS, declared.plan.SeatView.SeatView, Held.Readable}
 use Rattle.snap_register.specs.{declared.setup.Setup.Setup, declared.plan.Opening.Opening, declared.tables.Sizes.Sizes}
-use Rattle.snap_register.specs.{declared.plan.Plan.Plan, declared.plan.Start.Start, declared.plan.Pool.Pool}
+use Rattle.snap_register.specs.{declared.plan.Plan.Plan, declared.plan.Start.Start, declared.plan.BufferPool.BufferPool}
 use Rattle.snap_register.specs.declared.plan.UpdatePhase.TheVariants.{Shown}
 use Rattle.atomic_table.specs.Table.{Me}
 
@@ -27,13 +27,14 @@ plan_with scanners looks block_words xs = record {
 abbrev pub plan_of : Setup → Plan
 plan_of g = plan_with g.scanners g.looks g.block_words g.values.value.items
 
-abbrev pub first_pool : Plan → Pool
+abbrev pub first_pool : Plan → BufferPool
 first_pool p = record {
   current = 0;
   found_pinned = 0;
   free_buffer = buffers p;
   counted = replicate (buffers p) 0;
   draft = [];
+  records = replicate (buffers p) 0;
 }
 
 abbrev pub first_view : Plan → SeatView
@@ -93,8 +94,9 @@ pub record IsSeated {S : Type 0} (words : ℕ) (pins : List ℕ) (left : ℕ)
   pub records_are : (i : ℕ) → i < segments m.0.plan → slice_index m.0.records i ≤ count i m.0.seen
   pub readable : (i : ℕ) → i < segments m.0.plan → Readable m.0.plan m.0.seen i (slice_index m.0.records i)
 
--- the seat writes segment i alone, at number k, and knows its current buffer and the pins counted for each buffer
-pub record IsPool {S : Type 0} (i k current : ℕ) (counted : List ℕ)
+-- the seat writes segment i alone, at number k, and knows its current buffer, the pins counted for each buffer, and
+-- which of them it has filled
+pub record IsPool {S : Type 0} (i k current : ℕ) (counted filled : List ℕ)
     (m : Me S SeatView) : Type 0 where
   pub role : IsWriter m.0 i
   pub inside : i < segments m.0.plan
@@ -104,6 +106,9 @@ pub record IsPool {S : Type 0} (i k current : ℕ) (counted : List ℕ)
   pub found_pinned_is : m.0.pool.found_pinned ≡ 0
   pub counts : length m.0.pool.counted ≡ buffers m.0.plan
   pub counted_are : (b : ℕ) → b < buffers m.0.plan → slice_index counted b ≡ slice_index m.0.pool.counted b
+  pub draft_none : m.0.pool.draft ≡ []
+  pub wide_records : length m.0.pool.records ≡ buffers m.0.plan
+  pub filled_are : (b : ℕ) → b < buffers m.0.plan → 0 < slice_index filled b → 0 < slice_index m.0.pool.records b
 
 -- the words of a segment's buffers after the first words of its first record
 abbrev pub unused : Plan → ℕ

@@ -42,7 +42,7 @@ pub struct Plan {
 }
 
 /// A writer's knowledge of its register's buffers.
-pub struct Pool {
+pub struct BufferPool {
     /// The current buffer.
     pub current: u64,
     /// How many of the other buffers, in order, it has found pinned.
@@ -53,6 +53,8 @@ pub struct Pool {
     pub counted: [u64; 0],
     /// The words drafted in the free buffer, from its first.
     pub draft: [u64; 0],
+    /// For each buffer which of the seat's updates its record is of, counted from 1; 0 where that isn't known.
+    pub records: [u64; 0],
 }
 
 /// How far a writer's file is ahead of what its seat has shown.
@@ -80,7 +82,7 @@ pub struct SeatView {
     pub seen_end: u64,
     /// The pool is that of its segments below this one.
     pub pool_end: u64,
-    pub pool: Pool,
+    pub pool: BufferPool,
     /// How many pins it may have on a register.
     pub pin_quota: u64,
     /// How many looks it has left.

@@ -161,6 +161,8 @@ pub struct WriteSeat {
     current: usize,
     /// How many pins were counted for each buffer.
     counted: [u64; MAX_BUFFERS],
+    /// The number of the record that the seat put into each buffer; 0 if none.
+    filled: [u64; MAX_BUFFERS],
 }
 
 impl Model for WriteSeat {
@@ -170,7 +172,7 @@ impl Model for WriteSeat {
 
     ghost view = { λ s. known_of s.access };
 
-    ghost invariant = { λ s. IsPool s.segment s.number s.current s.counted s.access.seat.me };
+    ghost invariant = { λ s. IsPool s.segment s.number s.current s.counted s.filled s.access.seat.me };
 }
 
 impl Looker for WriteSeat {
@@ -218,6 +220,7 @@ impl WriteSeat {
             number,
             current: 0,
             counted: [0; MAX_BUFFERS],
+            filled: [0; MAX_BUFFERS],
         }
     }
 
@@ -269,12 +272,14 @@ impl WriteSeat {
             self.segment,
             self.current,
             &self.counted,
+            &self.filled,
             next,
             value,
             view,
         );
         self.counted[self.current] += pins;
         self.current = current;
+        self.filled[current] = next;
         self.number = next;
         next
     }

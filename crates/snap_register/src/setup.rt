@@ -1,5 +1,6 @@
 //! The table of the registers' words, its rule (specs/Rule.antt), and the result of each step on it.
-ghost use Rattle.snap_register.specs.Rule.{Kept, pinning, revisited, giving, heard, read, checked, reused, redrafted};
+ghost use Rattle.snap_register.specs.Rule.{Kept, pinning, revisited, giving, heard, read, checked, reused, kept};
+ghost use Rattle.snap_register.specs.Rule.{redrafted};
 ghost use Rattle.snap_register.specs.Rule.{published, begun, ended, messenger, reader, without_reader, first_role};
 ghost use Rattle.snap_register.specs.Rule.{without_first_role, with_received, with_seen_of, spent};
 
@@ -92,6 +93,13 @@ pub(crate) struct Reuse;
 
 impl Play<(), SeatView> for Reuse {
     ghost then = { reused };
+}
+
+// A load of a word of the free buffer, whose old record stays as far as that.
+pub(crate) struct Keep;
+
+impl Play<(), SeatView> for Keep {
+    ghost then = { kept };
 }
 
 // A store in place of the last drafted word of the free buffer.

@@ -1,41 +1,54 @@
-//! The record of an update, drafted word by word in a free buffer.
-ghost use Rattle.std.specs.Prelude.{◌≡◌, ℕ, ◌+◌, ◌^◌, ◌*◌, ◌<◌, ◌≤◌, ◌++◌, ◌∷◌, length, take, []};
+//! The record of an update, drafted word by word in a free buffer; a block that the buffer holds already stays.
+ghost use Rattle.std.specs.Prelude.{◌≡◌, ℕ, ◌+◌, ◌-◌, ◌^◌, ◌*◌, ◌<◌, ◌≤◌, ◌++◌, ◌∷◌, length, take, [], IsTrue};
 ghost use Rattle.snap_history.specs.Limits.{IsShort};
 ghost use Rattle.snap_register.specs.declared.words.TheConstants.{BLOCK_WORDS};
-ghost use Rattle.snap_register.specs.Rule.{segments, width, without_last};
+ghost use Rattle.snap_register.specs.Rule.{segments, width, without_last, old_record, old_words, WasAt};
 ghost use Rattle.snap_register.specs.Words.{IsWhole, IsBlock, AreBlocks, bytes_at, piece, size_at, words_for};
 ghost use Rattle.snap_register.specs.Held.{held, taken, CanTake};
 ghost use Rattle.snap_register.specs.Steps.{view_at, view_of, draft_of, HasSeat, Owns, IsFree, HasPin, LiesAt, IsNext};
-ghost use Rattle.snap_register.specs.Steps.{IsLast, Drafts, HasDrafted};
+ghost use Rattle.snap_register.specs.Steps.{IsOld, IsOf, IsAligned, Drafts, HasDrafted, HasCopied};
 ghost use mathlib.Core.List.{IsPrefix};
 
 use crate::access::Access;
 use crate::access::looks::load_word;
-use crate::setup::{Redraft, Reuse, TableSeat, WordTable};
+use crate::setup::{Keep, Redraft, Reuse, TableSeat, WordTable};
 use crate::view::View;
 use crate::words::{block_size, tail_word, word_of};
 
 impl Access {
-    /// Stores the block of this number and value at the start of the free buffer. Returns how many words it takes.
-    pub(crate) fn draft_value(&mut self, i: usize, b: usize, number: u64, value: &[u8]) -> usize
+    /// Stores the block of this number and value at the start of the free buffer; `is_filled` if that has held a
+    /// record of this seat before. Returns where the draft ends.
+    pub(crate) fn draft_value(
+        &mut self,
+        i: usize,
+        b: usize,
+        number: u64,
+        value: &[u8],
+        is_filled: bool,
+    ) -> End
         requires own { Owns (view_of self.old) i }
         requires buffer { IsFree (view_of self.old) b }
         requires empty { (draft_of self.old ≡ []) × IsShort value.now }
+        requires filled { IsTrue is_filled → 0 < old_record (view_of self.old) }
         ensures same { HasDrafted self.old self.new (draft_of self.new) }
         ensures block { IsBlock (draft_of self.new) 0 number value.now }
-        ensures size { (result ≡ length (draft_of self.new))
-            × (result ≡ size_at (draft_of self.new) 0) × (result ≤ BLOCK_WORDS) }
+        ensures size { (result.at ≡ length (draft_of self.new))
+            × (result.at ≡ size_at (draft_of self.new) 0) × (result.at ≤ BLOCK_WORDS) }
+        ensures aligned { IsTrue result.is_aligned → IsAligned (view_of self.new) 0 }
     {
         let first = self.cell(i, b, 0);
         self.draft(first, number);
-        self.draft(first + 1, value.len() as u64);
+        let old_length = self.draft(first + 1, value.len() as u64);
         let whole = value.len() / 8;
         for q in 0..whole {
             let from = 8 * q;
             self.draft(first + 2 + q, word_of(&value[from..from + 8]));
         }
         self.draft_tail(i, b, value, whole);
-        block_size(value.len())
+        End {
+            at: block_size(value.len()),
+            is_aligned: is_filled && old_length == value.len() as u64,
+        }
     }
 
     // Stores the bytes after the value's whole words, if there are any, as one more word.
@@ -59,84 +72,141 @@ impl Access {
     }
 
     /// Appends the memory that the update carries to the draft.
-    pub(crate) fn copy_view(&mut self, i: usize, b: usize, at: usize, view: &View)
+    pub(crate) fn copy_view(&mut self, i: usize, b: usize, end: End, view: &View)
         requires own { Owns (view_of self.old) i }
         requires buffer { IsFree (view_of self.old) b }
         requires pinned { CanTake (view_of self.old) view.now }
-        requires place { (at ≡ length (draft_of self.old)) × (at ≤ BLOCK_WORDS) }
+        requires place { (end.at ≡ length (draft_of self.old)) × (end.at ≤ BLOCK_WORDS) }
+        requires aligned { IsTrue end.is_aligned → IsAligned (view_of self.old) 0 }
         ensures same { HasDrafted self.old self.new (draft_of self.new) }
         ensures prefix { IsPrefix (draft_of self.old) (draft_of self.new) }
-        ensures blocks { AreBlocks (draft_of self.new) at
+        ensures blocks { AreBlocks (draft_of self.new) end.at
             (segments (view_of self.old).plan) (taken (view_of self.old) view.now) }
     {
         match *view {
-            View::Collected => self.copy_collected(i, b, at),
-            View::Borrowed(j) => self.copy_borrowed(i, b, at, j),
+            View::Collected => self.copy_collected(i, b, end),
+            View::Borrowed(j) => self.copy_borrowed(i, b, end, j),
         }
     }
 
     // Appends the values of the last looks, one of each segment, to the draft.
-    fn copy_collected(&mut self, i: usize, b: usize, at: usize)
+    fn copy_collected(&mut self, i: usize, b: usize, end: End)
         requires own { Owns (view_of self.old) i }
         requires buffer { IsFree (view_of self.old) b }
         requires pinned { CanTake (view_of self.old) View.Collected }
-        requires place { (at ≡ length (draft_of self.old)) × (at ≤ BLOCK_WORDS) }
+        requires place { (end.at ≡ length (draft_of self.old)) × (end.at ≤ BLOCK_WORDS) }
+        requires aligned { IsTrue end.is_aligned → IsAligned (view_of self.old) 0 }
         ensures same { HasDrafted self.old self.new (draft_of self.new) }
         ensures prefix { IsPrefix (draft_of self.old) (draft_of self.new) }
-        ensures blocks { AreBlocks (draft_of self.new) at
+        ensures blocks { AreBlocks (draft_of self.new) end.at
             (segments (view_of self.old).plan) (taken (view_of self.old) View.Collected) }
     {
-        let mut to = at;
+        let mut to = end;
         for k in 0..self.segments {
-            to += self.copy_block(i, b, to, k, 0);
+            to = self.copy_block(i, b, to, k, 0);
         }
     }
 
     // Appends the view of the pinned record of `j` to the draft.
-    fn copy_borrowed(&mut self, i: usize, b: usize, at: usize, j: usize)
+    fn copy_borrowed(&mut self, i: usize, b: usize, end: End, j: usize)
         requires own { Owns (view_of self.old) i }
         requires buffer { IsFree (view_of self.old) b }
         requires pinned { CanTake (view_of self.old) (View.Borrowed j) }
-        requires place { (at ≡ length (draft_of self.old)) × (at ≤ BLOCK_WORDS) }
+        requires place { (end.at ≡ length (draft_of self.old)) × (end.at ≤ BLOCK_WORDS) }
+        requires aligned { IsTrue end.is_aligned → IsAligned (view_of self.old) 0 }
         ensures same { HasDrafted self.old self.new (draft_of self.new) }
         ensures prefix { IsPrefix (draft_of self.old) (draft_of self.new) }
-        ensures blocks { AreBlocks (draft_of self.new) at
+        ensures blocks { AreBlocks (draft_of self.new) end.at
             (segments (view_of self.old).plan) (taken (view_of self.old) (View.Borrowed j)) }
     {
-        let mut to = at;
+        let mut to = end;
         let mut from = self.size_at(j, 0);
         for _ in 0..self.segments {
-            let count = self.copy_block(i, b, to, j, from);
-            to += count;
-            from += count;
+            let next = self.copy_block(i, b, to, j, from);
+            from += next.at - to.at;
+            to = next;
         }
     }
 
-    // Appends the block at place `from` of the pinned record of `j` to the draft. Returns how many words it takes.
-    fn copy_block(&mut self, i: usize, b: usize, to: usize, j: usize, from: usize) -> usize
+    // Appends the block at place `from` of the pinned record of `j` to the draft. Returns where the draft then ends.
+    //
+    // A segment's number has one value. So where the free buffer has a block of the same number and length, at the end
+    // of the draft, it has this block, and it stays.
+    fn copy_block(&mut self, i: usize, b: usize, end: End, j: usize, from: usize) -> End
         requires own { Owns (view_of self.old) i }
         requires buffer { IsFree (view_of self.old) b }
         requires pinned { HasPin (view_of self.old) j }
         requires block { IsWhole (held (view_of self.old) j) from }
-        requires place { (to ≡ length (draft_of self.old)) × (to + BLOCK_WORDS ≤ width (view_of self.old).plan) }
-        ensures same { HasDrafted self.old self.new
-            (draft_of self.old ++ piece (held (view_of self.old) j) from result) }
-        ensures size { (result ≡ size_at (held (view_of self.old) j) from) × (result ≤ BLOCK_WORDS) }
+        requires place { (end.at ≡ length (draft_of self.old))
+            × (end.at + BLOCK_WORDS ≤ width (view_of self.old).plan) }
+        requires segment { (k : ℕ) × (k < segments (view_of self.old).plan)
+            × (IsTrue end.is_aligned → IsAligned (view_of self.old) k)
+            × IsOf (view_of self.old).plan (view_of self.old).seen k (held (view_of self.old) j) from }
+        ensures copied { HasCopied self.old self.new j from (result.at - end.at) }
+        ensures size { (result.at ≡ end.at + size_at (held (view_of self.old) j) from)
+            × (result.at ≤ end.at + BLOCK_WORDS) }
+        ensures aligned { (k : ℕ) → k < segments (view_of self.old).plan
+            → (IsTrue end.is_aligned → IsAligned (view_of self.old) k)
+            → IsTrue result.is_aligned → IsAligned (view_of self.new) (k + 1) }
     {
-        let source = self.place(j, from);
-        let target = self.cell(i, b, to);
-        let count = self.size_at(j, from);
-        copy_words(&self.table, &mut self.seat, source, target, count);
-        count
+        let number = self.read(j, from);
+        let length = self.read(j, from + 1);
+        let target = self.cell(i, b, end.at);
+        let old_number = self.draft(target, number);
+        let old_length = self.draft(target + 1, length);
+        let count = block_size(length as usize);
+        let is_aligned = end.is_aligned && old_length == length;
+        if is_aligned && old_number == number {
+            self.keep(target + count - 1);
+        } else if count > 2 {
+            self.copy_rest(target + 2, j, from + 2, count - 2);
+        }
+        End {
+            at: end.at + count,
+            is_aligned,
+        }
     }
 
-    // Makes x the next word of the free buffer, which is at this place.
-    fn draft(&mut self, place: usize, x: u64)
-        requires place { IsNext (view_of self.old) place }
-        ensures { HasDrafted self.old self.new (draft_of self.old ++ x ∷ []) }
+    // Appends `count` words of the pinned record of `j`, from place `from` on, to the draft, whose next word is at
+    // `target`.
+    fn copy_rest(&mut self, target: usize, j: usize, from: usize, count: usize)
+        requires pinned { HasPin (view_of self.old) j }
+        requires words { (0 < count) × (from + count ≤ length (held (view_of self.old) j)) }
+        requires place { IsNext (view_of self.old) target
+            × (length (draft_of self.old) + count ≤ width (view_of self.old).plan) }
+        ensures same { HasDrafted self.old self.new
+            (draft_of self.old ++ piece (held (view_of self.old) j) from count) }
     {
-        draft_word(&self.table, &mut self.seat, place, x);
+        let source = self.place(j, from);
+        copy_words(&self.table, &mut self.seat, source, target, count);
     }
+
+    // Takes the free buffer's old words into the draft as they are, up to the one at this place.
+    fn keep(&mut self, place: usize)
+        requires place { (q : ℕ) × IsOld (view_of self.old) q place }
+        ensures same { (q : ℕ) → IsOld (view_of self.old) q place → HasDrafted self.old self.new (draft_of self.old
+            ++ piece (old_words (view_of self.old)) (length (draft_of self.old)) (q + 1 - length (draft_of self.old))) }
+    {
+        self.table.shared.load::<Keep>(&mut self.seat, place);
+    }
+
+    // Makes x the next word of the free buffer, which is at this place. Returns what it was before.
+    fn draft(&mut self, place: usize, x: u64) -> u64
+        requires place { IsNext (view_of self.old) place }
+        ensures drafted { HasDrafted self.old self.new (draft_of self.old ++ x ∷ []) }
+        ensures old { WasAt (view_of self.old) (length (draft_of self.old)) result }
+    {
+        draft_word(&self.table, &mut self.seat, place, x)
+    }
+}
+
+/// Where a draft ends.
+#[derive(Clone, Copy)]
+pub(crate) struct End {
+    /// How many words it has.
+    pub(crate) at: usize,
+    /// Whether the next block of the record that the buffer held before begins there too.
+    pub(crate) is_aligned: bool,
 }
 
 // Appends `count` words of a pinned record, from this place on, to the draft, whose next word is at `target`. The table
@@ -159,38 +229,20 @@ fn copy_words(table: &WordTable, seat: &mut TableSeat, source: usize, target: us
     }
 }
 
-// Makes x the next word of the free buffer, which is at this place. Most words of an update are there already, from the
-// record that the buffer held before, and a load takes a fraction of the time of a sequentially consistent store.
-fn draft_word(table: &WordTable, seat: &mut TableSeat, place: usize, x: u64)
+// Makes x the next word of the free buffer, which is at this place. A word that is there already isn't stored: a load
+// takes a fraction of the time of a sequentially consistent store.
+// Returns what the word was.
+fn draft_word(table: &WordTable, seat: &mut TableSeat, place: usize, x: u64) -> u64
     requires own { seat.old.table_id ≡ table.now.shared.table_id }
     requires seated { HasSeat seat.old }
     requires place { IsNext (view_at seat.old) place }
     ensures drafted { Drafts seat.old seat.new ((view_at seat.old).pool.draft ++ x ∷ []) }
     ensures seated { HasSeat seat.new }
+    ensures old { WasAt (view_at seat.old) (length (view_at seat.old).pool.draft) result }
 {
-    if reuse(table, seat, place) != x {
-        redraft(table, seat, place, x);
+    let old = table.shared.load::<Reuse>(seat, place);
+    if old != x {
+        table.shared.store::<Redraft>(seat, place, x);
     }
-}
-
-// Takes the next word of the free buffer into the draft as it is.
-fn reuse(table: &WordTable, seat: &mut TableSeat, place: usize) -> u64
-    requires own { seat.old.table_id ≡ table.now.shared.table_id }
-    requires seated { HasSeat seat.old }
-    requires place { IsNext (view_at seat.old) place }
-    ensures drafted { Drafts seat.old seat.new ((view_at seat.old).pool.draft ++ result ∷ []) }
-    ensures seated { HasSeat seat.new }
-{
-    table.shared.load::<Reuse>(seat, place)
-}
-
-// Stores x in place of the last drafted word, which is at this place.
-fn redraft(table: &WordTable, seat: &mut TableSeat, place: usize, x: u64)
-    requires own { seat.old.table_id ≡ table.now.shared.table_id }
-    requires seated { HasSeat seat.old }
-    requires place { IsLast (view_at seat.old) place }
-    ensures drafted { Drafts seat.old seat.new (without_last (view_at seat.old).pool.draft ++ x ∷ []) }
-    ensures seated { HasSeat seat.new }
-{
-    table.shared.store::<Redraft>(seat, place, x);
+    old
 }

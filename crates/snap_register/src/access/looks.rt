@@ -123,17 +123,6 @@ impl Access {
         self.cell(j, b, q)
     }
 
-    /// Loads the word at this place, which belongs to a pinned record.
-    pub(crate) fn load(&mut self, place: usize) -> u64
-        requires place { (j : ℕ) × (q : ℕ) × LiesAt (view_of self.old) j q place }
-        ensures word { (j q : ℕ) → LiesAt (view_of self.old) j q place
-            → result ≡ slice_index (held (view_of self.old) j) q }
-        ensures legal { IsLegal (view_of self.old).plan (view_of self.old).seen }
-        ensures same { IsSame self.old self.new }
-    {
-        load_word(&self.table, &mut self.seat, place)
-    }
-
     /// Loads word `q` of the pinned record of `j`.
     pub(crate) fn read(&mut self, j: usize, q: usize) -> u64
         requires pinned { HasPin (view_of self.old) j }
@@ -143,7 +132,7 @@ impl Access {
         ensures same { IsSame self.old self.new }
     {
         let place = self.place(j, q);
-        self.load(place)
+        load_word(&self.table, &mut self.seat, place)
     }
 
     /// How many words the block at this place of the pinned record of `j` takes.

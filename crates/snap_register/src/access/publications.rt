@@ -33,16 +33,18 @@ impl Access {
 
     /// Fills a free buffer of the seat's own register `i` with the record of the number `next`, this value and this
     /// view, and makes it the current one. Returns the buffer, and how many pins the old current word had counted.
+    /// `filled` is 0 for each buffer that hasn't held a record of this seat.
     pub(crate) fn publish(
         &mut self,
         i: usize,
         current: usize,
         counted: &[u64; MAX_BUFFERS],
+        filled: &[u64; MAX_BUFFERS],
         next: u64,
         value: &[u8],
         view: &View,
     ) -> (usize, u64)
-        requires pool { IsPool i (next - 1) current counted.now self.old.seat.me }
+        requires pool { IsPool i (next - 1) current counted.now filled.now self.old.seat.me }
         requires next { (next ≡ number (view_of self.old).plan (view_of self.old).seen i + 1) × IsNumber next }
         requires size { IsShort value.now }
         requires view { CanTake (view_of self.old) view.now × MayTake (view_of self.old) i view.now }
@@ -53,8 +55,8 @@ impl Access {
         ensures same { IsSameSeat self.old self.new × (self.new.seat.me.1 ≡ self.old.seat.me.1) }
     {
         let b = self.find_free(i, current, counted);
-        let filled = self.draft_value(i, b, next, value);
-        self.copy_view(i, b, filled, view);
+        let end = self.draft_value(i, b, next, value, filled[b] > 0);
+        self.copy_view(i, b, end, view);
         let pins = self.swap(i, current, b);
         (b, pins)
     }
@@ -69,7 +71,7 @@ impl Access {
     fn find_free(&mut self, i: usize, current: usize, counted: &[u64; MAX_BUFFERS]) -> usize
         requires own { Owns (view_of self.old) i }
         requires current { (current ≡ (pool_of self.old).current) × (current < buffers (view_of self.old).plan)
-            × ((pool_of self.old).found_pinned ≡ 0) }
+            × ((pool_of self.old).found_pinned ≡ 0) × (draft_of self.old ≡ []) }
         requires counted { (b : ℕ) → b < buffers (view_of self.old).plan
             → slice_index counted.now b ≡ slice_index (pool_of self.old).counted b }
         ensures free { (result < buffers (view_of self.old).plan)
@@ -94,7 +96,8 @@ impl Access {
     // `counted` pins were taken on it.
     fn check(&mut self, i: usize, b: usize, counted: u64) -> bool
         requires own { Owns (view_of self.old) i }
-        requires buffer { (b ≡ next_other (pool_of self.old)) × (b < buffers (view_of self.old).plan) }
+        requires buffer { (b ≡ next_other (pool_of self.old)) × (b < buffers (view_of self.old).plan)
+            × (draft_of self.old ≡ []) }
         requires counted { counted ≡ slice_index (pool_of self.old).counted b }
         ensures free { IsTrue result → HasPool self.old self.new
             (record (pool_of self.old) { free_buffer = b; draft = [] }) }

@@ -8,6 +8,5 @@ invariant-loop-q l = record {
   number_is : slice_index l.words 0 ≡ l.number;
   first : slice_index l.words 1 ≡ length l.value;
   whole : take (length l.value) l.bytes ≡ l.value;
-  each : (k : ℕ) → k < l.q → to_le_bytes w64 (slice_index l.words (2 + k))
-      ≡ take 8 (drop (8 * k) l.bytes);
+  each : (k : ℕ) → k < l.q → to_le_bytes w64 (slice_index l.words (2 + k)) ≡ take 8 (drop (8 * k) l.bytes);
 }

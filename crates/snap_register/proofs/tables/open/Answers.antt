@@ -34,8 +34,7 @@ seat_writers-requires-clause-first c =
     ∙ (tab.0 ∙ (ap length (words_are a) ∙ wide (plan a) c.requires.ready)) in (
       first_is (Unit {0}) (plan a) _ _ c.requires.ready size_is me,
       ap (λ (m : Mine). m.0.low) me,
-      ap (λ (m : Mine). m.0.high) me
-          ∙ (sym (count_of c.args.values.now.items) ∙ (search rules)),
+      ap (λ (m : Mine). m.0.high) me ∙ (sym (count_of c.args.values.now.items) ∙ (search rules)),
     )
 
 pub seat_writers-requires-clause-numbers : goal.seat_writers-requires-clause-numbers

@@ -31,8 +31,7 @@ loop-k-preserved c =
     record {
       table = search rules;
       plan = search rules;
-      first = first_after (Unit {0}) _ _ _ _ _ c.loop-k.first_seat.me _ first
-          (omega arith) words split.2;
+      first = first_after (Unit {0}) _ _ _ _ _ c.loop-k.first_seat.me _ first (omega arith) words split.2;
       count = search rules;
       each = rw c.in_ok-push.ensures.items (readers_more z p c.loop-k.readers.items c.of.result inv.each new);
     }

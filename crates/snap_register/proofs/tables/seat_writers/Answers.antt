@@ -29,16 +29,13 @@ loop-i-preserved c =
     let first = inv.first in
     let new : IsNewSeat z p c.loop-i.i (c.loop-i.i + 1) c.of.result =
     new_seat (Unit {0}) z p _ _ c.of.result _ _ _ me c.of.ensures (given.0
-    ∙ (split.3 ∙ inv.table)) inv.plan first.seen_is inv.low
-    (ap (λ (n : ℕ). n + 1) inv.low) refl first.phase_is in
-    let more = writers_more z p c.loop-i.writers.items c.of.result inv.each
-    (rw inv.count new) in
+    ∙ (split.3 ∙ inv.table)) inv.plan first.seen_is inv.low (ap (λ (n : ℕ). n + 1) inv.low) refl first.phase_is in
+    let more = writers_more z p c.loop-i.writers.items c.of.result inv.each (rw inv.count new) in
     let e = c.requires.sized.0.segments_are in
     record {
       table = search rules;
       plan = search rules;
-      first = first_after (Unit {0}) _ _ _ _ _ c.loop-i.first_seat.me _ first
-          (omega arith) words split.2;
+      first = first_after (Unit {0}) _ _ _ _ _ c.loop-i.first_seat.me _ first (omega arith) words split.2;
       low = search rules;
       high = search rules;
       count = search rules;

@@ -6,8 +6,7 @@ abbrev pub invariant-loop-i : goal.invariant-loop-i
 invariant-loop-i l = record {
   table : l.first_seat.table_id ≡ l.initial.first_seat.table_id;
   plan : l.first_seat.me.0.plan ≡ l.initial.first_seat.me.0.plan;
-  first : IsFirst l.first_seat.table_id.words
-      (seats l.initial.first_seat.me.0.plan - l.i) l.first_seat.me;
+  first : IsFirst l.first_seat.table_id.words (seats l.initial.first_seat.me.0.plan - l.i) l.first_seat.me;
   low : l.first_seat.me.0.low ≡ l.i;
   high : l.first_seat.me.0.high ≡ l.sizes.segments;
   count : length l.writers.items ≡ l.i;

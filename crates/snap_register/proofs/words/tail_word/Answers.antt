@@ -9,5 +9,4 @@ returns-clause-zeros c =
     ap (drop n) c.word_of.ensures
     ∙ (drop-put_mid 0 _ (replicate 8 0) c.copy_from_slice.new.self n (omega arith) (omega arith)
     (let e : length c.copy_from_slice.new.self ≡ n =
-    ap length c.copy_from_slice.ensures.after in omega arith)
-    ∙ drop-replicate n 8 0)
+    ap length c.copy_from_slice.ensures.after in omega arith) ∙ drop-replicate n 8 0)

@@ -6,7 +6,7 @@ use Rattle.snap_memory.proofs.scanner.Scanner.read_one.Goals as goal
 
 pub invariant_of-self : goal.invariant_of-self
 invariant_of-self c =
-    rw c.value-length.ensures.same (fits_grown c.self.inside.seat c.look-number.new.self c.self.inside.room
+    rw c.value-length.ensures.same (fits_grown c.self.inside.seat c.look-number.new.self c.self.inside.cache
     c.look-number.ensures.seen c.self.invariant)
 
 pub returns-clause-value : goal.returns-clause-value

@@ -1,6 +1,6 @@
 use Rattle.std.proofs.Common.{◌≤◌, sym, subst, ◌∙◌}
 use Rattle.snap_scan.proofs.Sets.{few}
-use Rattle.snap_memory.specs.Rooms.{Fits}
+use Rattle.snap_memory.specs.ScanCaches.{Fits}
 use Rattle.snap_memory.proofs.scanner.Scanner.scan.Goals.{in-Kept, in-Absent+in-Ok}
 use Rattle.snap_memory.proofs.scanner.Scanner.scan.Goals as goal
 
@@ -10,7 +10,7 @@ is_worn-requires c = subst (λ n. n ≤ 16) (sym c.len.ensures.size) (few c.args
 pub scan_kept-values-requires-clause-kept : goal.scan_kept-values-requires-clause-kept
 scan_kept-values-requires-clause-kept c =
     elim c.match-replace.branch [
-      | in-Kept w ↦ rw w.room-is (subst (Fits c.self.inside.seat)
+      | in-Kept w ↦ rw w.cache-is (subst (Fits c.self.inside.seat)
           (sym c.replace.ensures.value ∙ w.in-Kept.is) c.self.invariant).1
-      | in-Absent+in-Ok w ↦ rw w.room-is (w.in-Ok.ensures.none c.self.inside.seat)
+      | in-Absent+in-Ok w ↦ rw w.cache-is (w.in-Ok.ensures.none c.self.inside.seat)
     ]

@@ -8,4 +8,4 @@ is_worn-requires c = subst (λ n. n ≤ 16) (sym c.len.ensures.size) (few c.args
 
 pub invariant_of-self : goal.invariant_of-self
 invariant_of-self c =
-    fits_grown c.self.inside.seat c.scan_some.new.seat c.self.inside.room c.scan_some.ensures.seen c.self.invariant
+    fits_grown c.self.inside.seat c.scan_some.new.seat c.self.inside.cache c.scan_some.ensures.seen c.self.invariant

@@ -1,8 +1,10 @@
-use Rattle.std.proofs.Common.{◌≡◌, ℕ, ◌+◌, ◌<◌, List, ap, sym, ◌∙◌, arith}
+use Rattle.std.proofs.Common.{◌≡◌, ℕ, ◌+◌, ◌-◌, ◌<◌, List, ap, sym, ◌∙◌, arith}
 use Rattle.snap_register.specs.Words.{IsWhole, size_at, block_at, behind}
 use Rattle.snap_register.specs.{Registers.Mine, declared.view.View.TheVariants.Borrowed, Rule.segments, Held.held}
-use Rattle.snap_register.specs.{Held.taken, Steps.view_of}
+use Rattle.snap_register.specs.{Held.taken, Steps.view_of, Steps.IsOf, declared.plan.SeatView.SeatView}
+use Rattle.snap_register.specs.declared.access.draft.End.{End}
 use Rattle.snap_register.proofs.{Blocks.behind_more, Views.view_whole, Views.ends_small, Drafts.held_drafted}
+use Rattle.snap_register.proofs.Aligned.{of_view}
 use Rattle.snap_register.proofs.Drafts.{block_copied}
 use Rattle.snap_register.proofs.access.Access.copy_borrowed.Goals as goal
 use Rattle.snap_register.proofs.access.Access.copy_borrowed.Goals.{In-loop}
@@ -25,11 +27,34 @@ whole c =
     let init = c.size_at-from.new.self in
     let lt : c.loop.counter < segments (view_of a).plan =
     rw (← c.size_at-from.ensures.same.2, ← init.sized.segments_are) c.loop-test.true in
-    rw (words_are c, from_is c)
-    (view_whole a c.args.j c.loop.counter c.size_at-from.ensures.legal can.2 can.0 lt)
+    rw (words_are c, from_is c) (view_whole a c.args.j c.loop.counter c.size_at-from.ensures.legal can.2 can.0 lt)
 
-pub copy_block-count-requires-clause-block : goal.copy_block-count-requires-clause-block
-copy_block-count-requires-clause-block c = whole (goal.at.copy_block-count-requires-clause-block c).In-loop
+pub copy_block-next-requires-clause-block : goal.copy_block-next-requires-clause-block
+copy_block-next-requires-clause-block c = whole (goal.at.copy_block-next-requires-clause-block c).In-loop
+
+below : (c : In-loop) → c.loop.counter < segments (view_of c.args.self.now).plan
+below c = rw (← c.size_at-from.ensures.same.2, ← c.size_at-from.new.self.sized.segments_are) c.loop-test.true
+
+below_now : (c : In-loop) → c.loop.counter < segments (view_of c.loop.self).plan
+below_now c = rw (c.loop.invariant.copied.same.3, c.size_at-from.ensures.same.2) (below c)
+
+size_is : (c : In-loop) (n : End) → n.at ≡ c.loop.to.at + size_at (held (view_of c.loop.self) c.args.j) c.loop.from
+    → n.at - c.loop.to.at ≡ size_at (held (view_of c.loop.self) c.args.j) c.loop.from
+size_is c n is = omega arith
+
+pub copy_block-next-requires-clause-segment : goal.copy_block-next-requires-clause-segment
+copy_block-next-requires-clause-segment c =
+    let e = (goal.at.copy_block-next-requires-clause-segment c).In-loop in
+    let v : SeatView = view_of c.args.self.now in
+    let j : ℕ = c.args.j in
+    let can = c.requires.pinned in
+    let old : IsOf v.plan v.seen c.loop.counter (held v j) c.loop.from = rw (from_is e) (of_view v j c.loop.counter
+    c.size_at-from.ensures.legal can.2 (c.args.self.now.seated.records_are j can.0) (below e)) in (
+      c.loop.counter,
+      below_now e,
+      c.loop.invariant.copied.aligned,
+      rw (words_are e, c.loop.invariant.copied.same.3, c.size_at-from.ensures.same.2) old,
+    )
 
 pub overflow_add-from : goal.overflow_add-from
 overflow_add-from c =
@@ -37,7 +62,7 @@ overflow_add-from c =
     omega (
       arith,
       ends_small c.args.self.now c.args.j _ _ _ c.requires.pinned.0 (words_are e) (whole e)
-          c.copy_block-count.ensures.size.0,
+          (size_is e c.copy_block-next.result c.copy_block-next.ensures.size.0),
     )
 
 pub loop-preserved : goal.loop-preserved
@@ -47,16 +72,16 @@ loop-preserved c =
     let m = c.loop.self in
     let k : ℕ = c.loop.counter in
     let j : ℕ = c.args.j in
-    let step = c.copy_block-count.ensures in
+    let step = c.copy_block-next.ensures in
     let same : held (view_of m) j ≡ held (view_of a) j =
     held_drafted a.seat.me m.seat.me j inv.copied.same.3 in
     let w : List ℕ = held (view_of a) j in
-    let size_is : c.copy_block-count.result ≡ size_at w (behind w (size_at w 0) k) =
-    step.size.0 ∙ (λ t. size_at (same t) (inv.from t)) in
+    let e = (goal.at.loop-preserved c).In-loop in
+    let size : c.copy_block-next.result.at - c.loop.to.at ≡ size_at w (behind w (size_at w 0) k) =
+    size_is e c.copy_block-next.result step.size.0 ∙ (λ t. size_at (same t) (inv.from t)) in
     record {
-      copied = block_copied a m c.copy_block-count.new.self c.args.at c.loop.to k c.loop.from
-          c.copy_block-count.result (held (view_of m) j) (taken (view_of a) (Borrowed j)) inv.copied
-          step.same step.size (whole (goal.at.loop-preserved c).In-loop)
-          (λ t. block_at (same t) (inv.from t));
-      from = (λ t. inv.from t + size_is t) ∙ sym (behind_more w (size_at w 0) k);
+      copied = block_copied a m c.copy_block-next.new.self c.args.end.at k j c.loop.from c.loop.to
+          c.copy_block-next.result (taken (view_of a) (Borrowed j)) inv.copied step.copied step.size
+          (λ t. block_at (same t) (inv.from t)) (step.aligned k (below_now e) inv.copied.aligned);
+      from = (λ t. inv.from t + size t) ∙ sym (behind_more w (size_at w 0) k);
     }

@@ -1,12 +1,10 @@
 use Rattle.std.proofs.Common.{◌≡◌}
 use Rattle.snap_register.{specs.declared.view.View.TheVariants.Borrowed, specs.Held.held, specs.Held.taken}
-use Rattle.snap_register.{specs.Words.behind, specs.Words.size_at, specs.Steps.view_of, proofs.Drafts.HasCopied}
+use Rattle.snap_register.{specs.Words.behind, specs.Words.size_at, specs.Steps.view_of, proofs.Drafts.HasAppended}
 use Rattle.snap_register.proofs.access.Access.copy_borrowed.Given as goal
 
 abbrev pub invariant-loop : goal.invariant-loop
 invariant-loop l = record {
-  copied : HasCopied l.initial.self l.self l.at l.to l.counter
-      (taken (view_of l.initial.self) (Borrowed l.j));
-  from : l.from ≡ behind (held (view_of l.initial.self) l.j)
-      (size_at (held (view_of l.initial.self) l.j) 0) l.counter;
+  copied : HasAppended l.initial.self l.self l.fn.end.at l.to l.counter (taken (view_of l.initial.self) (Borrowed l.j));
+  from : l.from ≡ behind (held (view_of l.initial.self) l.j) (size_at (held (view_of l.initial.self) l.j) 0) l.counter;
 }

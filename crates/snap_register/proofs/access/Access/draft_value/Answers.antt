@@ -1,5 +1,9 @@
 use Rattle.std.proofs.Common.{◌≡◌, ℕ, ◌+◌, ◌-◌, ◌*◌, ◌++◌, ◌∷◌, [], List, length, take, drop, ap, ◌∙◌, arith}
-use Rattle.std.proofs.Common.{length-append}
+use Rattle.std.proofs.Common.{length-append, sym, subst, ◌<◌}
+use Rattle.std.proofs.lemmas.Bool.Decides.{nat_tests}
+use Rattle.snap_register.specs.{Registers.Mine, Rule.WasAt, Rule.old_words, Rule.old_record, Words.words_for}
+use Rattle.snap_register.specs.Steps.{view_of, draft_of}
+use Rattle.snap_register.proofs.Aligned.{aligned_first}
 use Rattle.std.{proofs.lemmas.List.get_or_append_left, specs.Int.w64, specs.Int.to_le_bytes}
 use Rattle.snap_register.proofs.Drafts.{drafted, drafted_then, draft_is}
 use Rattle.snap_register.{specs.Words.bytes_at, proofs.Blocks.bytes_push}
@@ -14,7 +18,7 @@ loop-q-preserved c =
     let q : ℕ = c.loop-q.q in
     let d : List ℕ = m.0.pool.draft in
     let x : ℕ = c.word_of.result in
-    let step = c.draft-in-loop-q.ensures in
+    let step = c.draft-in-loop-q.ensures.drafted in
     let by = drafted_then a m n (d ++ x ∷ []) inv.same.3 step.3 in
     let new : n.0.pool.draft ≡ d ++ x ∷ [] = draft_is a n (d ++ x ∷ []) by in
     let long = inv.long in
@@ -32,6 +36,26 @@ loop-q-preserved c =
       long = ap length new ∙ omega arith;
       number = rw new (get_or_append_left d (x ∷ []) 0 0 (omega arith) ∙ inv.number);
       length_is = rw new (get_or_append_left d (x ∷ []) 0 1 (omega arith) ∙ inv.length_is);
-      bytes = ap (λ (l : List ℕ). bytes_at l 2 (q + 1)) new
-          ∙ bytes_push d c.args.value.now q x long inv.bytes chunk;
+      bytes = ap (λ (l : List ℕ). bytes_at l 2 (q + 1)) new ∙ bytes_push d c.args.value.now q x long inv.bytes chunk;
     }
+
+pub returns-then-is_filled-clause-aligned : goal.returns-then-is_filled-clause-aligned
+returns-then-is_filled-clause-aligned c = λ is.
+    let a = c.args.self.now in
+    let m = c.draft.new.self in
+    let n = c.draft_tail.new.self in
+    let first = c.draft.ensures.drafted.3 in
+    let tail = drafted_then a.seat.me c.loop-q.self.seat.me n.seat.me (draft_of n) c.loop-q.invariant.same.3
+    c.draft_tail.ensures.same.3 in
+    let words : old_words (view_of n) ≡ old_words (view_of m) =
+    ap (λ (x : Mine). old_words x.0) tail ∙ sym (ap (λ (x : Mine). old_words x.0) first) in
+    let same : old_record (view_of n) ≡ old_record (view_of m) =
+    ap (λ (x : Mine). old_record x.0) tail ∙ sym (ap (λ (x : Mine). old_record x.0) first) in
+    let any : 0 < old_record (view_of m) =
+    rw (ap (λ (x : Mine). old_record x.0) first) (c.requires.filled c.if-is_filled.true) in
+    let one : length (draft_of m) ≡ 1 = ap (λ (x : Mine). length x.0.pool.draft) first
+    ∙ ap (λ (l : List ℕ). length (l ++ c.args.number ∷ [])) c.requires.empty.0 in
+    let length' : c.draft-old_length.result ≡ length c.args.value.now = grind (arith, nat_tests) in
+    aligned_first (view_of m) (view_of n) c.draft-old_length.result words same any
+    (subst (λ (q : ℕ). WasAt (view_of m) q c.draft-old_length.result) one c.draft-old_length.ensures.old)
+    (c.draft_tail.ensures.size ∙ ap (λ (z : ℕ). 2 + words_for z) (sym length'))

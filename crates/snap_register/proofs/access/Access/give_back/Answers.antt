@@ -15,22 +15,19 @@ fetch_add-requires c =
       own,
       rw (← own) c.given-at.ensures.1,
       gives_back (Unit {0}) _ _ _ me.seat.me _ c.args.j
-          (get_or me.pins c.args.j 0 - 1) me.seated.here c.requires (omega arith)
-          (omega arith) c.given-at.ensures.0,
+          (get_or me.pins c.args.j 0 - 1) me.seated.here c.requires (omega arith) (omega arith) c.given-at.ensures.0,
     )
 
-is_bare : (c : After-fetch_add)
-    → c.fetch_add.new.seat.me ≡ (
-      record (view_of c.args.self.now) { pins = set (view_of c.args.self.now).pins c.args.j 0 },
-      c.args.self.now.seat.me.1,
-    )
+is_bare : (c : After-fetch_add) → c.fetch_add.new.seat.me ≡ (
+  record (view_of c.args.self.now) { pins = set (view_of c.args.self.now).pins c.args.j 0 },
+  c.args.self.now.seat.me.1,
+)
 is_bare c =
     let me = c.args.self.now in
     let pin = me.seated.pins_are c.args.j c.requires in
     let few = me.seated.pins_inside c.args.j c.requires in
     let some : 0 < get_or me.pins c.args.j 0 = search rules in
-    c.fetch_add.ensures.2 c.args.j (get_or me.pins c.args.j 0 - 1)
-    (omega arith) c.given-at.ensures.0
+    c.fetch_add.ensures.2 c.args.j (get_or me.pins c.args.j 0 - 1) (omega arith) c.given-at.ensures.0
 
 pub invariant_of-self : goal.invariant_of-self
 invariant_of-self c =

@@ -56,8 +56,7 @@ join_seat-requires-2 c =
     let own : me.seat.table_id ≡ c.deref-5.result.now.shared.table_id = search rules in
     let same = c.split_seat-messenger.ensures.2 in (
       c.split_seat-messenger.ensures.0 ∙ own,
-      c.split_seat-answer.ensures.3
-          ∙ (c.hear.ensures.0 ∙ (c.join_seat.ensures.0 ∙ (c.requires.0 ∙ own))),
+      c.split_seat-answer.ensures.3 ∙ (c.hear.ensures.0 ∙ (c.join_seat.ensures.0 ∙ (c.requires.0 ∙ own))),
       ap (λ (m : Mine). m.1) c.split_seat-answer.ensures.4,
       rw (← own) (some_words me.sized me.seated.words_are),
       adopts (Unit {0}) _ _ _ _ _ (ap (λ (m : Mine). m.0.low) same ∙ c.requires.2)
@@ -70,11 +69,10 @@ told_by : (c : After-split_seat-answer)
     c.split_seat-answer.new.seat.me.0
 told_by c = rw (c.join_seat.ensures.2, ← c.split_seat-answer.ensures.2) at c.hear.ensures.2.0
 
-other_is : (c : After-split_seat-answer)
-    → c.split_seat-answer.new.seat.me ≡ (
-      record (view_of c.args.other.now) { seen = c.split_seat-answer.new.seat.me.0.seen },
-      c.args.other.now.seat.me.1,
-    )
+other_is : (c : After-split_seat-answer) → c.split_seat-answer.new.seat.me ≡ (
+  record (view_of c.args.other.now) { seen = c.split_seat-answer.new.seat.me.0.seen },
+  c.args.other.now.seat.me.1,
+)
 other_is c = search rules
 
 pub invariant_of-other : goal.invariant_of-other
@@ -89,11 +87,10 @@ invariant_of-other c =
           (ap (λ (t : TableId). t.words) table) (other_is a) (told_by a).later (told_by a).legal;
     }
 
-self_is : (c : After-join_seat-2)
-    → c.join_seat-2.new.seat.me ≡ (
-      record (view_of c.args.self.now) { seen = c.split_seat-answer.new.seat.me.0.seen },
-      c.args.self.now.seat.me.1,
-    )
+self_is : (c : After-join_seat-2) → c.join_seat-2.new.seat.me ≡ (
+  record (view_of c.args.self.now) { seen = c.split_seat-answer.new.seat.me.0.seen },
+  c.args.self.now.seat.me.1,
+)
 self_is c = search rules
 
 self_later : (c : After-split_seat-answer)

@@ -4,23 +4,24 @@ use Rattle.snap_register.specs.History.{entry, count, start_at}
 use Rattle.snap_register.specs.Rule.{segments, IsLegal, Follows}
 use Rattle.snap_register.specs.Steps.{view_of, pool_of, draft_of}
 use Rattle.snap_register.specs.{declared.plan.Plan.Plan}
-use Rattle.snap_register.specs.{declared.plan.Pool.Pool, declared.plan.SeatView.SeatView, declared.view.View.View}
+use Rattle.snap_register.specs.{declared.plan.BufferPool.BufferPool, declared.plan.SeatView.SeatView}
+use Rattle.snap_register.specs.{declared.view.View.View}
 use Rattle.snap_register.specs.{Held.taken, Words.AreBlocks}
 use Rattle.snap_register.proofs.{Blocks.block_stays, Later.publishes_count, Updates.follows_is}
 use Rattle.snap_register.specs.declared.plan.UpdatePhase.TheVariants.{Shown}
 use Rattle.snap_register.proofs.access.Access.publish.Goals as goal
 use Rattle.snap_register.proofs.access.Access.publish.Goals.{After-copy_view}
 
-taken_pool : (v : SeatView) (p : Pool) (view : View) → taken (record v { pool = p }) view ≡ taken v view
+taken_pool : (v : SeatView) (p : BufferPool) (view : View) → taken (record v { pool = p }) view ≡ taken v view
 taken_pool v p Collected = refl
 taken_pool v p (Borrowed j) = refl
 
 -- only the pool has changed
-abbrev WithPool : SeatView → Pool → SeatView
+abbrev WithPool : SeatView → BufferPool → SeatView
 WithPool v p = record v { pool = p }
 
 second_is : (c : After-copy_view)
-    → view_of c.draft_value-filled.new.self ≡ WithPool (view_of c.args.self.now) (pool_of c.draft_value-filled.new.self)
+    → view_of c.draft_value-end.new.self ≡ WithPool (view_of c.args.self.now) (pool_of c.draft_value-end.new.self)
 second_is c = search rules
 
 third_is : (c : After-copy_view)
@@ -32,22 +33,21 @@ may_follow : (c : After-copy_view) → IsLegal (view_of c.args.self.now).plan (v
     (entry c.args.i (draft_of c.copy_view.new.self))
 may_follow c legal =
     let v : SeatView = view_of c.args.self.now in
-    let size = c.draft_value-filled.ensures.size in
-    let plan : (view_of c.draft_value-filled.new.self).plan ≡ v.plan =
+    let size = c.draft_value-end.ensures.size in
+    let plan : (view_of c.draft_value-end.new.self).plan ≡ v.plan =
     ap (λ (u : SeatView). u.plan) (second_is c) in
-    let took : taken (view_of c.draft_value-filled.new.self) c.args.view.now
+    let took : taken (view_of c.draft_value-end.new.self) c.args.view.now
     ≡ taken v c.args.view.now = ap (λ (u : SeatView). taken u c.args.view.now) (second_is c)
-    ∙ taken_pool v (pool_of c.draft_value-filled.new.self) c.args.view.now in
+    ∙ taken_pool v (pool_of c.draft_value-end.new.self) c.args.view.now in
     let blocks : AreBlocks (draft_of c.copy_view.new.self)
-    (length (draft_of c.draft_value-filled.new.self)) (segments v.plan)
-    (taken v c.args.view.now)
+    (length (draft_of c.draft_value-end.new.self)) (segments v.plan) (taken v c.args.view.now)
     = subst (λ (x : ℕ × Plan × (ℕ → ℕ × List ℕ)).
     AreBlocks (draft_of c.copy_view.new.self) x.0 (segments x.1) x.2) (λ t.
     (size.0 t, plan t, took t)) c.copy_view.ensures.blocks in
     follows_is v c.args.i c.args.next c.args.view.now c.args.value.now
-    (draft_of c.draft_value-filled.new.self) (draft_of c.copy_view.new.self)
+    (draft_of c.draft_value-end.new.self) (draft_of c.copy_view.new.self)
     c.requires.view.0 c.requires.view.1 c.args.self.now.seated.records_are c.requires.next.0
-    c.draft_value-filled.ensures.block (sym size.0 ∙ size.1) c.copy_view.ensures.prefix blocks legal
+    c.draft_value-end.ensures.block (sym size.0 ∙ size.1) c.copy_view.ensures.prefix blocks legal
 
 pub swap-pins-requires-clause-view : goal.swap-pins-requires-clause-view
 swap-pins-requires-clause-view c = λ legal.
@@ -66,7 +66,7 @@ returns-clause-shown c =
     let w : SeatView = view_of c.swap-pins.new.self in
     let shown = c.swap-pins.ensures.shown in
     let same : w ≡ record v { seen = w.seen; pool = w.pool; phase = Shown } = search rules in
-    let own = c.draft_value-filled.ensures.block in
+    let own = c.draft_value-end.ensures.block in
     let stays = block_stays _ u.pool.draft 0 c.copy_view.ensures.prefix own.whole in
     record {
       same = same;

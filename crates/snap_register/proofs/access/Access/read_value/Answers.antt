@@ -38,6 +38,5 @@ returns-clause-value c =
     let bytes : take (8 * ((n + 7) / 8)) all ≡ bytes_at w (c.args.at + 2) ((n + 7) / 8) =
     c.copy_value.ensures.bytes c.args.j c.args.at (lies e) (fits e) ∙ ap (λ (m : Mine). bytes_at
     (held m.0 c.args.j) (c.args.at + 2) ((n + 7) / 8)) c.read-length.ensures.same.2 in
-    sym (take-take n (8 * ((n + 7) / 8)) all (omega arith))
-    ∙ (ap (take n) bytes
+    sym (take-take n (8 * ((n + 7) / 8)) all (omega arith)) ∙ (ap (take n) bytes
     ∙ ap (λ (z : ℕ). take z (bytes_at w (c.args.at + 2) (words_for z))) told)

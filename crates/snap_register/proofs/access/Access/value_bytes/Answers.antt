@@ -16,8 +16,7 @@ returns-clause-value c =
     let whole : take c.resize.new.self.len (out ++ rest) ≡ out =
     ap (λ n. take n (out ++ rest)) long ∙ take-append_seam out rest in
     value_shown me.seat.table_id (view_of me) c.args.j _ c.requires.looked
-    (me.seated.records_are c.args.j c.requires.segment)
-    (c.in_ok-from_vec.ensures.ok ∙ c.truncate.ensures.items
+    (me.seated.records_are c.args.j c.requires.segment) (c.in_ok-from_vec.ensures.ok ∙ c.truncate.ensures.items
     ∙ ap (take c.read_value-length.result) whole ∙ c.read_value-length.ensures.value
     ∙ ap (λ (m : Mine). value_at (held m.0 c.args.j) 0)
     c.size_at-words.ensures.same.2)

@@ -36,8 +36,7 @@ overflow_add-at c =
     let e = (goal.at.overflow_add-at c).In-loop-k in
     omega (
       arith,
-      ends_small c.args.self.now c.args.j _ _ _ c.requires.segment (words_are e) (whole e)
-          c.read_named-at.ensures.size,
+      ends_small c.args.self.now c.args.j _ _ _ c.requires.segment (words_are e) (whole e) c.read_named-at.ensures.size,
     )
 
 pub loop-k-preserved : goal.loop-k-preserved
@@ -63,14 +62,11 @@ loop-k-preserved c =
       same = search rules;
       long = search rules;
       at = (λ t. at t + size t) ∙ sym (behind_more w (size_at w 0) k);
-      view = λ i li named. dite (ℕ_discrete i k)
-          (λ e. rw e (get-set_same items k c.read_named-at.new.out (omega arith)
+      view = λ i li named. dite (ℕ_discrete i k) (λ e. rw e (get-set_same items k c.read_named-at.new.out (omega arith)
           ∙ ap Some (MatchBool-at_true _ _ (c.has.ensures.names.1 (rw e at named))
-          c.read_named-at.ensures.block ∙ here)))
-          (λ ne. get-set_other items k i c.read_named-at.new.out ne
+          c.read_named-at.ensures.block ∙ here))) (λ ne. get-set_other items k i c.read_named-at.new.out ne
           ∙ inv.view i (omega arith) named);
-      others = λ i un. dite (ℕ_discrete i k)
-          (λ e. rw e (get-set_same items k c.read_named-at.new.out (omega arith)
+      others = λ i un. dite (ℕ_discrete i k) (λ e. rw e (get-set_same items k c.read_named-at.new.out (omega arith)
           ∙ (ap Some (MatchBool-at_false _ _
           (false_from_ne_true _ (λ t. un (rw e (c.has.ensures.names.0 t)))) c.read_named-at.ensures.block)
           ∙ (sym (slice_get_read items (length items) k c.index_mut.result.now refl (omega arith)

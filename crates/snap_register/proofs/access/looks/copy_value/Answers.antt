@@ -48,12 +48,10 @@ loop-q-preserved c =
           let w : List ℕ = held a.0 j in
           let from : ℕ = at + 2 in
           let word : c.load_word-word.result ≡ get_or w (from + q) 0 =
-          c.load_word-word.ensures.word j (from + q)
-          (lies (goal.at.loop-q-preserved c).In-loop-q j at lies' inside)
+          c.load_word-word.ensures.word j (from + q) (lies (goal.at.loop-q-preserved c).In-loop-q j at lies' inside)
           ∙ ap (λ (m : Mine). get_or (held m.0 j) (from + q) 0) inv.me in
           let bytes : c.copy_from_slice.new.self ≡ to_le_bytes w64 (get_or w (from + q) 0) =
-          c.copy_from_slice.ensures.after
-          ∙ (c.to_le_bytes.ensures ∙ ap (to_le_bytes w64) word) in
+          c.copy_from_slice.ensures.after ∙ (c.to_le_bytes.ensures ∙ ap (to_le_bytes w64) word) in
           take-put_mid (8 * q) (8 * q + 8 - 8 * q) c.loop-q.out c.copy_from_slice.new.self
           (8 * (q + 1)) (omega arith) (omega arith)
           ∙ ((λ i. inv.bytes j at lies' inside i ++ bytes i) ∙ sym (bytes_more w from q));

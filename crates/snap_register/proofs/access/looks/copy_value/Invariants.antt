@@ -8,7 +8,6 @@ invariant-loop-q l = record {
   id : l.seat.id ≡ l.initial.seat.id;
   me : l.seat.me ≡ l.initial.seat.me;
   long : length l.out ≡ length l.initial.out;
-  bytes : (j at : ℕ) → LiesAt l.initial.seat.me.0 j at l.place
-      → at + 2 + l.count ≤ length (held l.initial.seat.me.0 j)
+  bytes : (j at : ℕ) → LiesAt l.initial.seat.me.0 j at l.place → at + 2 + l.count ≤ length (held l.initial.seat.me.0 j)
       → take (8 * l.q) l.out ≡ bytes_at (held l.initial.seat.me.0 j) (at + 2) l.q;
 }

@@ -19,8 +19,7 @@ returns-clause-writer c =
     let a = c.writer.inside.access in
     let b = c.meet.new.other in
     let l = c.meet.ensures in
-    rw (← c.writer.view_is)
-    (meets_is a.seat.table_id b.seat.table_id (view_of a) (view_of b) (view_of b).seen l.other.0
+    rw (← c.writer.view_is) (meets_is a.seat.table_id b.seat.table_id (view_of a) (view_of b) (view_of b).seen l.other.0
     (ap (λ (m : Mine). m.0) l.other.1) l.seen l.own)
 
 pub returns-clause-below : goal.returns-clause-below

@@ -9,8 +9,6 @@ returns c =
     let v = view_of s.access in
     let own = s.segment in
     record {
-      number = c.self.invariant.number_is
-          ∙ (sym (ap (λ (i : ℕ). number v.plan v.seen i) c.self.invariant.role.0)
-          ∙ (sym (number_is v.plan v.seen v.low)
-          ∙ ap (λ (a : Known). number_in a a.seen (own_of a)) c.self.view_is));
+      number = c.self.invariant.number_is ∙ (sym (ap (λ (i : ℕ). number v.plan v.seen i) c.self.invariant.role.0)
+          ∙ (sym (number_is v.plan v.seen v.low) ∙ ap (λ (a : Known). number_in a a.seen (own_of a)) c.self.view_is));
     }

@@ -4,7 +4,7 @@ use Rattle.std.proofs.lemmas.List.{length-set}
 use Rattle.snap_register.specs.Seat.{Known, number_in, own_of}
 use Rattle.snap_register.proofs.Updates.{can_take, may_take, shown_is, below_is, number_is}
 use Rattle.snap_register.specs.{declared.access.Access.Access, declared.plan.SeatView.SeatView}
-use Rattle.snap_register.specs.{History.number, declared.plan.Pool.Pool, Steps.view_of, Steps.known_of}
+use Rattle.snap_register.specs.{History.number, declared.plan.BufferPool.BufferPool, Steps.view_of, Steps.known_of}
 use Rattle.snap_register.proofs.seats.WriteSeat.publish.Goals as goal
 
 -- the next number is valid
@@ -53,20 +53,31 @@ invariant_of-self c =
       role = rw s.same inv.role;
       inside = rw plan inv.inside;
       number_is = sym s.number_is;
-      current_is = sym (ap (λ (x : Pool). x.current) pool);
+      current_is = sym (ap (λ (x : BufferPool). x.current) pool);
       current_inside = rw plan l.pool.0;
-      found_pinned_is = ap (λ (x : Pool). x.found_pinned) pool;
-      counts = ap (λ (x : Pool). length x.counted) pool ∙ rw plan (length-set _ _ _ ∙ inv.counts);
+      found_pinned_is = ap (λ (x : BufferPool). x.found_pinned) pool;
+      counts = ap (λ (x : BufferPool). length x.counted) pool ∙ rw plan (length-set _ _ _ ∙ inv.counts);
       counted_are = λ b lb. grind (
         arith,
         get_or-set_same {A = ℕ},
         get_or-set_other {A = ℕ},
-        ap (λ (x : Pool). get_or x.counted b 0) pool,
+        ap (λ (x : BufferPool). get_or x.counted b 0) pool,
         inv.counted_are b (rw plan at lb),
         inv.counted_are mine inv.current_inside,
         inv.current_is,
         inv.counts,
         wide,
+      );
+      draft_none = ap (λ (x : BufferPool). x.draft) pool;
+      wide_records = ap (λ (x : BufferPool). length x.records) pool ∙ rw plan (length-set _ _ _ ∙ inv.wide_records);
+      filled_are = λ b lb any. grind (
+        arith,
+        get_or-set_same {A = ℕ},
+        get_or-set_other {A = ℕ},
+        ap (λ (x : BufferPool). get_or x.records b 0) pool,
+        inv.filled_are b (rw plan at lb),
+        inv.wide_records,
+        l.pool.0,
       );
     }
 
@@ -86,7 +97,6 @@ returns-clause-below c =
 pub returns-clause-number : goal.returns-clause-number
 returns-clause-number c =
     let w : SeatView = view_of c.publish-current.new.self in
-    sym (number_is w.plan w.seen w.low
-    ∙ (let low = ap (λ (u : SeatView). u.low) c.publish-current.ensures.shown.same
+    sym (number_is w.plan w.seen w.low ∙ (let low = ap (λ (u : SeatView). u.low) c.publish-current.ensures.shown.same
     ∙ c.self.invariant.role.0 in ap (λ (i : ℕ). number w.plan w.seen i) low
     ∙ c.publish-current.ensures.shown.number_is))

@@ -3,9 +3,10 @@ use Rattle.std.proofs.lemmas.{Bool.iff_false, List.length-set, List.map-append}
 use Rattle.snap_register.specs.{Rule.segments}
 use Rattle.snap_scan.proofs.Sets.{list_named, list_unnamed, named_all}
 use Rattle.snap_scan.specs.{Sets.named_below, Values.pair_of}
-use Rattle.snap_memory.{specs.Rooms.IsEntry, proofs.Kept.kept_of, proofs.Kept.kept_in, proofs.ScanAnswer.entries_short}
-use Rattle.snap_memory.proofs.room.list.Goals.{then-has+in_ok-entry+in_ok-push, else-has}
-use Rattle.snap_memory.proofs.room.list.Goals as goal
+use Rattle.snap_memory.{specs.ScanCaches.IsEntry, proofs.Kept.kept_of, proofs.Kept.kept_in}
+use Rattle.snap_memory.{proofs.ScanAnswer.entries_short}
+use Rattle.snap_memory.proofs.scan_cache.list.Goals.{then-has+in_ok-entry+in_ok-push, else-has}
+use Rattle.snap_memory.proofs.scan_cache.list.Goals as goal
 
 pub loop-i-init : goal.loop-i-init
 unfolding named_below
@@ -13,7 +14,7 @@ loop-i-init g c = record {
   same = refl;
   set = refl;
   found = refl;
-  room = refl;
+  cache = refl;
   kept = c.requires.kept;
   entries = rw c.in_ok-values.ensures.items (record { count = refl; each = λ p i at. absurd (cc at) });
 }
@@ -22,20 +23,20 @@ loop-i-init g c = record {
 pub take_entry-requires-clause-kept : goal.take_entry-requires-clause-kept
 take_entry-requires-clause-kept g c =
     let inv = c.loop-i.invariant in
-    kept_of (g.L.Looker.known c.args.seat.now) (g.L.Looker.known c.loop-i.seat) _ _ _ _ inv.room c.requires.room
+    kept_of (g.L.Looker.known c.args.seat.now) (g.L.Looker.known c.loop-i.seat) _ _ _ _ inv.cache c.requires.cache
     c.segments-i-end.ensures.count c.loop-i-test.true c.index_mut.result.now inv.same inv.kept c.index_mut.ensures.value
 
 -- the entry cached in its stead was seen
 pub returns-in_err-entry-clause-kept : goal.returns-in_err-entry-clause-kept
 returns-in_err-entry-clause-kept g c =
     let inv = c.loop-i.invariant in
-    kept_in (g.L.Looker.known c.args.seat.now) (g.L.Looker.known c.loop-i.seat) _ _ _ _ inv.room c.requires.room
+    kept_in (g.L.Looker.known c.args.seat.now) (g.L.Looker.known c.loop-i.seat) _ _ _ _ inv.cache c.requires.cache
     c.segments-i-end.ensures.count c.loop-i-test.true c.take_entry.new.kept inv.same inv.kept c.take_entry.ensures.kept
 
 pub returns-in_err-push-clause-kept : goal.returns-in_err-push-clause-kept
 returns-in_err-push-clause-kept g c =
     let inv = c.loop-i.invariant in
-    kept_in (g.L.Looker.known c.args.seat.now) (g.L.Looker.known c.loop-i.seat) _ _ _ _ inv.room c.requires.room
+    kept_in (g.L.Looker.known c.args.seat.now) (g.L.Looker.known c.loop-i.seat) _ _ _ _ inv.cache c.requires.cache
     c.segments-i-end.ensures.count c.loop-i-test.true c.take_entry.new.kept inv.same inv.kept c.take_entry.ensures.kept
 
 pub loop-i-preserved : goal.loop-i-preserved
@@ -52,12 +53,12 @@ loop-i-preserved g c =
           let values : map pair_of w.push.new.self.items ≡ before ++ pair_of w.in_ok-entry.entry ∷ [] =
           ap (map pair_of) w.in_ok-push.ensures.items ∙ map-append pair_of c.loop-i.values.items
           (w.in_ok-entry.entry ∷ []) in
-          rw w.seat-is (rw w.room-is (rw w.values-is (record {
+          rw w.seat-is (rw w.cache-is (rw w.values-is (record {
             same = w.take_entry.ensures.same ∙ inv.same;
             set = refl;
             found = refl;
-            room = length-set c.loop-i.room.items c.loop-i.i w.take_entry.new.kept ∙ inv.room;
-            kept = kept_in a (g.L.Looker.known c.loop-i.seat) _ _ _ _ inv.room c.requires.room
+            cache = length-set c.loop-i.cache.items c.loop-i.i w.take_entry.new.kept ∙ inv.cache;
+            kept = kept_in a (g.L.Looker.known c.loop-i.seat) _ _ _ _ inv.cache c.requires.cache
                 c.segments-i-end.ensures.count c.loop-i-test.true w.take_entry.new.kept inv.same inv.kept
                 w.take_entry.ensures.kept;
             entries = rw values (record { count = listed.0; each = listed.1 });
@@ -65,11 +66,11 @@ loop-i-preserved g c =
       | else-has w ↦ (
           let listed = list_unnamed (IsEntry a c.args.found) c.args.set.bits c.loop-i.i before
           (iff_false c.has.ensures.names w.if-has.false) (inv.entries.count, inv.entries.each) in
-          rw w.seat-is (rw w.room-is (rw w.values-is (record {
+          rw w.seat-is (rw w.cache-is (rw w.values-is (record {
             same = inv.same;
             set = refl;
             found = refl;
-            room = inv.room;
+            cache = inv.cache;
             kept = inv.kept;
             entries = record { count = listed.0; each = listed.1 };
           }))))
@@ -86,7 +87,7 @@ returns g c =
     record {
       entries = entries;
       short = entries_short c.args.set.bits a a c.args.found c.loop-i.values.items entries;
-      room = inv.room;
+      cache = inv.cache;
       kept = inv.kept;
       same = inv.same;
     }

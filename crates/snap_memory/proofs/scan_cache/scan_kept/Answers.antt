@@ -4,7 +4,7 @@ use Rattle.snap_register.specs.{Seat.Known, Rule.segments, declared.view.View.Th
 use Rattle.snap_scan.{specs.Values.pair_of, proofs.Sets.names_below}
 use Rattle.snap_memory.proofs.{ScanAnswer.list_clean, ScanAnswer.list_borrowed, ScanAnswer.view_seen, Kept.kept_grown}
 use Rattle.snap_memory.specs.Scans.{IsScan}
-use Rattle.snap_memory.proofs.room.scan_kept.Goals as goal
+use Rattle.snap_memory.proofs.scan_cache.scan_kept.Goals as goal
 
 pub list-requires-clause-found : goal.list-requires-clause-found
 list-requires-clause-found g c = λ i l named. (
@@ -14,12 +14,12 @@ list-requires-clause-found g c = λ i l named. (
 
 pub list-requires-clause-kept : goal.list-requires-clause-kept
 list-requires-clause-kept g c = kept_grown (g.L.Looker.known c.args.seat.now) (g.L.Looker.known c.gather.new.seat)
-    c.args.room.now.items c.gather.ensures.seen c.requires.kept
+    c.args.cache.now.items c.gather.ensures.seen c.requires.kept
 
 pub returns-in_err-view-in-Borrowed-clause-kept : goal.returns-in_err-view-in-Borrowed-clause-kept
 returns-in_err-view-in-Borrowed-clause-kept g c =
     kept_grown (g.L.Looker.known c.args.seat.now) (g.L.Looker.known c.gather.new.seat)
-    c.args.room.now.items c.gather.ensures.seen c.requires.kept
+    c.args.cache.now.items c.gather.ensures.seen c.requires.kept
 
 pub list-requires-in-Borrowed-clause-found : goal.list-requires-in-Borrowed-clause-found
 list-requires-in-Borrowed-clause-found g c = λ i l named.
@@ -34,7 +34,7 @@ pub list-requires-in-Borrowed-clause-kept : goal.list-requires-in-Borrowed-claus
 list-requires-in-Borrowed-clause-kept g c =
     rw c.view.ensures.same
     (kept_grown (g.L.Looker.known c.args.seat.now) (g.L.Looker.known c.gather.new.seat)
-    c.args.room.now.items c.gather.ensures.seen c.requires.kept)
+    c.args.cache.now.items c.gather.ensures.seen c.requires.kept)
 
 pub returns-in-Collected-clause-part : goal.returns-in-Collected-clause-part
 returns-in-Collected-clause-part g c =

@@ -1,7 +1,7 @@
 use Rattle.std.proofs.Common.{[], ap, sym, subst, ◌∙◌}
 use Rattle.std.proofs.lemmas.Option.{slice_get-get_or}
-use Rattle.snap_memory.specs.Rooms.{HasPlace, number_of}
-use Rattle.snap_memory.proofs.room.Found.number.Goals as goal
+use Rattle.snap_memory.specs.ScanCaches.{HasPlace, number_of}
+use Rattle.snap_memory.proofs.scan_cache.ScanSource.number.Goals as goal
 
 pub returns-in-Viewed : goal.returns-in-Viewed
 returns-in-Viewed c =

@@ -6,8 +6,9 @@ ghost use Rattle.snap_register.specs.Seat.{Grows, IsBelow, Known};
 ghost use Rattle.snap_scan.specs.Sets.{named, size};
 ghost use Rattle.snap_scan.specs.{Values.pair_of, declared.segment_value.SegmentValue.SegmentValue};
 ghost use Rattle.snap_memory.specs.Scans.{IsPart, IsSetOf, HasLooks, TakesLooksOf};
-ghost use Rattle.snap_memory.specs.Rooms.{number_of, HasPlace, IsFoundAt, IsFound, WasSeen, IsKeptOf, AreKept, IsEntry};
-ghost use Rattle.snap_memory.specs.Rooms.{AreEntries};
+ghost use Rattle.snap_memory.specs.ScanCaches.{number_of, HasPlace, IsFoundAt, IsFound, WasSeen, IsKeptOf, AreKept};
+ghost use Rattle.snap_memory.specs.ScanCaches.{IsEntry};
+ghost use Rattle.snap_memory.specs.ScanCaches.{AreEntries};
 
 use crate::looks::gather;
 use bytes::Bytes;
@@ -17,7 +18,7 @@ use std::alloc::{AllocError, Global};
 
 /// A scanner's cache.
 #[derive(Drop)]
-pub(crate) enum Room {
+pub(crate) enum ScanCache {
     /// Nothing was cached yet, and no memory was allocated.
     Absent,
     /// For each segment the number and value that this scanner read last, if it did.
@@ -25,18 +26,18 @@ pub(crate) enum Room {
 }
 
 /// An empty cache for `segments` segments.
-pub(crate) fn empty_room(
+pub(crate) fn empty_cache(
     alloc: Global,
     segments: usize,
 ) -> Result<Vec<Option<SegmentValue>>, AllocError>
     ensures size { IfOk result (λ r. length r.items ≡ segments) }
     ensures none { IfOk result (λ r. (seat : Known) → AreKept seat r.items) }
 {
-    let mut room = Vec::with_capacity(alloc, segments)?;
+    let mut cache = Vec::with_capacity(alloc, segments)?;
     for i in 0..segments {
-        room.push(None)?;
+        cache.push(None)?;
     }
-    Ok(room)
+    Ok(cache)
 }
 
 /// The numbers and values of the segments in `set`, in ascending order, all of one moment. If
@@ -45,43 +46,43 @@ pub(crate) fn scan_kept<L: Looker>(
     alloc: Global,
     seat: &mut L,
     set: SegmentSet,
-    room: &mut Vec<Option<SegmentValue>>,
+    cache: &mut Vec<Option<SegmentValue>>,
 ) -> Result<Vec<SegmentValue>, AllocError>
     requires set { IsSetOf (L.known seat.old) set.bits }
     requires left { HasLooks (size set.bits) (L.known seat.old) }
-    requires room { length room.old.items ≡ segments (L.known seat.old).plan }
-    requires kept { AreKept (L.known seat.old) room.old.items }
+    requires cache { length cache.old.items ≡ segments (L.known seat.old).plan }
+    requires kept { AreKept (L.known seat.old) cache.old.items }
     ensures seen { Grows (L.known seat.old) (L.known seat.new) }
     ensures below { IsBelow (L.known seat.new) }
     ensures part { IfOk result (λ values. IsPart set.bits (L.known seat.old) (L.known seat.new)
         (map pair_of values.items)) }
     ensures short { IfOk result (λ values. All (λ v. IsShort v.value) values.items) }
     ensures left { TakesLooksOf (size set.bits) (L.known seat.old) (L.known seat.new) }
-    ensures room { length room.new.items ≡ length room.old.items }
-    ensures kept { AreKept (L.known seat.new) room.new.items }
+    ensures cache { length cache.new.items ≡ length cache.old.items }
+    ensures kept { AreKept (L.known seat.new) cache.new.items }
 {
     let mut numbers = [0; MAX_SEGMENTS];
     match gather(seat, set, &mut numbers) {
-        View::Collected => list(alloc, seat, set, Found::Looked(&numbers), room),
+        View::Collected => list(alloc, seat, set, ScanSource::Looked(&numbers), cache),
         View::Borrowed(segment) => {
             let mut view = SnapshotBuf::new(alloc, seat.segments())?;
             seat.view(segment, set, &mut view);
-            list(alloc, seat, set, Found::Viewed(&view), room)
+            list(alloc, seat, set, ScanSource::Viewed(&view), cache)
         }
     }
 }
 
 /// Where a scan found its answer.
 #[derive(Clone, Copy)]
-pub(crate) enum Found<'a> {
+pub(crate) enum ScanSource<'a> {
     /// In the records of the last looks, which found these numbers.
     Looked(&'a [u64; MAX_SEGMENTS]),
     /// In the view of one record, which has these entries.
     Viewed(&'a SnapshotBuf),
 }
 
-impl<'a> Found<'a> {
-    ghost use Rattle.snap_memory.specs.Rooms.{number_of, HasPlace, IsFoundAt, IsAnswerable};
+impl<'a> ScanSource<'a> {
+    ghost use Rattle.snap_memory.specs.ScanCaches.{number_of, HasPlace, IsFoundAt, IsAnswerable};
 
     /// The number found for segment `i`.
     fn number(self, i: usize) -> u64
@@ -89,8 +90,8 @@ impl<'a> Found<'a> {
         ensures { result ≡ number_of self.entry i }
     {
         match self {
-            Found::Looked(numbers) => numbers[i],
-            Found::Viewed(view) => view.number(i),
+            ScanSource::Looked(numbers) => numbers[i],
+            ScanSource::Viewed(view) => view.number(i),
         }
     }
 
@@ -103,8 +104,8 @@ impl<'a> Found<'a> {
         ensures same { L.known seat.new ≡ L.known seat.old }
     {
         match self {
-            Found::Looked(_) => seat.value_bytes(alloc, i),
-            Found::Viewed(view) => Bytes::copy_from_slice(alloc, view.value(i)),
+            ScanSource::Looked(_) => seat.value_bytes(alloc, i),
+            ScanSource::Viewed(view) => Bytes::copy_from_slice(alloc, view.value(i)),
         }
     }
 }
@@ -125,7 +126,7 @@ fn take_entry<L: Looker>(
     alloc: Global,
     seat: &mut L,
     i: usize,
-    found: Found,
+    found: ScanSource,
     kept: &mut Option<SegmentValue>,
 ) -> Result<SegmentValue, AllocError>
     requires segment { i < segments (L.known seat.old).plan }
@@ -152,24 +153,24 @@ fn list<L: Looker>(
     alloc: Global,
     seat: &mut L,
     set: SegmentSet,
-    found: Found,
-    room: &mut Vec<Option<SegmentValue>>,
+    found: ScanSource,
+    cache: &mut Vec<Option<SegmentValue>>,
 ) -> Result<Vec<SegmentValue>, AllocError>
     requires set { set.bits < 2 ^ segments (L.known seat.old).plan }
     requires found { IsFound set.bits (L.known seat.old) found }
-    requires room { length room.old.items ≡ segments (L.known seat.old).plan }
-    requires kept { AreKept (L.known seat.old) room.old.items }
+    requires cache { length cache.old.items ≡ segments (L.known seat.old).plan }
+    requires kept { AreKept (L.known seat.old) cache.old.items }
     ensures entries { IfOk result (λ values. AreEntries (named set.bits) (L.known seat.old) found.entry
         (map pair_of values.items)) }
     ensures short { IfOk result (λ values. All (λ v. IsShort v.value) values.items) }
-    ensures room { length room.new.items ≡ length room.old.items }
-    ensures kept { AreKept (L.known seat.old) room.new.items }
+    ensures cache { length cache.new.items ≡ length cache.old.items }
+    ensures kept { AreKept (L.known seat.old) cache.new.items }
     ensures same { L.known seat.new ≡ L.known seat.old }
 {
     let mut values = Vec::with_capacity(alloc, set.len())?;
     for i in 0..seat.segments() {
         if set.has(i) {
-            let entry = take_entry(alloc, seat, i, found, &mut room[i])?;
+            let entry = take_entry(alloc, seat, i, found, &mut cache[i])?;
             values.push(entry)?;
         }
     }
