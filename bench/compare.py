@@ -22,18 +22,12 @@ sys.dont_write_bytecode = True
 sys.path.insert(0, str(TOP / "tests"))
 
 import figures  # noqa: E402
-from server import SEGMENTS, SPAN, Bench  # noqa: E402
+from server import SEGMENTS, SPAN, Bench, processor_time  # noqa: E402
 from serving import Server  # noqa: E402
 
 LENGTH = 1_000
 # The puts of a round, of each program.
 PUTS = 20
-
-
-def processor_time(process):
-    """The processor time of all threads of a process, in microseconds."""
-    tasks = pathlib.Path(f"/proc/{process}/task").iterdir()
-    return sum(int((it / "schedstat").read_text().split()[0]) for it in tasks) / 1e3
 
 
 class Comparison:

@@ -1,19 +1,22 @@
 """Times `snapd serve` beside as little of a server as does the same work (`echo.c`), as ratios, in one run.
 
-    python3 bench/server.py [--folder FOLDER] [--rounds N] [--program bin/snapd] [--only PART] [--json FILE]
+    python3 bench/server.py [--folder FOLDER] [--rounds N] [--program bin/snapd] [--only PART] [--flush US]
+                            [--json FILE]
 
-PART is one of `updates`, `scans`, `parts`, `starts`, `told`, `comers`, `memory`, `held`, `beside`, `stages` and
-`openings`, by default all of them in this order.
+PART is one of `updates`, `crowds`, `scans`, `parts`, `starts`, `told`, `comers`, `memory`, `held`, `beside`, `stages`
+and `openings`, by default all of them in this order.
 Each figure is the median of the ratios of some rounds; in a round all that is compared runs in turn, for half a second
 each. The files lie in FOLDER, by default a fresh folder beside this repository's own files, so that they are on a disk
 and not in memory.
 
 An update is compared with its device calls alone (aim 1.1), and with the yardstick, which makes the same calls for a
-client on a socket (aim 1.3); updates a second of 1 and 16 writers with bare calls (aim 0.8); a scan with the
-yardstick's reply of the same size (aim 1.5), alone and beside 16 writers, and with a yardstick that copies what was
-stored last; a scan of 1, 4 and 16 named segments of 16 with a whole one of a server that has as many (aim 1.15); the
-time to the line `listening` with 16 files, with their bare opening (aim 20 ms more), beside the time to write as much
-memory and to copy it, and the same with the C library's settings of docs/RECIPES.md.
+client on a socket (aim 1.3); updates a second of 1 and 16 writers with bare calls (aim 0.8). Updates of 1, 4 and 16
+writers, with their processor time, and scans are compared with the yardstick's, also where a flush takes US
+microseconds at least. A scan is compared with the yardstick's reply of the same size (aim 1.5), alone and beside 16
+writers, and with a yardstick that copies what was stored last; a scan of 1, 4 and 16 named segments of 16 with a whole
+one of a server that has as many (aim 1.15); the time to the line `listening` with 16 files, with their bare opening
+(aim 20 ms more), beside the time to write as much memory and to copy it, and the same with the C library's settings of
+docs/RECIPES.md.
 
 An update of one writer beside connections that come and go, 12,600 a second and as fast as a thread can make them, is
 compared with the same while it is quiet (aim 300 us).
@@ -45,7 +48,9 @@ from preload import library  # noqa: E402
 from program import Program  # noqa: E402
 from serving import SCAN, Server, entries_of, reply, segments  # noqa: E402
 
-PARTS = ("updates", "scans", "parts", "starts", "told", "comers", "memory", "held", "beside", "stages", "openings")
+PARTS = (
+    "updates", "crowds", "scans", "parts", "starts", "told", "comers", "memory", "held", "beside", "stages", "openings",
+)
 SEGMENTS, SPAN = 16, 500
 # Connections a second that come and go, beside which a median update was once 4 ms.
 FLOOD = 12_600
@@ -67,6 +72,12 @@ def ratio(mine, other):
     return statistics.median(a / b for a, b in zip(mine, other))
 
 
+def processor_time(process):
+    """The processor time of all threads of a process, also of those that have ended, in microseconds."""
+    # (the clock of another process, as clock_getcpuclockid(3) gives it)
+    return time.clock_gettime_ns(~process << 3 | 2) / 1e3
+
+
 class Yardstick:
     """`echo serve` or `echo live`, as `Server` is for snapd."""
 
@@ -84,8 +95,8 @@ class Yardstick:
 
 
 class Bench:
-    def __init__(self, folder, program, rounds):
-        self.folder, self.rounds, self.figures = folder, rounds, Figures()
+    def __init__(self, folder, program, rounds, flush=0):
+        self.folder, self.rounds, self.flush, self.figures = folder, rounds, flush, Figures()
         self.snapd = Program(program, folder)
         self.echo, self.client = self.compiled("echo"), self.compiled("load")
 
@@ -158,6 +169,35 @@ class Bench:
                 name = f"updates a second, {writers} writer{'s' * (writers > 1)}, and bare calls"
                 more = f"{ratio(rate, bare_rate):.3f}   (aim 0.8; the yardstick's {statistics.median(echo_rate):,.0f})"
                 self.show(name, {"snapd": rate, "calls": bare_rate}, "/s", more)
+
+    def crowds(self):
+        """Updates of 1, 4 and 16 writers, and scans, beside the yardstick's: medians, 99th percentiles, and the
+        processor time of an update."""
+        length = 1_024
+        for place in ("yardstick", "files"):
+            files = self.files(place, length)
+        env = {"LD_PRELOAD": self.preloaded("flush"), "FLUSH_US": str(self.flush)} if self.flush else {}
+        with Server(self.snapd, *files, scanners=SEGMENTS, env=env) as server, self.yardstick(length, env=env) as echo:
+            for writers in (1, 4, SEGMENTS):
+                found = self.in_turn((echo, server), lambda it: self.spent(it, length, writers))  # noqa: B023
+                for at, what in enumerate(("", ", 99th percentile", ", processor time")):
+                    label = f"{f'updates of {writers}{what}':<48}"
+                    self.figures.show_pairs(label, ("yardstick", "snapd"), "us", [(a[at], b[at]) for a, b in found])
+            for name, writers, readers in (("alone", 0, 1), ("beside 3 readers", 0, 4), ("beside 16 writers", 16, 1)):
+                measure = lambda it: self.load(it, length, writers, readers)[1][1]  # noqa: B023, E731
+                pairs = self.in_turn((echo, server), measure)
+                self.figures.show_pairs(f"{f'a scan {name}':<48}", ("yardstick", "snapd"), "us", pairs)
+
+    def in_turn(self, sides, measure):
+        """What each round found of both sides, whose order changes from round to round; the first doesn't count."""
+        rounds = [[measure(it) for it in sides[:: 1 - turn % 2 * 2]] for turn in range(self.rounds + 1)]
+        return [it[:: 1 - turn % 2 * 2] for turn, it in enumerate(rounds)][1:]
+
+    def spent(self, server, length, writers):
+        """The median of an update, its 99th percentile, and the server's processor time of one."""
+        before = processor_time(server.process.pid)
+        rate, *times = self.load(server, length, writers, 0)[0]
+        return *times, (processor_time(server.process.pid) - before) / (rate * SPAN / 1e3)
 
     def scans(self):
         """A scan beside the yardstick's reply of the same size, alone and beside writers."""
@@ -366,9 +406,10 @@ def main():
     words.add_argument("--rounds", type=int, default=5)
     words.add_argument("--program", default=str(TOP / "bin" / "snapd"))
     words.add_argument("--only", choices=PARTS)
+    words.add_argument("--flush", type=int, default=0, metavar="US", help="how long a flush takes in `crowds`")
     words = words.parse_args()
     with tempfile.TemporaryDirectory(prefix="bench-", dir=words.folder or TOP) as folder:
-        bench = Bench(pathlib.Path(folder).resolve(), words.program, words.rounds)
+        bench = Bench(pathlib.Path(folder).resolve(), words.program, words.rounds, words.flush)
         print(f"{'the server':<48} {'snapd':>12} {'yardstick':>12}   ratio")
         for part in PARTS if words.only is None else (words.only,):
             getattr(bench, part)()
