@@ -27,7 +27,7 @@ from test_folder import files_in, name_of
 from test_locks import locked
 from test_memory import count_of
 from test_serve_disks import TWO, Disk
-from waiting import PATIENCE, moment
+from waiting import PATIENCE, moment, wait_until
 
 TIME = "2026-11-27T09:54:52Z"
 CHANGED = "it was changed, since its checksum is that of another text: take another copy, or dump again"
@@ -221,6 +221,8 @@ def test_dumps_beside_sixteen_writers(snapd, rng):
 
     def dump(address):
         try:
+            # So that no segment is fresh in any dump, however slow the machine is.
+            wait_until(lambda: all(load.numbers), "an update of each writer")
             while len(dumps) < 30:
                 began = time.monotonic()
                 run = snapd("dump", address)
