@@ -72,7 +72,7 @@ def functions_of(folder):
     """Each function that others may call and that has a contract: its name after its type's, its file, its clauses."""
     for file in sorted((folder / "src").rglob("*.rt")):
         text = file.read_text()
-        for function in functions_in(text, file.name):
+        for function in functions_in(text):
             contract, of = contract_of(text.split("\n"), function.first) or "", function.of.replace("->", "")
             while "<" in of:
                 of = re.sub(r"<[^<>]*>", "", of)

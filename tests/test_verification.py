@@ -144,7 +144,7 @@ def test_a_digest_follows_what_is_handed_on_and_names_of_variants(snapd, _):
 
 def test_an_edit_is_placed_in_its_function(snapd, _):
     folder = tree(snapd.folder) / "crates" / "low"
-    assert [(it.name, it.first, it.last) for it in functions_in(BODY, "src/lib.rt")] == [
+    assert [(it.name, it.first, it.last) for it in functions_in(BODY)] == [
         ("more", 8, 14), ("less", 17, 21), ("more", 26, 26),
     ]
     first, second = (function_of(folder, it) for it in sorted((folder / "must-fail").iterdir()))

@@ -14,7 +14,6 @@ import hashlib
 import re
 from collections import defaultdict, namedtuple
 
-import kit
 from source import function_of, items_of, without_comments
 from tree import below, crates_of
 
@@ -56,69 +55,60 @@ class Digests:
     """The digests of a checkout's edits under one logic."""
 
     def __init__(self, top, logic):
-        self.top, self.logic, self.crates, self.edited = top, logic, crates_of(top), kit.load("edited").edited
-        self.below = {it: below(self.crates, it) for it in self.crates}
-        # By crate and name; by file and name; and the names that each file imports, with their crates.
-        self.named, self.in_file, self.imports, self.aliases = defaultdict(list), defaultdict(list), {}, {}
-        for name in self.crates:
-            folder = top / "crates" / name
-            for path in sorted([*(folder / "src").rglob("*.rt"), *(folder / "specs").rglob("*.antt")]):
-                self.read(name, str(path.relative_to(top / "crates")), without_comments(path))
+        self.top, self.logic, crates = top, logic, crates_of(top)
+        self.below = {it: below(crates, it) for it in crates}
+        # The pieces of each name in a crate and in a file; what a file imports under a name, as crate and name.
+        self.named, self.imports, self.aliases = defaultdict(list), defaultdict(set), {}
+        for name in crates:
+            for kind in ("src/**/*.rt", "specs/**/*.antt"):
+                for path in (top / "crates" / name).glob(kind):
+                    self.read(name, str(path.relative_to(top / "crates")), without_comments(path))
 
     def read(self, crate, path, text):
-        found = defaultdict(set)
+        """Takes in a file: what it imports and what it defines."""
         for of, names, one in IMPORTS.findall(text):
             for item in (names or one).split(","):
                 # (in a list a name may stand behind its modules)
                 full, _, alias = item.strip().partition(" as ")
                 name = re.split(r"\.|::", full)[-1]
                 for it in words_of(f"{name} {alias}"):
-                    found[it].add((crate if of in HERE else of, name))
-        self.imports[path] = found
+                    self.imports[path, it].add((crate if of in HERE else of, name))
         self.aliases[path] = [(of, re.compile(rf"\b{name}\.(\w+)")) for of, name in ALIAS.findall(text)]
         for names, body in items_of(USE.sub("", text), path):
             piece = Piece(crate, path, body)
-            for name in names:
-                for it in {name, *words_of(name)}:
-                    self.named[crate, it].append(piece)
-                    self.in_file[path, it].append(piece)
+            for it in {word for name in names for word in (name, *words_of(name))}:
+                self.named[crate, it].append(piece)
+                self.named[path, it].append(piece)
+
+    def reached(self, crate, name):
+        """The pieces of this name in a crate and in those below it."""
+        return [it for home in (crate, *self.below.get(crate, ())) for it in self.named[home, name]]
 
     @functools.lru_cache(maxsize=None)
     def meant(self, crate, path, text):
         """The pieces that a text in this file names."""
-        imports, found = self.imports.get(path, {}), []
-        for word in words_of(text):
-            found += self.in_file.get((path, word), [])
-            for of, name in imports.get(word, ()):
-                found += self.defined(of, name)
-        for of, alias in self.aliases.get(path, ()):
-            for name in alias.findall(text):
-                found += self.defined(of, name)
-        for name in set(CALLED.findall(text)):
-            found += [it for lower in (crate, *self.below[crate]) for it in self.named.get((lower, name), [])]
-        return found
-
-    def defined(self, crate, name):
-        """The pieces of this name that a crate has, or re-exports from one below."""
-        own = self.named.get((crate, name), [])
-        return own or [it for lower in self.below.get(crate, ()) for it in self.named.get((lower, name), [])]
+        words = words_of(text)
+        imported = {it for word in words for it in self.imports[path, word]}
+        imported |= {(of, name) for of, alias in self.aliases[path] for name in alias.findall(text)}
+        found = [it for word in words for it in self.named[path, word]]
+        # (a crate may hand on what is defined below it)
+        found += [piece for it in imported for piece in self.named[it] or self.reached(*it)]
+        return found + [it for name in {*CALLED.findall(text)} for it in self.reached(crate, name)]
 
     def edit(self, crate, path):
         """The digest of an edit of a crate."""
-        folder = self.top / "crates" / crate
-        if not self.edited(path.read_text(), str(folder))[0]:
+        placed = function_of(self.top / "crates" / crate, path)
+        if not placed:
             return summed(self.logic, "gone", path.name, path.read_bytes())
-        source, own = function_of(folder, path)
-        own = USE.sub("", own)
+        own = USE.sub("", placed[1])
         # (a trait's method has the clauses of the trait's, too)
         methods = re.findall(r"\bfn (\w+)", own) if re.match(r"impl\b[^{]* for ", own) else []
-        crates = (crate, *self.below[crate])
-        again = [it for name in methods for lower in crates for it in self.named.get((lower, name), [])]
-        seen, left = set(), [Piece(crate, f"{crate}/{source}", own), *again]
+        left = [it for name in methods for it in self.reached(crate, name)]
+        seen, left = set(), [Piece(crate, f"{crate}/{placed[0]}", own), *left]
         while left:
             it = left.pop()
             if it not in seen:
                 seen.add(it)
-                left += self.meant(it.crate, it.path, it.text)
+                left += self.meant(*it)
         texts = sorted({one_line(it.text) for it in seen})
         return summed(self.logic, path.name, one_line(path.read_text()), one_line(own), *texts)

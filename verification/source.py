@@ -3,19 +3,23 @@
 import re
 from collections import namedtuple
 
-HEAD = re.compile(r"^(\s*)(?:pub(?:\([a-z]+\))? )?(?:const )?(?:unsafe )?fn (\w+)")
+import kit
+
+HEAD = re.compile(r"^(\s*)(?:pub(?:\([a-z]+\))? )?(const )?(?:unsafe )?fn (\w+)")
 IMPL = re.compile(r"^(?:pub )?(?:impl|trait)\b(.*)")
 # A line that is a comment and nothing else, by the file's kind, and a text in quotes, in which such a line is none.
 COMMENT = {
     ".rt": re.compile(r'^ *//.*\n|"(?:\\[\s\S]|[^"\\])*"|r(#+)"[\s\S]*?"\1|\'(?:\\[^\']+|[^\\\n\'])\'|//.*', re.M),
     ".antt": re.compile(r'^ *--.*\n|"(?:\\.|[^"\\\n])*"|--.*', re.M),
 }
-# The name at the beginning of a definition's line, after its keywords.
+# The name at the beginning of a definition's line, after its keywords, and a definition that has names within, too.
 DEFINED = re.compile(r"^( *)(?:(?:pub|abbrev|unfoldable|record|data|unfolding) )*([A-Za-z_◌][^\s:({]*)", re.M)
+HOLDS_NAMES = re.compile(r"(?:pub )?(?:abbrev )?(?:module|data|record)\b")
 DECLARED = re.compile(r"\b(?:struct|enum|trait|type|union|const|static) (\w+)")
 VARIANTS = re.compile(r"^    (\w+)[ ,({=]", re.M)
-# A function of a source file, by its first and last line, and the head of its impl.
-Function = namedtuple("Function", "path name first last of")
+BREAK = re.compile(r"\n\n+(?=\S)")
+# A function of a source file: its first and last line, the head of its impl, and its own head with its clauses.
+Function = namedtuple("Function", "name first last of head")
 
 
 def uncommented(text, kind):
@@ -28,94 +32,67 @@ def uncommented(text, kind):
 
 
 def without_comments(path):
-    return uncommented(path.read_text(), path.suffix)
-
-
-def proved_text(path):
     """What a proof reads of a file: all but the lines that are comments."""
-    return without_comments(path) if path.suffix in COMMENT else path.read_bytes()
+    return uncommented(path.read_text(), path.suffix) if path.suffix in COMMENT else path.read_bytes()
 
 
-def functions_in(text, path):
-    """A file's functions. In the layout of `rt fmt` each ends at the first brace in the column of its head."""
+def functions_in(text):
+    """A file's functions. In the layout of `rt fmt` each ends at the first brace in the column of its head. (One that
+    may be a constant's value has its body in its head, too.)"""
     lines, found, of = text.split("\n"), [], ""
-    for first, line in enumerate(lines):
+    for at, line in enumerate(lines):
         if IMPL.match(line):
             of = line
         elif line == "}":
             of = ""
-        head = HEAD.match(line)
-        if head:
-            is_short = line.endswith("}") and line.count("{") == line.count("}")
-            ends = [at for at in range(first, len(lines)) if lines[at] == head[1] + "}"]
-            last = first if is_short or not ends else ends[0]
-            while re.match(r"\s*(#\[|///)", lines[first - 1]):
-                first -= 1
-            found.append(Function(path, head[2], first + 1, last + 1, of))
+        if not (head := HEAD.match(line)):
+            continue
+        indent, is_const, name = head.groups()
+        is_short, first = line.endswith("}") and line.count("{") == line.count("}"), at
+        last = at if is_short else next((it for it in range(at, len(lines)) if lines[it] == indent + "}"), at)
+        # (the brace before a body stands on the head's first line, or begins or ends one in its column)
+        opens = (it for it in range(at, last) if it == at or lines[it].startswith((indent + "{", indent + ")")))
+        body = range(next((it + 1 for it in opens if lines[it].endswith("{") and not is_const), last), last)
+        while re.match(r"\s*(#\[|///)", lines[first - 1]):
+            first -= 1
+        own = [lines[it] for it in range(first, last + 1) if it not in body]
+        found.append(Function(name, first + 1, last + 1, of, "\n".join([of, *own])))
     return found
-
-
-def body_of(lines, function):
-    """The first and last line of a function's body, or None if it has none or can't be told from the head."""
-    head = next(at for at in range(function.first - 1, function.last) if HEAD.match(lines[at]))
-    indent = HEAD.match(lines[head])[1]
-    if re.match(r"\s*(pub(\([a-z]+\))? )?const fn", lines[head]):
-        return None
-    for at in range(head, function.last - 1):
-        is_end_of_head = at == head or lines[at] == indent + "{" or lines[at].startswith(indent + ")")
-        if is_end_of_head and lines[at].endswith("{"):
-            return at + 1, function.last - 1
-    return None
 
 
 def items_of(text, path):
     """What a file says, as pairs of the names that it defines there and its text: definitions, types, and heads of
-    functions with their clauses. (A function that may be a constant's value has its body too, and so has a file that
-    writes macros.)"""
+    functions with their clauses. (A file that writes macros is one such text.)"""
     if path.endswith(".antt"):
-        blocks = re.split(r"\n\n+(?=\S)", text.strip("\n"))
-        return [(defined_in(it), it) for it in blocks]
+        blocks = [(it, HOLDS_NAMES.match(it)) for it in BREAK.split(text.strip("\n"))]
+        return [({name for indent, name in DEFINED.findall(it) if not indent or holds}, it) for it, holds in blocks]
     if "macro_rules!" in text:
         return [(set(re.findall(r"\w+", text)), text)]
-    lines, found, taken = text.split("\n"), [], set()
-    for function in functions_in(text, path):
-        inside = range(function.first - 1, function.last)
-        body = range(*(body_of(lines, function) or (0, 0)))
-        head = "\n".join([function.of, *(lines[at] for at in inside if at not in body)])
-        found.append(({function.name}, head))
-        taken.update(inside)
-    rest = "\n".join("" if at in taken else line for at, line in enumerate(lines))
-    for block in re.split(r"\n\n+(?=\S)", rest.strip("\n")):
+    functions = functions_in(text)
+    taken = {at for it in functions for at in range(it.first - 1, it.last)}
+    rest = "\n".join("" if at in taken else line for at, line in enumerate(text.split("\n")))
+    found = [({it.name}, it.head) for it in functions]
+    for block in BREAK.split(rest.strip("\n")):
         variants = VARIANTS.findall(block) if re.search(r"\benum\b", block) else []
-        names = {*DECLARED.findall(block), *variants}
-        impl = re.match(r"impl\b[^{]*", block)
-        if names or impl:
-            found.append((names | set(re.findall(r"\w+", impl[0]) if impl else ()), block))
+        of = re.findall(r"\w+", re.match(r"(?:impl\b[^{]*)?", block)[0])
+        found.append(({*DECLARED.findall(block), *variants, *of}, block))
     return found
-
-
-def defined_in(paragraph):
-    """The names that a paragraph may define: those at its lines' beginnings,
-    and in a module or a list of variants the indented ones."""
-    is_inside = re.match(r"(?:pub )?(?:abbrev )?(?:module|data|record)\b", paragraph) is not None
-    return {name for indent, name in DEFINED.findall(paragraph) if is_inside or not indent}
 
 
 def function_of(folder, edit):
     """The file that an edit changes, and the text of the function that it lies in, with the head of its impl; where it
-    lies in several, or in none, the whole file's."""
-    path, replaced = "", []
-    for word, rest in re.findall(r"^(file|old): (.*)$", edit.read_text(), re.M):
-        path = rest.strip() if word == "file" else path
-        replaced += [(path, rest)] if word == "old" else []
-    path = replaced[0][0]
-    text, found = (folder / path).read_text(), set()
-    for where, old in replaced:
-        line = text[: text.find(old)].count("\n") + 1 if where == path and old in text else 0
-        around = [it for it in functions_in(text, path) if it.first < line <= it.last]
-        found.add(max(around, key=lambda it: it.first, default=None))
-    if len(found) != 1 or None in found:
+    lies in several, or in none, the whole file's. None of an edit that can't be applied."""
+    changed, _ = kit.load("edited").edited(edit.read_text(), str(folder))
+    if not changed:
+        return None
+    path, *others = changed
+    text = (folder / path).read_text()
+    lines, functions = text.split("\n"), functions_in(text)
+    places = [at for at, (old, new) in enumerate(zip(lines, changed[path].split("\n")), 1) if old != new]
+    # (the innermost one begins last)
+    found = {next((it for it in reversed(functions) if it.first < at <= it.last), None) for at in places}
+    if others or len(found) != 1 or None in found:
         return path, without_comments(folder / path)
-    function = found.pop()
-    lines = text.split("\n")[function.first - 1 : function.last]
-    return path, function.of + "\n" + uncommented("\n".join(lines), ".rt")
+    [function] = found
+    own = "\n".join(lines[function.first - 1 : function.last])
+    return path, f"{function.of}\n{uncommented(own, '.rt')}"

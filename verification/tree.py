@@ -8,7 +8,7 @@ import sys
 import tempfile
 from collections import namedtuple
 
-from source import proved_text
+from source import without_comments
 
 TOP = pathlib.Path(__file__).resolve().parent.parent
 LOGS = TOP / "out"
@@ -58,7 +58,7 @@ def with_below(crates, names):
 def texts_of(folder):
     """What the prover reads of a crate: each file's name and its text without comments, in a fixed order."""
     files = sorted(it for part in PARTS for it in (folder / part).rglob("*") if it.is_file())
-    return [part for it in files for part in (str(it.relative_to(folder)), proved_text(it))]
+    return [part for it in files for part in (str(it.relative_to(folder)), without_comments(it))]
 
 
 def has_tests(folder):
