@@ -15,13 +15,12 @@ import archive  # noqa: E402
 import kit  # noqa: E402
 import quick  # noqa: E402
 import record  # noqa: E402
-import run_tests  # noqa: E402
-import stamp  # noqa: E402
 from digests import Digests  # noqa: E402
 from edits import Edits, Refusal, drawn, read_lock  # noqa: E402
 from proofs import Proofs, by_seconds  # noqa: E402
 from record import Proved, Record  # noqa: E402
 from source import function_of, functions_in, uncommented  # noqa: E402
+from test import judged  # noqa: E402
 from tree import copied, edits_of, proved_crates  # noqa: E402
 from waiting import PATIENCE  # noqa: E402
 
@@ -162,7 +161,7 @@ def test_the_lock_has_what_was_refused_as_it_stands_and_nothing_else(snapd, _):
         {it: made.edit(*it) for it in names},
         {"gone/away.edit": Refusal("0", "old"), "low/first.edit": Refusal("0", "old")},
     )
-    assert edits.known() == [] and edits.unknown() == names
+    assert edits.known() == [] and edits.missing() == names
     said = (
         "rt: must-fail low/first.edit: refused, as it must be: text\n"
         "rt: must-fail low/second.edit: NOT REFUSED: the crate is still proved\n"
@@ -176,7 +175,7 @@ def test_the_lock_has_what_was_refused_as_it_stands_and_nothing_else(snapd, _):
         "edit low/second.edit", "edit middle/first.edit", "edit high/second.edit",
     ]
     assert "NOT TRIED" in edits.failures[2]
-    edits.record(top)
+    edits.write(top)
     again = Edits(edits.digests, read_lock(top))
     assert [Edits.name(it) for it in again.known()] == ["low/first.edit", "high/first.edit"]
     assert (
@@ -386,27 +385,27 @@ def test_the_longest_chain_goes_by_what_was_measured(snapd, _):
 
 
 def test_tests_that_end_without_a_count_have_failed(snapd, _):
-    assert run_tests.judged("low", ["test it ... ok", "test result: ok. 2 passed; 0 failed; 0 ignored"], 0) == (2, [])
-    passed, failed = run_tests.judged(
+    assert judged("low", ["test it ... ok", "test result: ok. 2 passed; 0 failed; 0 ignored"], 0) == (2, [])
+    passed, failed = judged(
         "low", ["test it ... FAILED", "test result: FAILED. 1 passed; 1 failed; 0 ignored"], 1
     )
     assert (passed, failed) == (1, ["low: test it ... FAILED"])
-    assert run_tests.judged("low", ["test it ... ok"], 0)[1] and run_tests.judged("low", [], -11)[1]
+    assert judged("low", ["test it ... ok"], 0)[1] and judged("low", [], -11)[1]
 
 
 def test_a_built_program_gets_a_line_on_its_build(snapd, _):
-    room, program = stamp.UNKNOWN.ljust(stamp.ROOM), snapd.folder / "program"
+    room, program = quick.UNSTAMPED.ljust(quick.ROOM), snapd.folder / "program"
     assert (TOP / "crates" / "snap_args" / "src" / "grammar.rt").read_bytes().count(room) == 1
     program.write_bytes(b"code" + room + b"code")
-    stamp.stamp(program, "not proved")
+    quick.stamp(program, "not proved")
     data = program.read_bytes()
     assert (
-        len(data) == stamp.ROOM + 8 and data[:4] == data[-4:] == b"code" and data[4:].startswith(b"not proved; ")
+        len(data) == quick.ROOM + 8 and data[:4] == data[-4:] == b"code" and data[4:].startswith(b"not proved; ")
     ), data
     for text in (b"no room", room + room):
         program.write_bytes(text)
         with contextlib.suppress(AssertionError):
-            stamp.stamp(program, "proved")
+            quick.stamp(program, "proved")
         assert program.read_bytes() == text
 
 

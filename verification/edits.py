@@ -19,9 +19,8 @@ from dataclasses import dataclass, field
 import kit
 from digests import Digests
 from proofs import UNKNOWN, prove
-from quick import place
-from stamp import put
-from tree import TOP, below, copied, crates_of, edits_of, refuse_strange, rows_of, with_below
+from record import Lock, rows_of
+from tree import TOP, below, crates_of, edits_of, refuse_strange, with_below
 
 LOCK = "must-fail.lock"
 HEAD = """\
@@ -41,34 +40,21 @@ def read_lock(top):
 
 
 @dataclass
-class Edits:
+class Edits(Lock):
     """The edits of a checkout, pairs of crate and path: their digests, what the lock has, and what came of them."""
 
-    digests: dict
-    recorded: dict
     failures: list = field(default_factory=list)
     refused: int = 0
+    file, head, what = LOCK, HEAD, "edits were refused"
 
     @classmethod
     def of(cls, top):
-        digests, names = Digests(top, kit.logic()), crates_of(top)
-        return cls({(it, path): digests.edit(it, path) for it in names for path in edits_of(top, it)}, read_lock(top))
+        digests, edits = Digests(top, kit.logic()), [(it, path) for it in crates_of(top) for path in edits_of(top, it)]
+        return cls({it: digests.edit(*it) for it in edits}, read_lock(top))
 
     @staticmethod
     def name(edit):
         return f"{edit[0]}/{edit[1].name}"
-
-    def is_known(self, edit):
-        return self.recorded.get(self.name(edit), Refusal("", "")).digest == self.digests[edit]
-
-    def known(self):
-        return [it for it in self.digests if self.is_known(it)]
-
-    def unknown(self):
-        return [it for it in self.digests if not self.is_known(it)]
-
-    def told(self):
-        return f"{LOCK}: {len(self.known())} of {len(self.digests)} edits were refused as they are here"
 
     def take(self, chosen, lines):
         """Takes in what the kit said of these edits."""
@@ -77,21 +63,16 @@ class Edits:
             name = self.name(edit)
             came, text = found.get(name, ("NOT TRIED", ""))
             if came == "refused" and NAMELESS not in text:
-                self.recorded[name] = Refusal(self.digests[edit], kit.release())
+                self.lines[name] = Refusal(self.digests[edit], kit.release())
                 self.refused += 1
                 continue
             self.failures.append(f"edit {name}: {came}{text[:300]}")
             if came != "NOT TRIED":
-                self.recorded.pop(name, None)
+                self.lines.pop(name, None)
 
     def part(self):
+        """How many were refused, how many weren't, and what is said of these."""
         return self.refused, len(self.failures), self.failures
-
-    def record(self, top):
-        """Writes the refused edits, without those that were removed or have changed."""
-        kept = {self.name(it): self.recorded[self.name(it)] for it in self.known()}
-        lines = (f"{name} {it.digest} {it.release}\n" for name, it in sorted(kept.items()))
-        (top / LOCK).write_text(HEAD + "".join(lines))
 
 
 def drawn(names, edits, crates, seconds, missing, seed, most):
@@ -109,18 +90,6 @@ def drawn(names, edits, crates, seconds, missing, seed, most):
     return chosen, draw.sample(found, min(most[1], len(found)))
 
 
-def prove_and_try(names, edits, chosen, anew=(), programs=()):
-    """Proves these crates and takes these programs; tries the chosen edits, and records what was refused."""
-    with copied(TOP, names, chosen) as copy:
-        proofs = prove(copy, anew)
-        for it in programs:
-            put(copy / "crates" / it / "out" / it, place(it), "proved")
-    if chosen:
-        edits.take(chosen, proofs.lines)
-        edits.record(TOP)
-    return proofs
-
-
 def main():
     words = argparse.ArgumentParser(description="Tries must-fail edits, and records which were refused.")
     words.add_argument("--every", action="store_true", help="all edits, also those that must-fail.lock has")
@@ -128,9 +97,9 @@ def main():
     words = words.parse_args()
     edits, crates = Edits.of(TOP), crates_of(TOP)
     refuse_strange(crates, words.names)
-    wanted = edits.digests if words.every else edits.unknown()
+    wanted = edits.digests if words.every else edits.missing()
     chosen = [it for it in wanted if not words.names or it[0] in words.names]
-    failures = prove_and_try(with_below(crates, {it[0] for it in chosen}), edits, chosen).failures if chosen else []
+    failures = prove(with_below(crates, {it[0] for it in chosen}), edits, chosen).failures if chosen else []
     print(*failures, *edits.failures, edits.told(), sep="\n")
     return 1 if failures or edits.failures else 0
 

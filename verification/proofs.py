@@ -1,4 +1,4 @@
-"""Proves the crates of a copy by the kit's `rt ci`, tries the edits that it has, and prints the progress.
+"""Proves crates in a copy by the kit's `rt ci`, tries edits there, and prints the progress.
 
     python3 proofs.py [--anew] [NAME ..]
 
@@ -9,14 +9,14 @@ archive, but not these crates, with --anew none, and never what came of an edit.
 
 import os
 import re
-import subprocess
 import sys
 import time
 
 import archive
 import kit
+from quick import place, put, ran
 from record import read_lock
-from tree import LOGS, TOP, crates_of
+from tree import TOP, copied
 
 PARTS = ("main", "in_lanes", "processors", "seeded", "Crate.ci", "rtlib.Crate.has_tests", "Kept.tried")
 COUNT = re.compile(r"(\d+) passed, (\d+) failed")
@@ -27,6 +27,8 @@ TRYING = re.compile(r"rt: (\w+: trying its must-fail edits.*)")
 EACH_LINE, UNKNOWN = 0.12, 60
 # How many lines of a failed run are shown again.
 LAST = 12
+# The kit's own lines.
+LOG = TOP / "out" / "proofs.log"
 
 
 class Proofs:
@@ -34,7 +36,7 @@ class Proofs:
 
     def __init__(self, left, lanes):
         """Begins with the seconds that each crate takes, and how many are proved side by side."""
-        self.left, self.lanes, self.all, self.began = left, lanes, len(left), time.monotonic()
+        self.left, self.lanes, self.all = left, lanes, len(left)
         # What each crate that this run proved took, in seconds, and how many were taken from the archive.
         self.lines, self.seconds, self.kept, self.failed, self.failures = [], {}, 0, 0, []
 
@@ -45,16 +47,16 @@ class Proofs:
             print(trying[1], flush=True)
         if took := TOOK.match(line):
             self.seconds[took[1]] = int(took[2])
-        if not (told := TOLD.match(line)):
-            return
-        name, came = told.groups()
-        self.left.pop(name, None)
-        self.kept += came == "is kept"
-        if came != "is kept":
-            what = f"{self.seconds.get(name, 0)} s" + (" NOT PROVED" if came == "NOT PROVED" else "")
+        if told := TOLD.match(line):
+            name, came = told.groups()
+            self.left.pop(name, None)
+            if came == "is kept":
+                self.kept += 1
+                return
             minutes = max(1, round(sum(self.left.values()) / self.lanes / 60))
             left = f", about {minutes} min left" if self.left else ""
-            print(f"[{self.all - len(self.left)} of {self.all}] {name} {what}{left}", flush=True)
+            done = f"[{self.all - len(self.left)} of {self.all}]"
+            print(f"{done} {name} {came} in {self.seconds.get(name, 0)} s{left}", flush=True)
 
     def end(self, status):
         """Takes how the run ended: one with no count, or with a status of failure that no line tells, has failed. (The
@@ -69,28 +71,30 @@ class Proofs:
             self.failures = shown[-LAST:] or self.lines[-LAST:]
 
     def part(self):
+        """How many crates passed, how many failed, and what is said of these."""
         return max(0, self.all - len(self.left) - self.failed), self.failed, self.failures
 
-    def told(self):
-        kept = f"{self.kept} of them from this machine's archive of earlier runs"
-        return f"proofs: {self.part()[0]} crates passed in {time.monotonic() - self.began:.0f} s, {kept}"
 
-
-def prove(copy, anew=()):
-    """Proves and builds all crates of this copy, and tries its edits. The kit's own lines go into out/proofs.log."""
-    words, recorded = [sys.executable, str(TOP / "verification" / "proofs.py"), *anew], read_lock(TOP)
-    seconds = {it: recorded[it].seconds if it in recorded else 0 for it in crates_of(copy)}
-    proofs = Proofs({it: took or UNKNOWN for it, took in seconds.items()}, kit.load("processors").processors())
-    how = {"cwd": copy, "stdin": subprocess.DEVNULL, "stdout": subprocess.PIPE, "stderr": subprocess.STDOUT}
-    LOGS.mkdir(exist_ok=True)
-    with (LOGS / "proofs.log").open("w") as log, subprocess.Popen(words, text=True, errors="replace", **how) as run:
-        for line in run.stdout:
-            print(line, end="", file=log, flush=True)
+def prove(names, edits, chosen, anew=(), programs=()):
+    """Proves these crates and takes these programs; tries the chosen edits, and records what was refused."""
+    seconds, began = {name: it.seconds for name, it in read_lock(TOP).items()}, time.monotonic()
+    proofs = Proofs({it: seconds.get(it) or UNKNOWN for it in names}, kit.load("processors").processors())
+    LOG.parent.mkdir(exist_ok=True)
+    with copied(TOP, names, chosen) as copy, LOG.open("w") as log:
+        def take(line):
+            print(line, file=log, flush=True)
             proofs.take(line)
-    proofs.end(run.returncode)
+
+        proofs.end(ran([sys.executable, TOP / "verification" / "proofs.py", *anew], take, cwd=copy)[0])
+        for it in programs:
+            put(copy / "crates" / it / "out" / it, place(it), "proved")
     if proofs.failed:
-        proofs.failures.append(f"the whole log: {os.path.relpath(log.name)}")
-    print(proofs.told(), flush=True)
+        proofs.failures.append(f"the whole log: {os.path.relpath(LOG)}")
+    kept = f"{proofs.kept} of them from this machine's archive of earlier runs"
+    print(f"proofs: {proofs.part()[0]} crates passed in {time.monotonic() - began:.0f} s, {kept}", flush=True)
+    if chosen:
+        edits.take(chosen, proofs.lines)
+        edits.write(TOP)
     return proofs
 
 

@@ -10,12 +10,13 @@ which writes the record, and `make test` checks a sample.
 """
 
 import datetime
+import functools
 from collections import namedtuple
 from dataclasses import dataclass
 
 import kit
 from digests import summed
-from tree import TOP, crates_of, proved_crates, rows_of, texts_of
+from tree import TOP, crates_of, proved_crates, texts_of
 
 LOCK = "proofs.lock"
 HEAD = """\
@@ -26,16 +27,48 @@ HEAD = """\
 Proved = namedtuple("Proved", "digest release day seconds")
 
 
+@dataclass
+class Lock:
+    """What a checkout has, by its digests, and what one of its locks has of it, by name: first of all the digest."""
+
+    digests: dict
+    lines: dict
+    name = staticmethod(str)
+
+    def known(self):
+        """What the lock has as it is now."""
+        return [it for it, digest in self.digests.items() if self.lines.get(self.name(it), ("",))[0] == digest]
+
+    def missing(self):
+        """What the lock doesn't have as it is now."""
+        known = {*self.known()}
+        return [it for it in self.digests if it not in known]
+
+    def told(self):
+        """One line on how much of the checkout the lock has."""
+        return f"{self.file}: {len(self.known())} of {len(self.digests)} {self.what} as they are here"
+
+    def write(self, top):
+        """Writes the lock, without what was removed or has changed."""
+        names = sorted(map(self.name, self.known()))
+        rows = (" ".join(map(str, (it, *self.lines[it]))) + "\n" for it in names)
+        (top / self.file).write_text(self.head + "".join(rows))
+
+
+def rows_of(lock):
+    """The lines of a lock as lists of words."""
+    text = lock.read_text() if lock.exists() else ""
+    return [line.split() for line in text.split("\n") if line and not line.startswith("#")]
+
+
 def digests_of(top, logic):
     """The digest of each crate of a checkout that is proved."""
-    crates, handles, found = crates_of(top), (top / "HANDLES").read_bytes(), {}
+    crates, handles = crates_of(top), (top / "HANDLES").read_bytes()
 
+    @functools.lru_cache(maxsize=None)
     def digest(name):
-        if name not in found:
-            below = [digest(it) for it in crates[name].uses if it in crates]
-            own = texts_of(top / "crates" / name)
-            found[name] = summed(logic, handles, crates[name].line, str(len(below)), *below, *own)
-        return found[name]
+        below = [digest(it) for it in crates[name].uses if it in crates]
+        return summed(logic, handles, crates[name].line, str(len(below)), *below, *texts_of(top / "crates" / name))
 
     return {it: digest(it) for it in proved_crates(top)}
 
@@ -46,44 +79,29 @@ def read_lock(top):
     return {name: Proved(digest, release, day, int(seconds)) for name, digest, release, day, seconds in rows}
 
 
-@dataclass
-class Record:
+class Record(Lock):
     """A checkout's crates by their digests, and what the record has of them."""
 
-    digests: dict
-    lines: dict
+    file, head, what = LOCK, HEAD, "crates were proved"
 
     @classmethod
     def of(cls, top):
         return cls(digests_of(top, kit.logic()), read_lock(top))
 
-    def missing(self):
-        """The crates that the record doesn't have as they are now."""
-        return [it for it, digest in self.digests.items() if it not in self.lines or self.lines[it].digest != digest]
-
     def told(self):
-        """One line on how much of the checkout the record has."""
-        missing = self.missing()
-        found = [self.lines[it] for it in self.digests if it not in missing]
-        days = sorted({it.day for it in found})
-        line = f"{LOCK}: {len(found)} of {len(self.digests)} crates were proved as they are here"
+        """One line on how much of the checkout the record has, by which releases and of which days."""
+        line, missing, found = super().told(), self.missing(), [self.lines[it] for it in self.known()]
         if found:
-            releases = ", ".join(sorted({it.release for it in found}))
-            line += f", by {releases}, {' to '.join(dict.fromkeys(days[:1] + days[-1:]))}"
+            days, releases = sorted({it.day for it in found}), sorted({it.release for it in found})
+            line += f", by {', '.join(releases)}, {' to '.join(dict.fromkeys(days[:1] + days[-1:]))}"
         return line + (f"; not {', '.join(missing)}" if missing else "")
 
     def take(self, seconds, day=None):
         """Notes all crates as proved now, with their seconds if they have any, and drops those that no longer exist."""
-        day, missing, were = day or datetime.date.today().isoformat(), set(self.missing()), self.lines
-        self.lines = {}
-        for name, digest in self.digests.items():
-            took = seconds.get(name, were[name].seconds if name in were else 0)
-            is_new = name in seconds or name in missing
-            self.lines[name] = Proved(digest, kit.release(), day, took) if is_new else were[name]
-
-    def write(self, top):
-        rows = (" ".join(map(str, (name, *it))) + "\n" for name, it in sorted(self.lines.items()))
-        (top / LOCK).write_text(HEAD + "".join(rows))
+        day, were, new = day or datetime.date.today().isoformat(), self.lines, {*seconds, *self.missing()}
+        took = {**{name: it.seconds for name, it in were.items()}, **seconds}
+        made = {name: Proved(it, kit.release(), day, took.get(name, 0)) for name, it in self.digests.items()}
+        self.lines = {name: it if name in new else were[name] for name, it in made.items()}
 
 
 if __name__ == "__main__":

@@ -3,10 +3,10 @@
     python3 verification/test.py [--all] [--fresh] [--seed N]
     python3 verification/test.py --prove [--fresh] [NAME ..]
 
-The test builds all without proofs and runs the tests, proves the crates and tries the edits that the locks don't have
-as they are, and a sample of the others, drawn anew in each run. With --all every crate is proved, by this run or by an
-earlier one on this machine, both locks have to have everything, and the end-to-end tests run on the proved program,
-which is left at bin/snapd.
+The test builds all without proofs and runs the tests, each crate's in a process of its own, proves the crates and tries
+the edits that the locks don't have as they are, and a sample of the others, drawn anew in each run. With --all every
+crate is proved, by this run or by an earlier one on this machine, both locks have to have everything, and the
+end-to-end tests run on the proved program, which is left at bin/snapd.
 
 With --prove every crate is proved so, the edits that aren't on record are tried, and the end-to-end tests run. If every
 proof passed, proofs.lock records that, and README has its line. With names only these programs are proved.
@@ -16,19 +16,25 @@ and the status is 1 where something failed or didn't come to its count.
 """
 
 import argparse
+import os
+import pathlib
 import random
 import re
+import shutil
+import subprocess
 import sys
+import tempfile
+import time
 from collections import Counter
 from concurrent.futures import ThreadPoolExecutor
 
 import archive
 import kit
-from edits import Edits, drawn, prove_and_try
-from quick import build_all
+from edits import Edits, drawn
+from proofs import COUNT, LAST, prove
+from quick import build_all, place, ran
 from record import LOCK, Record
-from run_tests import PROGRAM, build_and_run, programs, run_end_to_end
-from tree import TOP, crates_of, proved_crates, refuse_strange, with_below
+from tree import TOP, crates_of, has_tests, proved_crates, refuse_strange, with_below
 
 # The sample: how many crates, how many of their edits, and the seconds of a processor that the crates' proofs may take.
 SAMPLE = (3, 20, 600)
@@ -36,13 +42,73 @@ SAMPLE = (3, 20, 600)
 BOTH = 16_000_000_000
 # The line of README that says what is on record.
 LINE = re.compile(rf"^`{LOCK}: .*`$", re.M)
+# The program that the test builds, apart from the one that `make demo` or `make prove` left.
+PROGRAM = TOP / "out" / "snapd"
+# How long the tests of one crate may take each, in seconds.
+LIMIT = "300"
+RESULT = re.compile(r"test result: \w+\. (\d+) passed; (\d+) failed")
 
 
-def lacking(record, edits):
-    """What the locks don't have as it is now."""
-    crates = [f"{LOCK} doesn't have {it} as it is: make prove writes it" for it in record.missing()]
-    unknown = map(edits.name, edits.unknown())
-    return crates + [f"must-fail.lock doesn't have {it} as it is: make edits tries it" for it in unknown]
+def programs():
+    """The programs that end-to-end tests run beside `snapd`, as they are to be built."""
+    return [(it, False, place(it)) for it in crates_of(TOP) if it.startswith("try_")]
+
+
+def run_tests(rt, built):
+    """Runs a crate's tests as the kit does, outside the checkout and, if possible, as the user nobody."""
+    drop = rt.drop_to_nobody() or []
+    with tempfile.TemporaryDirectory(prefix="snapd-tests-") as room:
+        program, data = pathlib.Path(room, built.name), pathlib.Path(room, "data")
+        os.chmod(room, 0o711)
+        shutil.copy(built, program)
+        data.mkdir()
+        if drop:
+            os.chown(data, 65534, 65534)
+        env = {"PATH": "/usr/local/bin:/usr/bin:/bin", "HOME": data, "TMPDIR": data, "LANG": "C.UTF-8"}
+        return ran([*drop, rt.rtlib.RUNNER, "--seconds", LIMIT, program], cwd=data, env=env)
+
+
+def judged(name, lines, status):
+    """What came of a crate's tests: how many passed, and what is said of those that didn't.
+    A run that ends with no count has failed."""
+    result = next(filter(None, map(RESULT.match, lines)), None)
+    passed, failed = map(int, result.groups()) if result else (0, 1)
+    said = [f"{name}: {it}" for it in lines if it.endswith("FAILED")] or [f"{name}: status {status}", *lines[-LAST:]]
+    return passed, said if status or failed else []
+
+
+def build_and_run(lanes):
+    """Builds the program, those beside it and the crates' tests, each without proofs, runs the crates' tests, and the
+    first job as `make demo` does. What came of a part is how much passed, how much failed, and what is said of that."""
+    rt, began = kit.load("rtlib.RUNNER", "drop_to_nobody"), time.monotonic()
+
+    def each(name, tests, to, is_built, said):
+        passed, bad = 0, [] if is_built else said.split("\n")
+        if is_built and tests:
+            status, lines = run_tests(rt, to)
+            passed, bad = judged(name, lines, status)
+            said = f"tests of {name}: {passed} passed" + (f", FAILED: {len(bad)}" if bad else "")
+        print(said, flush=True)
+        return passed, bad
+
+    # (the highest crates, which read the most, first)
+    tests = [(it, True, place(it, True)) for it in reversed(crates_of(TOP)) if has_tests(TOP / "crates" / it)]
+    came = build_all([("snapd", False, PROGRAM), *programs(), *tests], each, lanes)
+    passed, failures = sum(it[0] for it in came), [line for it in came for line in it[1]]
+    if ran(["sh", "tests/demo.sh", PROGRAM], cwd=TOP, stderr=None)[0]:
+        failures.append("the first job failed: sh tests/demo.sh out/snapd")
+    print(f"tests of the crates: {passed} passed in {time.monotonic() - began:.0f} s", flush=True)
+    return passed, len(failures), failures[-LAST:]
+
+
+def run_end_to_end(program):
+    """Runs the end-to-end tests on a program."""
+    words = [sys.executable, TOP / "tests" / "run.py", "--program", program]
+    status, lines = ran(words, lambda line: print(line, flush=True), cwd=TOP, stderr=None)
+    count = COUNT.fullmatch(lines[-1]) if lines else None
+    passed, failed = map(int, count.groups()) if count else (0, 1)
+    failed = max(failed, 1) if status else failed
+    return passed, failed, lines[-LAST:] if failed else []
 
 
 def prove_some(words):
@@ -50,8 +116,11 @@ def prove_some(words):
     tries two edits or more; one of the sample with fewer isn't taken from the archive."""
     record, edits, crates, proved = Record.of(TOP), Edits.of(TOP), crates_of(TOP), proved_crates(TOP)
     print(record.told(), edits.told(), sep="\n", flush=True)
-    owed = with_below(crates, proved if words.all else record.missing())
-    new, said = ([], lacking(record, edits)) if words.all else (edits.unknown(), [])
+    owed, new, said = with_below(crates, proved if words.all else record.missing()), edits.missing(), []
+    if words.all:
+        said = [f"{LOCK} doesn't have {it} as it is: make prove writes it" for it in record.missing()]
+        said += [f"must-fail.lock doesn't have {edits.name(it)} as it is: make edits tries it" for it in new]
+        new = []
     missing = {*(proved if words.fresh else archive.missing(TOP))} - owed
     seconds = {name: it.seconds for name, it in record.lines.items()}
     names, chosen = drawn(proved, edits.known(), crates, seconds, missing, words.seed, SAMPLE)
@@ -59,11 +128,11 @@ def prove_some(words):
     tried = Counter(it[0] for it in chosen)
     anew = ["--anew"] if words.fresh else [it for it in names if tried[it] < 2]
     owed |= with_below(crates, {*names, *(it[0] for it in new)})
-    proofs = prove_and_try(owed, edits, [*new, *chosen], anew, ["snapd"] * words.all)
+    proofs = prove(owed, edits, [*new, *chosen], anew, ["snapd"] * words.all)
     return [(0, len(said), said), proofs.part(), edits.part()]
 
 
-def test(words):
+def test_all(words):
     """Builds and runs the tests of crates beside the proofs where memory allows, and then the end-to-end tests."""
     lanes = 2 if kit.load("free").free() > BOTH else 1
     with ThreadPoolExecutor(lanes) as pool:
@@ -71,12 +140,12 @@ def test(words):
     return [tests.result(), *proofs.result(), run_end_to_end(TOP / "bin" / "snapd" if words.all else PROGRAM)]
 
 
-def prove(words):
+def prove_all(words):
     """Proves everything, or these programs alone."""
-    names, anew, edits = words.names or ["snapd"], ["--anew"] * words.fresh, Edits.of(TOP)
+    anew, edits = ["--anew"] * words.fresh, Edits.of(TOP)
     if words.names:
-        return [prove_and_try(with_below(crates_of(TOP), names), edits, [], anew, names).part()]
-    proofs = prove_and_try(proved_crates(TOP), edits, edits.unknown(), anew, names)
+        return [prove(with_below(crates_of(TOP), words.names), edits, [], anew, words.names).part()]
+    proofs = prove(proved_crates(TOP), edits, edits.missing(), anew, ["snapd"])
     parts = [proofs.part(), edits.part()]
     if proofs.failed:
         return parts
@@ -86,7 +155,7 @@ def prove(words):
     record.write(TOP)
     readme.write_text(LINE.sub(f"`{record.told()}`", readme.read_text()))
     print(record.told(), edits.told(), sep="\n", flush=True)
-    build_all(programs(TOP), lambda it: None)
+    build_all(programs(), lambda *it: None)
     return [*parts, run_end_to_end(TOP / "bin" / "snapd")]
 
 
@@ -99,7 +168,7 @@ def main():
     words.add_argument("names", nargs="*", metavar="NAME", help="with --prove: programs that are proved alone")
     words = words.parse_args()
     refuse_strange(crates_of(TOP), words.names)
-    parts = prove(words) if words.prove else test(words)
+    parts = prove_all(words) if words.prove else test_all(words)
     print(*(line for _, failed, lines in parts if failed for line in lines), sep="\n")
     passed, failed = (sum(it[at] for it in parts) for at in (0, 1))
     print(f"{passed} passed, {failed} failed")

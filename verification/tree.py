@@ -11,29 +11,16 @@ from collections import namedtuple
 from source import without_comments
 
 TOP = pathlib.Path(__file__).resolve().parent.parent
-LOGS = TOP / "out"
-# What the prover reads of a crate.
-PARTS = ("src", "specs", "proofs")
 TEST = re.compile(r"^\s*#\[test\]", re.M)
 # A line of crates.txt: the crate's name with the words that belong to it, and what it uses.
-Crate = namedtuple("Crate", "name line uses")
+LINE = re.compile(r"^((\w+)[^:#\n]*:([^#\n]*).*)$", re.M)
+Crate = namedtuple("Crate", "line uses")
 
 
 def crates_of(top):
     """The crates of a checkout, by name."""
-    crates = {}
-    for line in (top / "crates.txt").read_text().split("\n"):
-        head, colon, uses = line.partition("#")[0].partition(":")
-        if colon:
-            name = head.split()[0]
-            crates[name] = Crate(name, " ".join(line.split()), tuple(uses.split()))
-    return crates
-
-
-def rows_of(lock):
-    """The lines of a lock as lists of words."""
-    text = lock.read_text() if lock.exists() else ""
-    return [line.split() for line in text.split("\n") if line and not line.startswith("#")]
+    lines = LINE.findall((top / "crates.txt").read_text())
+    return {name: Crate(" ".join(line.split()), tuple(uses.split())) for line, name, uses in lines}
 
 
 def refuse_strange(crates, names):
@@ -44,33 +31,31 @@ def refuse_strange(crates, names):
 
 def below(crates, name):
     """The crates of the checkout that this one uses, directly or not, each after those that it uses itself."""
-    found = []
-    for used in crates[name].uses:
-        if used in crates:
-            found += [it for it in [*below(crates, used), used] if it not in found]
-    return found
+    found = [it for used in crates[name].uses if used in crates for it in [*below(crates, used), used]]
+    return list(dict.fromkeys(found))
 
 
 def with_below(crates, names):
+    """These crates and all that they use."""
     return {it for name in names for it in [*below(crates, name), name]}
 
 
 def texts_of(folder):
     """What the prover reads of a crate: each file's name and its text without comments, in a fixed order."""
-    files = sorted(it for part in PARTS for it in (folder / part).rglob("*") if it.is_file())
+    files = sorted(it for part in ("src", "specs", "proofs") for it in (folder / part).rglob("*") if it.is_file())
     return [part for it in files for part in (str(it.relative_to(folder)), without_comments(it))]
 
 
 def has_tests(folder):
+    """Whether a crate has tests."""
     return any(TEST.search(it.read_text()) for it in (folder / "src").rglob("*.rt"))
 
 
 def proved_crates(top):
     """The crates that are proved: the program, all crates that it uses, and the laws. Crates of tests, and programs
     that tests run, are built without proofs and run."""
-    names = crates_of(top)
-    tried = {it for it in names if it.startswith("try_") or it.startswith("tests_") and has_tests(top / "crates" / it)}
-    return [it for it in names if it not in tried]
+    names = [it for it in crates_of(top) if not it.startswith("try_")]
+    return [it for it in names if not (it.startswith("tests_") and has_tests(top / "crates" / it))]
 
 
 def edits_of(top, name):
@@ -82,11 +67,12 @@ def edits_of(top, name):
 def copied(top, names, edits=()):
     """A copy of these crates in a temporary folder, of their edits only with these, pairs of crate and path."""
     with tempfile.TemporaryDirectory(prefix="snapd-proofs-") as room:
-        copy, crates = pathlib.Path(room) / "main", crates_of(top)
+        copy = pathlib.Path(room) / "main"
         # The prover takes a folder with a .git for the top of a repository.
         (copy / ".git").mkdir(parents=True)
         shutil.copy(top / "HANDLES", copy)
-        (copy / "crates.txt").write_text("".join(f"{it.line}\n" for it in crates.values() if it.name in names))
+        lines = [f"{it.line}\n" for name, it in crates_of(top).items() if name in names]
+        (copy / "crates.txt").write_text("".join(lines))
         for name in names:
             left = shutil.ignore_patterns("out", "*.edit")
             shutil.copytree(top / "crates" / name, copy / "crates" / name, ignore=left)

@@ -16,7 +16,7 @@ use std::alloc::{AllocError, Global};
 /// The version of the program.
 pub const VERSION: &str = "0.2.0";
 
-/// The text of `--version`. Its second line has 100 bytes, which verification/stamp.py overwrites in the built program:
+/// The text of `--version`. Its second line has 100 bytes, which verification/quick.py overwrites in the built program:
 /// with the source that it was built from, and whether it was proved.
 const VERSION_AND_BUILD: &str = "0.2.0
 it isn't known how this was built                                                                   ";
