@@ -16,7 +16,7 @@ import kit  # noqa: E402
 import quick  # noqa: E402
 import record  # noqa: E402
 from digests import Digests  # noqa: E402
-from edits import Edits, Refusal, drawn, read_lock  # noqa: E402
+from edits import Edits, Refusal, drawn  # noqa: E402
 from proofs import Proofs, by_seconds  # noqa: E402
 from record import Proved, Record  # noqa: E402
 from source import function_of, functions_in, uncommented  # noqa: E402
@@ -176,11 +176,11 @@ def test_the_lock_has_what_was_refused_as_it_stands_and_nothing_else(snapd, _):
     ]
     assert "NOT TRIED" in edits.failures[2]
     edits.write(top)
-    again = Edits(edits.digests, read_lock(top))
+    again = Edits(edits.digests, Edits.read(top))
     assert [Edits.name(it) for it in again.known()] == ["low/first.edit", "high/first.edit"]
     assert (
-        set(read_lock(top)) == {"low/first.edit", "high/first.edit"}
-        and read_lock(top)["low/first.edit"].release == kit.release()
+        set(Edits.read(top)) == {"low/first.edit", "high/first.edit"}
+        and Edits.read(top)["low/first.edit"].release == kit.release()
     )
 
 
@@ -214,7 +214,7 @@ def test_a_record_has_a_crate_as_long_as_nothing_under_its_proof_changes(snapd, 
     assert made.told() == "proofs.lock: 0 of 3 crates were proved as they are here; not low, middle, high"
     made.take({"low": 7, "middle": 5, "high": 3}, "2026-11-28")
     made.write(top)
-    assert Record(made.digests, record.read_lock(top)) == made and made.missing() == []
+    assert Record(made.digests, Record.read(top)) == made and made.missing() == []
     assert made.told() == f"proofs.lock: 3 of 3 crates were proved as they are here, by {kit.release()}, 2026-11-28"
     for path, old, new, wanted in (
         ("crates/middle/src/lib.rt", "A crate", "The crate", []),

@@ -19,7 +19,7 @@ from dataclasses import dataclass, field
 import kit
 from digests import Digests
 from proofs import UNKNOWN, prove
-from record import Lock, rows_of
+from record import Lock
 from tree import TOP, below, crates_of, edits_of, refuse_strange, with_below
 
 LOCK = "must-fail.lock"
@@ -34,23 +34,18 @@ NAMELESS = "only because a proof file names"
 Refusal = namedtuple("Refusal", "digest release")
 
 
-def read_lock(top):
-    """The refusal of each edit that has one, by its name, `CRATE/EDIT`."""
-    return {name: Refusal(digest, release) for name, digest, release in rows_of(top / LOCK)}
-
-
 @dataclass
 class Edits(Lock):
     """The edits of a checkout, pairs of crate and path: their digests, what the lock has, and what came of them."""
 
     failures: list = field(default_factory=list)
     refused: int = 0
-    file, head, what = LOCK, HEAD, "edits were refused"
+    file, head, what, line = LOCK, HEAD, "edits were refused", Refusal
 
     @classmethod
     def of(cls, top):
         digests, edits = Digests(top, kit.logic()), [(it, path) for it in crates_of(top) for path in edits_of(top, it)]
-        return cls({it: digests.edit(*it) for it in edits}, read_lock(top))
+        return cls({it: digests.edit(*it) for it in edits}, cls.read(top))
 
     @staticmethod
     def name(edit):

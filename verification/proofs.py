@@ -15,7 +15,7 @@ import time
 import archive
 import kit
 from quick import place, put, ran
-from record import read_lock
+from record import Record
 from tree import TOP, copied
 
 PARTS = ("main", "in_lanes", "processors", "seeded", "Crate.ci", "rtlib.Crate.has_tests", "Kept.tried")
@@ -77,7 +77,7 @@ class Proofs:
 
 def prove(names, edits, chosen, anew=(), programs=()):
     """Proves these crates and takes these programs; tries the chosen edits, and records what was refused."""
-    seconds, began = {name: it.seconds for name, it in read_lock(TOP).items()}, time.monotonic()
+    seconds, began = {name: it.seconds for name, it in Record.read(TOP).items()}, time.monotonic()
     proofs = Proofs({it: seconds.get(it) or UNKNOWN for it in names}, kit.load("processors").processors())
     LOG.parent.mkdir(exist_ok=True)
     with copied(TOP, names, chosen) as copy, LOG.open("w") as log:
@@ -114,7 +114,7 @@ def by_seconds(tasks, seconds, lanes):
 
 
 def main():
-    rt, anew, seconds = archive.opened(*PARTS), sys.argv[1:], {name: it.seconds for name, it in read_lock(TOP).items()}
+    rt, anew, seconds = archive.opened(*PARTS), sys.argv[1:], {name: it.seconds for name, it in Record.read(TOP).items()}
     in_lanes, ci, seeded, give = rt.in_lanes, rt.Crate.ci, rt.seeded, rt.Kept.give
 
     def timed(crate, flags, tests):

@@ -29,11 +29,18 @@ Proved = namedtuple("Proved", "digest release day seconds")
 
 @dataclass
 class Lock:
-    """What a checkout has, by its digests, and what one of its locks has of it, by name: first of all the digest."""
+    """What a checkout has, by its digests, and the lines that a lock has of it, by name, each with a digest first."""
 
     digests: dict
     lines: dict
     name = staticmethod(str)
+
+    @classmethod
+    def read(cls, top):
+        """The lines of a checkout's lock, by name."""
+        text = (top / cls.file).read_text() if (top / cls.file).exists() else ""
+        rows = (line.split() for line in text.split("\n") if line and not line.startswith("#"))
+        return {name: cls.line(*rest) for name, *rest in rows}
 
     def known(self):
         """What the lock has as it is now."""
@@ -55,12 +62,6 @@ class Lock:
         (top / self.file).write_text(self.head + "".join(rows))
 
 
-def rows_of(lock):
-    """The lines of a lock as lists of words."""
-    text = lock.read_text() if lock.exists() else ""
-    return [line.split() for line in text.split("\n") if line and not line.startswith("#")]
-
-
 def digests_of(top, logic):
     """The digest of each crate of a checkout that is proved."""
     crates, handles = crates_of(top), (top / "HANDLES").read_bytes()
@@ -73,20 +74,15 @@ def digests_of(top, logic):
     return {it: digest(it) for it in proved_crates(top)}
 
 
-def read_lock(top):
-    """The record's lines, by crate."""
-    rows = rows_of(top / LOCK)
-    return {name: Proved(digest, release, day, int(seconds)) for name, digest, release, day, seconds in rows}
-
-
 class Record(Lock):
     """A checkout's crates by their digests, and what the record has of them."""
 
     file, head, what = LOCK, HEAD, "crates were proved"
+    line = staticmethod(lambda digest, release, day, seconds: Proved(digest, release, day, int(seconds)))
 
     @classmethod
     def of(cls, top):
-        return cls(digests_of(top, kit.logic()), read_lock(top))
+        return cls(digests_of(top, kit.logic()), cls.read(top))
 
     def told(self):
         """One line on how much of the checkout the record has, by which releases and of which days."""
