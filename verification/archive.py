@@ -2,13 +2,12 @@
 
     python3 verification/archive.py
 
-A crate's proof is kept under the sum of all that it has read: the kit, HANDLES, the crate's line of crates.txt, its
-files without their comments, and the built libraries below it. The archive is the folder $XDG_CACHE_HOME/snapd-proofs,
-or ~/.cache/snapd-proofs. Whoever can write to it can forge a proof, so it has to be this user's alone.
+puts each library that was proved from these very files into its crate's out/, with the stamp by which `rt check` sees
+that nothing has changed since: in a fresh checkout it would prove each library below its crate first. Anything else
+there is removed: statements fit only the libraries that they were built over.
 
-`rt check` knows nothing of that, and in a fresh checkout it proves each library below its crate first. This script puts
-each library that was proved from these very files into its crate's out/, with the stamp by which `rt check` sees that
-nothing has changed since. Anything else there is removed: statements fit only the libraries that they were built over.
+A crate's proof is kept under the sum of all that it has read: the kit, HANDLES, the crate's line of crates.txt, its
+files without their comments, and the built libraries below it. Whoever can write to the archive can forge a proof.
 """
 
 import contextlib
@@ -56,12 +55,12 @@ def missing(top, is_laid=False):
     crates = [it for it in rt.rtlib.crates_below(str(top)) if it.makes_rlib() and it.name in proved]
     kept = rt.Kept(crates)
     for crate in crates:
+        # (over a library that is lacking, nothing was kept under this key)
         key, out = kept.key(crate), pathlib.Path(crate.folder, "out", "rlib")
         made = pathlib.Path(kept.place(crate, False, key), "made.json")
         if is_laid:
             shutil.rmtree(out, ignore_errors=True)
-        is_there = not any(it.name in lacking for it in crate.below()) and made.exists()
-        if not is_there or is_laid and not kept.give(crate, False, key):
+        if not made.exists() or is_laid and not kept.give(crate, False, key):
             lacking.append(crate.name)
             continue
         # (the library's sum, as the kit forms it)
@@ -74,5 +73,5 @@ def missing(top, is_laid=False):
 
 if __name__ == "__main__":
     LACKING = missing(TOP, is_laid=True)
-    print("not kept: " + ", ".join(LACKING) if LACKING else "all libraries were kept", end="; ")
+    print(f"not kept: {', '.join(LACKING)}" if LACKING else "all libraries were kept", end="; ")
     print("what was lies in its crate's out/ now")

@@ -1,18 +1,13 @@
-"""The whole test, and with --prove the proof of all: `make test` and `make prove`.
+"""The whole test, and with --prove the proof of all: `make test` and `make prove`. What they try, docs/PROMISES.md says.
 
     python3 verification/test.py [--all] [--fresh] [--seed N]
     python3 verification/test.py --prove [--fresh] [NAME ..]
 
-The test builds all without proofs and runs the tests, each crate's in a process of its own, proves the crates and tries
-the edits that the locks don't have as they are, and a sample of the others, drawn anew in each run. With --all every
-crate is proved, by this run or by an earlier one on this machine, both locks have to have everything, and the
-end-to-end tests run on the proved program, which is left at bin/snapd.
+With --all, and with --prove, the end-to-end tests run on the proved program, which is left at bin/snapd. If every proof
+passed, --prove writes proofs.lock and README's line; with names it proves these programs alone.
 
-With --prove every crate is proved so, the edits that aren't on record are tried, and the end-to-end tests run. If every
-proof passed, proofs.lock records that, and README has its line. With names only these programs are proved.
-
-With --fresh nothing is taken from this machine's archive. The last line, `N passed, M failed`, is the sum of all parts,
-and the status is 1 where something failed or didn't come to its count.
+What comes of a part is how much passed, how much failed, and what is said of that. The last line, `N passed, M failed`,
+is the sum of all parts, and the status is 1 where something failed or didn't come to its count.
 """
 
 import argparse
@@ -78,8 +73,8 @@ def judged(name, lines, status):
 
 
 def build_and_run(lanes):
-    """Builds the program, those beside it and the crates' tests, each without proofs, runs the crates' tests, and the
-    first job as `make demo` does. What came of a part is how much passed, how much failed, and what is said of that."""
+    """Builds the program, those beside it and the crates' tests, each without proofs, and runs these tests, each crate's
+    in a process of its own, and the first job as `make demo` does."""
     rt, began = kit.load("rtlib.RUNNER", "drop_to_nobody"), time.monotonic()
 
     def each(name, tests, to, is_built, said):
@@ -155,7 +150,7 @@ def prove_all(words):
     record.write(TOP)
     readme.write_text(LINE.sub(f"`{record.told()}`", readme.read_text()))
     print(record.told(), edits.told(), sep="\n", flush=True)
-    build_all(programs(), lambda *it: None)
+    build_all(programs())
     return [*parts, run_end_to_end(TOP / "bin" / "snapd")]
 
 
