@@ -20,7 +20,7 @@ import kit
 from digests import Digests
 from proofs import UNKNOWN, prove
 from record import Lock
-from tree import TOP, below, crates_of, edits_of, refuse_strange, with_below
+from tree import TOP, below, crates_of, edits_of, parsed, with_below
 
 LOCK = "must-fail.lock"
 HEAD = """\
@@ -65,10 +65,6 @@ class Edits(Lock):
             if came != "NOT TRIED":
                 self.lines.pop(name, None)
 
-    def part(self):
-        """How many were refused, how many weren't, and what is said of these."""
-        return self.refused, len(self.failures), self.failures
-
 
 def drawn(names, edits, crates, seconds, missing, seed, most):
     """A sample of these crates, drawn anew with each seed: `most[0]` of them at most, and `most[1]` of their edits.
@@ -88,15 +84,14 @@ def drawn(names, edits, crates, seconds, missing, seed, most):
 def main():
     words = argparse.ArgumentParser(description="Tries must-fail edits, and records which were refused.")
     words.add_argument("--every", action="store_true", help="all edits, also those that must-fail.lock has")
-    words.add_argument("names", nargs="*", metavar="NAME", help="the crates whose edits are tried: all, if none is")
-    words = words.parse_args()
-    edits, crates = Edits.of(TOP), crates_of(TOP)
-    refuse_strange(crates, words.names)
+    words, edits = parsed(words, "the crates whose edits are tried: all, if none is"), Edits.of(TOP)
     wanted = edits.digests if words.every else edits.missing()
     chosen = [it for it in wanted if not words.names or it[0] in words.names]
-    failures = prove(with_below(crates, {it[0] for it in chosen}), edits, chosen).failures if chosen else []
-    print(*failures, *edits.failures, edits.told(), sep="\n")
-    return 1 if failures or edits.failures else 0
+    owed = with_below(crates_of(TOP), {it[0] for it in chosen})
+    _, parts = prove(owed, edits, chosen) if chosen else ({}, [])
+    failures = [line for _, _, lines in parts for line in lines]
+    print(*failures, edits.told(), sep="\n")
+    return 1 if failures else 0
 
 
 if __name__ == "__main__":

@@ -22,9 +22,8 @@ PARTS = ("main", "in_lanes", "processors", "seeded", "Crate.ci", "rtlib.Crate.ha
 COUNT = re.compile(r"(\d+) passed, (\d+) failed")
 TOLD = re.compile(r"rt: (\w+) (proved|NOT PROVED|is kept)")
 TOOK = re.compile(r"took (\w+) (\d+)")
-TRYING = re.compile(r"rt: (\w+: trying its must-fail edits.*)")
-# What a crate takes that the record doesn't have: by each of its lines, and where these aren't known.
-EACH_LINE, UNKNOWN = 0.12, 60
+# What each crate took on record, and what one takes that isn't: by each of its lines, and where these aren't known.
+SECONDS, EACH_LINE, UNKNOWN = {name: it.seconds for name, it in Record.read(TOP).items()}, 0.12, 60
 # How many lines of a failed run are shown again.
 LAST = 12
 # The kit's own lines.
@@ -43,8 +42,8 @@ class Proofs:
     def take(self, line):
         """Takes a line, and tells each crate as its proof ends, with how long the others still take."""
         self.lines.append(line.rstrip())
-        if trying := TRYING.match(line):
-            print(trying[1], flush=True)
+        if "trying its must-fail edits" in line:
+            print(self.lines[-1], flush=True)
         if took := TOOK.match(line):
             self.seconds[took[1]] = int(took[2])
         if told := TOLD.match(line):
@@ -65,7 +64,7 @@ class Proofs:
         is_told = self.lines and COUNT.fullmatch(self.lines[-1]) and bool(told) == bool(status)
         bad = {it[1] for it in map(TOLD.match, self.lines) if it and it[2] == "NOT PROVED"}
         bad |= {it for it in told if "/" not in it and it != "(run)"}
-        self.failed = len(bad) if is_told else max(len(bad), 1)
+        self.failed = max(len(bad), 0 if is_told else 1)
         if self.failed:
             shown = [it for it in self.lines if re.search(r"NOT PROVED|FAILED|: error", it) and "must-fail" not in it]
             self.failures = shown[-LAST:] or self.lines[-LAST:]
@@ -76,9 +75,10 @@ class Proofs:
 
 
 def prove(names, edits, chosen, anew=(), programs=()):
-    """Proves these crates and takes these programs; tries the chosen edits, and records what was refused."""
-    seconds, began = {name: it.seconds for name, it in Record.read(TOP).items()}, time.monotonic()
-    proofs = Proofs({it: seconds.get(it) or UNKNOWN for it in names}, kit.load("processors").processors())
+    """Proves these crates and takes these programs; tries the chosen edits, and records what was refused. Returns what
+    each proof took, in seconds, and what came of the proofs and of the edits: how much passed, and what didn't."""
+    left, began = {it: SECONDS.get(it) or UNKNOWN for it in names}, time.monotonic()
+    proofs = Proofs(left, kit.load("processors").processors())
     LOG.parent.mkdir(exist_ok=True)
     with copied(TOP, names, chosen) as copy, LOG.open("w") as log:
         def take(line):
@@ -95,7 +95,7 @@ def prove(names, edits, chosen, anew=(), programs=()):
     if chosen:
         edits.take(chosen, proofs.lines)
         edits.write(TOP)
-    return proofs
+    return proofs.seconds, [proofs.part(), (edits.refused, len(edits.failures), edits.failures)]
 
 
 def by_seconds(tasks, seconds, lanes):
@@ -114,7 +114,7 @@ def by_seconds(tasks, seconds, lanes):
 
 
 def main():
-    rt, anew, seconds = archive.opened(*PARTS), sys.argv[1:], {name: it.seconds for name, it in Record.read(TOP).items()}
+    rt, anew = archive.opened(*PARTS), sys.argv[1:]
     in_lanes, ci, seeded, give = rt.in_lanes, rt.Crate.ci, rt.seeded, rt.Kept.give
 
     def timed(crate, flags, tests):
@@ -131,7 +131,7 @@ def main():
         return room
 
     rt.Crate.ci, rt.seeded = timed, begun
-    rt.in_lanes = lambda tasks: in_lanes(by_seconds(tasks, seconds, rt.processors()))
+    rt.in_lanes = lambda tasks: in_lanes(by_seconds(tasks, SECONDS, rt.processors()))
     rt.rtlib.Crate.has_tests = lambda crate: False
     rt.Kept.give = lambda kept, crate, tests, key: crate.name not in anew and give(kept, crate, tests, key)
     rt.Kept.tried = lambda kept, name: None

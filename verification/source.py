@@ -9,8 +9,8 @@ HEAD = re.compile(r"^(\s*)(?:pub(?:\([a-z]+\))? )?(const )?(?:unsafe )?fn (\w+)"
 IMPL = re.compile(r"^(?:pub )?(?:impl|trait)\b(.*)")
 # A line that is a comment and nothing else, by the file's kind, and a text in quotes, in which such a line is none.
 COMMENT = {
-    ".rt": re.compile(r'^ *//.*\n|"(?:\\[\s\S]|[^"\\])*"|r(#+)"[\s\S]*?"\1|\'(?:\\[^\']+|[^\\\n\'])\'|//.*', re.M),
-    ".antt": re.compile(r'^ *--.*\n|"(?:\\.|[^"\\\n])*"|--.*', re.M),
+    ".rt": re.compile(r'(^ *//.*\n)|"(?:\\[\s\S]|[^"\\])*"|r(#+)"[\s\S]*?"\2|\'(?:\\[^\']+|[^\\\n\'])\'|//.*', re.M),
+    ".antt": re.compile(r'(^ *--.*\n)|"(?:\\.|[^"\\\n])*"|--.*', re.M),
 }
 # The name at the beginning of a definition's line, after its keywords, and a definition that has names within, too.
 DEFINED = re.compile(r"^( *)(?:(?:pub|abbrev|unfoldable|record|data|unfolding) )*([A-Za-z_◌][^\s:({]*)", re.M)
@@ -24,11 +24,7 @@ Function = namedtuple("Function", "name first last of head")
 
 def uncommented(text, kind):
     """A text without the lines that are a comment and nothing else."""
-    def kept(found):
-        is_comment = found[0].endswith("\n") and found[0].lstrip(" ").startswith(("//", "--"))
-        return "" if is_comment else found[0]
-
-    return COMMENT[kind].sub(kept, text)
+    return COMMENT[kind].sub(lambda it: "" if it[1] else it[0], text)
 
 
 def without_comments(path):

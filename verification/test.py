@@ -1,4 +1,4 @@
-"""The whole test, and with --prove the proof of all: `make test` and `make prove`. What they try, docs/PROMISES.md says.
+"""The whole test, and with --prove the proof of all: `make test` and `make prove` (docs/PROMISES.md has what they try).
 
     python3 verification/test.py [--all] [--fresh] [--seed N]
     python3 verification/test.py --prove [--fresh] [NAME ..]
@@ -26,27 +26,22 @@ from concurrent.futures import ThreadPoolExecutor
 import archive
 import kit
 from edits import Edits, drawn
-from proofs import COUNT, LAST, prove
+from proofs import COUNT, LAST, SECONDS, prove
 from quick import build_all, place, ran
 from record import LOCK, Record
-from tree import TOP, crates_of, has_tests, proved_crates, refuse_strange, with_below
+from tree import TOP, crates_of, has_tests, parsed, proved_crates, with_below
 
 # The sample: how many crates, how many of their edits, and the seconds of a processor that the crates' proofs may take.
 SAMPLE = (3, 20, 600)
 # The free memory above which the tests of crates are built beside proofs.
 BOTH = 16_000_000_000
-# The line of README that says what is on record.
-LINE = re.compile(rf"^`{LOCK}: .*`$", re.M)
 # The program that the test builds, apart from the one that `make demo` or `make prove` left.
 PROGRAM = TOP / "out" / "snapd"
+# The programs that end-to-end tests run beside it, as they are to be built.
+BESIDE = [(it, False, place(it)) for it in crates_of(TOP) if it.startswith("try_")]
 # How long the tests of one crate may take each, in seconds.
 LIMIT = "300"
 RESULT = re.compile(r"test result: \w+\. (\d+) passed; (\d+) failed")
-
-
-def programs():
-    """The programs that end-to-end tests run beside `snapd`, as they are to be built."""
-    return [(it, False, place(it)) for it in crates_of(TOP) if it.startswith("try_")]
 
 
 def run_tests(rt, built):
@@ -73,8 +68,8 @@ def judged(name, lines, status):
 
 
 def build_and_run(lanes):
-    """Builds the program, those beside it and the crates' tests, each without proofs, and runs these tests, each crate's
-    in a process of its own, and the first job as `make demo` does."""
+    """Builds the program, those beside it and the crates' tests, each without proofs, and runs these tests, each
+    crate's in a process of its own, and the first job."""
     rt, began = kit.load("rtlib.RUNNER", "drop_to_nobody"), time.monotonic()
 
     def each(name, tests, to, is_built, said):
@@ -88,7 +83,7 @@ def build_and_run(lanes):
 
     # (the highest crates, which read the most, first)
     tests = [(it, True, place(it, True)) for it in reversed(crates_of(TOP)) if has_tests(TOP / "crates" / it)]
-    came = build_all([("snapd", False, PROGRAM), *programs(), *tests], each, lanes)
+    came = build_all([("snapd", False, PROGRAM), *BESIDE, *tests], each, lanes)
     passed, failures = sum(it[0] for it in came), [line for it in came for line in it[1]]
     if ran(["sh", "tests/demo.sh", PROGRAM], cwd=TOP, stderr=None)[0]:
         failures.append("the first job failed: sh tests/demo.sh out/snapd")
@@ -117,14 +112,12 @@ def prove_some(words):
         said += [f"must-fail.lock doesn't have {edits.name(it)} as it is: make edits tries it" for it in new]
         new = []
     missing = {*(proved if words.fresh else archive.missing(TOP))} - owed
-    seconds = {name: it.seconds for name, it in record.lines.items()}
-    names, chosen = drawn(proved, edits.known(), crates, seconds, missing, words.seed, SAMPLE)
+    names, chosen = drawn(proved, edits.known(), crates, SECONDS, missing, words.seed, SAMPLE)
     print(f"sample: {', '.join(names) or 'no crate'}, with {len(chosen)} edits (seed {words.seed})", flush=True)
     tried = Counter(it[0] for it in chosen)
     anew = ["--anew"] if words.fresh else [it for it in names if tried[it] < 2]
     owed |= with_below(crates, {*names, *(it[0] for it in new)})
-    proofs = prove(owed, edits, [*new, *chosen], anew, ["snapd"] * words.all)
-    return [(0, len(said), said), proofs.part(), edits.part()]
+    return [(0, len(said), said), *prove(owed, edits, [*new, *chosen], anew, ["snapd"] * words.all)[1]]
 
 
 def test_all(words):
@@ -139,18 +132,17 @@ def prove_all(words):
     """Proves everything, or these programs alone."""
     anew, edits = ["--anew"] * words.fresh, Edits.of(TOP)
     if words.names:
-        return [prove(with_below(crates_of(TOP), words.names), edits, [], anew, words.names).part()]
-    proofs = prove(proved_crates(TOP), edits, edits.missing(), anew, ["snapd"])
-    parts = [proofs.part(), edits.part()]
-    if proofs.failed:
+        return prove(with_below(crates_of(TOP), words.names), edits, [], anew, words.names)[1]
+    seconds, parts = prove(proved_crates(TOP), edits, edits.missing(), anew, ["snapd"])
+    if parts[0][1]:
         return parts
     # Every crate is on record as it is now.
     record, readme = Record.of(TOP), TOP / "README.md"
-    record.take(proofs.seconds)
+    record.take(seconds)
     record.write(TOP)
-    readme.write_text(LINE.sub(f"`{record.told()}`", readme.read_text()))
+    readme.write_text(re.sub(rf"^`{LOCK}: .*`$", f"`{record.told()}`", readme.read_text(), flags=re.M))
     print(record.told(), edits.told(), sep="\n", flush=True)
-    build_all(programs())
+    build_all(BESIDE)
     return [*parts, run_end_to_end(TOP / "bin" / "snapd")]
 
 
@@ -160,9 +152,7 @@ def main():
     words.add_argument("--all", action="store_true", help="prove every crate, by this run or an earlier one here")
     words.add_argument("--fresh", action="store_true", help="take nothing from this machine's archive of proofs")
     words.add_argument("--seed", type=int, default=random.SystemRandom().randrange(10**9), help="of the sample")
-    words.add_argument("names", nargs="*", metavar="NAME", help="with --prove: programs that are proved alone")
-    words = words.parse_args()
-    refuse_strange(crates_of(TOP), words.names)
+    words = parsed(words, "with --prove: programs that are proved alone")
     parts = prove_all(words) if words.prove else test_all(words)
     print(*(line for _, failed, lines in parts if failed for line in lines), sep="\n")
     passed, failed = (sum(it[at] for it in parts) for at in (0, 1))

@@ -23,10 +23,13 @@ def crates_of(top):
     return {name: Crate(" ".join(line.split()), tuple(uses.split())) for line, name, uses in lines}
 
 
-def refuse_strange(crates, names):
-    """Ends the program where one of these names, which somebody typed, is no crate."""
-    if strange := [it for it in names if it not in crates]:
+def parsed(words, names):
+    """A command's words, with names of crates behind them. Ends the program where one of these is no crate."""
+    words.add_argument("names", nargs="*", metavar="NAME", help=names)
+    words, crates = words.parse_args(), crates_of(TOP)
+    if strange := [it for it in words.names if it not in crates]:
         sys.exit(f"crates.txt has no {', '.join(strange)}")
+    return words
 
 
 def below(crates, name):
