@@ -72,6 +72,6 @@ def missing(top, is_laid=False):
 
 
 if __name__ == "__main__":
-    LACKING = missing(TOP, is_laid=True)
-    print(f"not kept: {', '.join(LACKING)}" if LACKING else "all libraries were kept", end="; ")
-    print("what was lies in its crate's out/ now")
+    LACKING = ", ".join(missing(TOP, is_laid=True))
+    SAID = f"not kept: {LACKING}" if LACKING else "all libraries were kept"
+    print(f"{SAID}; what was lies in its crate's out/ now")

@@ -20,9 +20,8 @@ import kit
 from digests import Digests
 from proofs import UNKNOWN, prove
 from record import Lock
-from tree import TOP, below, crates_of, edits_of, parsed, with_below
+from tree import TOP, below, crates_of, edits_of, parsed
 
-LOCK = "must-fail.lock"
 HEAD = """\
 # Each edit that the prover has refused: the digest of what that rests on (the edit, its function, the contracts and
 # definitions that this names, and the kit's logic), and the kit's release. Every run that tries an edit records it.
@@ -40,7 +39,7 @@ class Edits(Lock):
 
     failures: list = field(default_factory=list)
     refused: int = 0
-    file, head, what, line = LOCK, HEAD, "edits were refused", Refusal
+    file, head, what, line = "must-fail.lock", HEAD, "edits were refused", Refusal
 
     @classmethod
     def of(cls, top):
@@ -87,8 +86,7 @@ def main():
     words, edits = parsed(words, "the crates whose edits are tried: all, if none is"), Edits.of(TOP)
     wanted = edits.digests if words.every else edits.missing()
     chosen = [it for it in wanted if not words.names or it[0] in words.names]
-    owed = with_below(crates_of(TOP), {it[0] for it in chosen})
-    _, parts = prove(owed, edits, chosen) if chosen else ({}, [])
+    _, parts = prove([], edits, chosen) if chosen else ({}, [])
     failures = [line for _, _, lines in parts for line in lines]
     print(*failures, edits.told(), sep="\n")
     return 1 if failures else 0

@@ -16,7 +16,7 @@ import archive
 import kit
 from quick import place, put, ran
 from record import Record
-from tree import TOP, copied
+from tree import TOP, copied, crates_of, with_below
 
 PARTS = ("main", "in_lanes", "processors", "seeded", "Crate.ci", "rtlib.Crate.has_tests", "Kept.tried")
 COUNT = re.compile(r"(\d+) passed, (\d+) failed")
@@ -75,10 +75,11 @@ class Proofs:
 
 
 def prove(names, edits, chosen, anew=(), programs=()):
-    """Proves these crates and takes these programs; tries the chosen edits, and records what was refused. Returns what
-    each proof took, in seconds, and what came of the proofs and of the edits: how much passed, and what didn't."""
-    left, began = {it: SECONDS.get(it) or UNKNOWN for it in names}, time.monotonic()
-    proofs = Proofs(left, kit.load("processors").processors())
+    """Proves these crates with all below them, and takes these programs; tries the chosen edits, and records what was
+    refused. Returns the seconds that each proof took, and what came of the proofs and of the edits: how much passed,
+    how much failed, and what is said of that."""
+    names, began = with_below(crates_of(TOP), {*names, *(it[0] for it in chosen)}), time.monotonic()
+    proofs = Proofs({it: SECONDS.get(it) or UNKNOWN for it in names}, kit.load("processors").processors())
     LOG.parent.mkdir(exist_ok=True)
     with copied(TOP, names, chosen) as copy, LOG.open("w") as log:
         def take(line):

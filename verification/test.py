@@ -116,8 +116,7 @@ def prove_some(words):
     print(f"sample: {', '.join(names) or 'no crate'}, with {len(chosen)} edits (seed {words.seed})", flush=True)
     tried = Counter(it[0] for it in chosen)
     anew = ["--anew"] if words.fresh else [it for it in names if tried[it] < 2]
-    owed |= with_below(crates, {*names, *(it[0] for it in new)})
-    return [(0, len(said), said), *prove(owed, edits, [*new, *chosen], anew, ["snapd"] * words.all)[1]]
+    return [(0, len(said), said), *prove({*owed, *names}, edits, [*new, *chosen], anew, ["snapd"] * words.all)[1]]
 
 
 def test_all(words):
@@ -132,7 +131,7 @@ def prove_all(words):
     """Proves everything, or these programs alone."""
     anew, edits = ["--anew"] * words.fresh, Edits.of(TOP)
     if words.names:
-        return prove(with_below(crates_of(TOP), words.names), edits, [], anew, words.names)[1]
+        return prove(words.names, edits, [], anew, words.names)[1]
     seconds, parts = prove(proved_crates(TOP), edits, edits.missing(), anew, ["snapd"])
     if parts[0][1]:
         return parts
