@@ -16,11 +16,11 @@ import kit  # noqa: E402
 import quick  # noqa: E402
 import record  # noqa: E402
 from digests import Digests  # noqa: E402
-from edits import Edits, Refusal, drawn  # noqa: E402
+from edits import Edits, Refusal  # noqa: E402
 from proofs import Proofs, by_seconds  # noqa: E402
 from record import Proved, Record  # noqa: E402
 from source import function_of, functions_in, uncommented  # noqa: E402
-from test import judged  # noqa: E402
+from test import drawn, judged  # noqa: E402
 from tree import copied, edits_of, proved_crates  # noqa: E402
 from waiting import PATIENCE  # noqa: E402
 

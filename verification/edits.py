@@ -10,7 +10,6 @@ the kit's release. The kit's `rt ci` tries them, over what a proof of their crat
 """
 
 import argparse
-import random
 import re
 import sys
 from collections import namedtuple
@@ -18,9 +17,9 @@ from dataclasses import dataclass, field
 
 import kit
 from digests import Digests
-from proofs import UNKNOWN, prove
+from proofs import prove
 from record import Lock
-from tree import TOP, below, crates_of, edits_of, parsed
+from tree import TOP, crates_of, edits_of, parsed
 
 HEAD = """\
 # Each edit that the prover has refused: the digest of what that rests on (the edit, its function, the contracts and
@@ -63,21 +62,6 @@ class Edits(Lock):
             self.failures.append(f"edit {name}: {came}{text[:300]}")
             if came != "NOT TRIED":
                 self.lines.pop(name, None)
-
-
-def drawn(names, edits, crates, seconds, missing, seed, most):
-    """A sample of these crates, drawn anew with each seed: `most[0]` of them at most, and `most[1]` of their edits.
-    Their proofs, with what is below them and isn't at hand, take `most[2]` seconds of a processor in all, at most."""
-    draw, chosen, proved, spent = random.Random(seed), [], set(missing), 0
-    for name in draw.sample(sorted(names), len(names)):
-        owed = {it for it in below(crates, name) if it in proved} | {name}
-        cost = sum(seconds.get(it) or UNKNOWN for it in owed)
-        if len(chosen) < most[0] and spent + cost <= most[2]:
-            chosen.append(name)
-            proved -= owed
-            spent += cost
-    found = sorted(it for it in edits if it[0] in chosen)
-    return chosen, draw.sample(found, min(most[1], len(found)))
 
 
 def main():

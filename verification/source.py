@@ -6,7 +6,7 @@ from collections import namedtuple
 import kit
 
 HEAD = re.compile(r"^(\s*)(?:pub(?:\([a-z]+\))? )?(const )?(?:unsafe )?fn (\w+)")
-IMPL = re.compile(r"^(?:pub )?(?:impl|trait)\b(.*)")
+IMPL = re.compile(r"^(?:pub )?(?:impl|trait)\b")
 # A line that is a comment and nothing else, by the file's kind, and a text in quotes, in which such a line is none.
 COMMENT = {
     ".rt": re.compile(r'(^ *//.*\n)|"(?:\\[\s\S]|[^"\\])*"|r(#+)"[\s\S]*?"\2|\'(?:\\[^\']+|[^\\\n\'])\'|//.*', re.M),

@@ -25,11 +25,11 @@ from concurrent.futures import ThreadPoolExecutor
 
 import archive
 import kit
-from edits import Edits, drawn
-from proofs import COUNT, LAST, SECONDS, prove
+from edits import Edits
+from proofs import COUNT, LAST, SECONDS, UNKNOWN, prove
 from quick import build_all, place, ran
 from record import LOCK, Record
-from tree import TOP, crates_of, has_tests, parsed, proved_crates, with_below
+from tree import TOP, below, crates_of, has_tests, parsed, proved_crates, with_below
 
 # The sample: how many crates, how many of their edits, and the seconds of a processor that the crates' proofs may take.
 SAMPLE = (3, 20, 600)
@@ -99,6 +99,21 @@ def run_end_to_end(program):
     passed, failed = map(int, count.groups()) if count else (0, 1)
     failed = max(failed, 1) if status else failed
     return passed, failed, lines[-LAST:] if failed else []
+
+
+def drawn(names, edits, crates, seconds, missing, seed, most):
+    """A sample of these crates, drawn anew with each seed: `most[0]` of them at most, and `most[1]` of their edits.
+    Their proofs, with what is below them and isn't at hand, take `most[2]` seconds of a processor in all, at most."""
+    draw, chosen, proved, spent = random.Random(seed), [], set(missing), 0
+    for name in draw.sample(sorted(names), len(names)):
+        owed = {it for it in below(crates, name) if it in proved} | {name}
+        cost = sum(seconds.get(it) or UNKNOWN for it in owed)
+        if len(chosen) < most[0] and spent + cost <= most[2]:
+            chosen.append(name)
+            proved -= owed
+            spent += cost
+    found = sorted(it for it in edits if it[0] in chosen)
+    return chosen, draw.sample(found, min(most[1], len(found)))
 
 
 def prove_some(words):
