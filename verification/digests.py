@@ -58,7 +58,7 @@ class Digests:
         self.top, self.logic, crates = top, logic, crates_of(top)
         self.below = {it: below(crates, it) for it in crates}
         # The pieces of each name in a crate and in a file; what a file imports under a name, as crate and name.
-        self.named, self.imports, self.aliases = defaultdict(list), defaultdict(set), {}
+        self.named, self.imports, self.aliases = defaultdict(list), defaultdict(set), defaultdict(list)
         for name in crates:
             for kind in ("src/**/*.rt", "specs/**/*.antt"):
                 for path in (top / "crates" / name).glob(kind):
