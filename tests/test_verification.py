@@ -170,11 +170,11 @@ def test_the_lock_has_what_was_refused_as_it_stands_and_nothing_else(snapd, _):
         "rt: must-fail middle/first.edit: refused, as it must be (only because a proof file names what the edit took "
         "away)\nrt: must-fail high/first.edit: refused, as it must be (only by a limit of the prover)\n"
     )
-    edits.take([*names[:3], *names[4:]], said.split("\n"))
-    assert edits.refused == 2 and [it.split(":")[0] for it in edits.failures] == [
+    refused, failed, failures = edits.take([*names[:3], *names[4:]], said.split("\n"))
+    assert (refused, failed) == (2, 3) and [it.split(":")[0] for it in failures] == [
         "edit low/second.edit", "edit middle/first.edit", "edit high/second.edit",
     ]
-    assert "NOT TRIED" in edits.failures[2]
+    assert "NOT TRIED" in failures[2]
     edits.write(top)
     again = Edits(edits.digests, Edits.read(top))
     assert [Edits.name(it) for it in again.known()] == ["low/first.edit", "high/first.edit"]

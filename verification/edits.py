@@ -13,7 +13,6 @@ import argparse
 import re
 import sys
 from collections import namedtuple
-from dataclasses import dataclass, field
 
 import kit
 from digests import Digests
@@ -32,12 +31,9 @@ NAMELESS = "only because a proof file names"
 Refusal = namedtuple("Refusal", "digest release")
 
 
-@dataclass
 class Edits(Lock):
-    """The edits of a checkout, pairs of crate and path: their digests, what the lock has, and what came of them."""
+    """The edits of a checkout, pairs of crate and path, by their digests, and what the lock has of them."""
 
-    failures: list = field(default_factory=list)
-    refused: int = 0
     file, head, what, line = "must-fail.lock", HEAD, "edits were refused", Refusal
 
     @classmethod
@@ -50,18 +46,18 @@ class Edits(Lock):
         return f"{edit[0]}/{edit[1].name}"
 
     def take(self, chosen, lines):
-        """Takes in what the kit said of these edits."""
-        found = {it[1]: it.groups()[1:] for it in map(SAID.match, lines) if it}
+        """Takes in what the kit said of these edits: how many were refused, how many not, and what is said of these."""
+        found, failures = {it[1]: it.groups()[1:] for it in map(SAID.match, lines) if it}, []
         for edit in chosen:
             name = self.name(edit)
             came, text = found.get(name, ("NOT TRIED", ""))
             if came == "refused" and NAMELESS not in text:
                 self.lines[name] = Refusal(self.digests[edit], kit.release())
-                self.refused += 1
                 continue
-            self.failures.append(f"edit {name}: {came}{text[:300]}")
+            failures.append(f"edit {name}: {came}{text[:300]}")
             if came != "NOT TRIED":
                 self.lines.pop(name, None)
+        return len(chosen) - len(failures), len(failures), failures
 
 
 def main():

@@ -93,10 +93,10 @@ def prove(names, edits, chosen, anew=(), programs=()):
         proofs.failures.append(f"the whole log: {os.path.relpath(LOG)}")
     kept = f"{proofs.kept} of them from this machine's archive of earlier runs"
     print(f"proofs: {proofs.part()[0]} crates passed in {time.monotonic() - began:.0f} s, {kept}", flush=True)
+    tried = edits.take(chosen, proofs.lines)
     if chosen:
-        edits.take(chosen, proofs.lines)
         edits.write(TOP)
-    return proofs.seconds, [proofs.part(), (edits.refused, len(edits.failures), edits.failures)]
+    return proofs.seconds, [proofs.part(), tried]
 
 
 def by_seconds(tasks, seconds, lanes):

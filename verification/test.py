@@ -84,7 +84,7 @@ def build_and_run(lanes):
     # (the highest crates, which read the most, first)
     tests = [(it, True, place(it, True)) for it in reversed(crates_of(TOP)) if has_tests(TOP / "crates" / it)]
     came = build_all([("snapd", False, PROGRAM), *BESIDE, *tests], each, lanes)
-    passed, failures = sum(it[0] for it in came), [line for it in came for line in it[1]]
+    passed, failures = sum(count for count, _ in came), [line for _, bad in came for line in bad]
     if ran(["sh", "tests/demo.sh", PROGRAM], cwd=TOP, stderr=None)[0]:
         failures.append("the first job failed: sh tests/demo.sh out/snapd")
     print(f"tests of the crates: {passed} passed in {time.monotonic() - began:.0f} s", flush=True)
