@@ -29,7 +29,8 @@ Proved = namedtuple("Proved", "digest release day seconds")
 
 @dataclass
 class Lock:
-    """What a checkout has, by its digests, and the lines that a lock has of it, by name, each with a digest first."""
+    """What a checkout has, by its digests, and the lines of one of its locks, by name, each with a digest first. A kind
+    of lock has a `file` with a `head`, and says `what` its lines tell and which tuple a `line` is."""
 
     digests: dict
     lines: dict
