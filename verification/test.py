@@ -20,7 +20,6 @@ import subprocess
 import sys
 import tempfile
 import time
-from collections import Counter
 from concurrent.futures import ThreadPoolExecutor
 
 import archive
@@ -129,8 +128,7 @@ def prove_some(words):
     missing = {*(proved if words.fresh else archive.missing(TOP))} - owed
     names, chosen = drawn(proved, edits.known(), crates, SECONDS, missing, words.seed, SAMPLE)
     print(f"sample: {', '.join(names) or 'no crate'}, with {len(chosen)} edits (seed {words.seed})", flush=True)
-    tried = Counter(it[0] for it in chosen)
-    anew = ["--anew"] if words.fresh else [it for it in names if tried[it] < 2]
+    anew = ["--anew"] if words.fresh else [it for it in names if [edit[0] for edit in chosen].count(it) < 2]
     return [(0, len(said), said), *prove({*owed, *names}, edits, [*new, *chosen], anew, ["snapd"] * words.all)[1]]
 
 
