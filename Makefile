@@ -47,7 +47,7 @@ tests: programs
 # What is timed has no checks in it, so it is proved.
 bench:
 	@sh verification/needs.sh rt python3 gcc
-	python3 verification/test.py --prove snapd try_parts
+	python3 verification/test.py --prove snapd try_bench
 	python3 bench/run.py
 	python3 bench/server.py
 	python3 bench/others.py

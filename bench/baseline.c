@@ -2,8 +2,7 @@
  *
  *     baseline put FILE          as `snapd put FILE`: stores standard input
  *     baseline get FILE          as `snapd get FILE`
- *     baseline store FILE COUNT  as `bench-store FILE COUNT` of try_parts: makes and formats FILE and stores
- *                                COUNT values
+ *     baseline store FILE COUNT  as `try_bench store FILE COUNT`: makes and formats FILE and stores COUNT values
  *     baseline old FILE COUNT    the same in the old format, with its two slots and its three syncs a store
  *
  * It checks what it must to find the slots, and not whether the file is well-formed.

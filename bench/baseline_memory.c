@@ -1,7 +1,7 @@
 /* The registers of `snap_register` and the scans of `snap_memory` with the same atomics and copies, and as little as
  * possible besides.
  *
- *     baseline_memory look|scan|update SEGMENTS 0 ROUNDS LENGTH  as `bench-memory` of try_parts, without other writers
+ *     baseline_memory look|scan|update SEGMENTS 0 ROUNDS LENGTH  as `try_bench memory`, without other writers
  *
  * A register has one current word (the buffer in the high 8 bits, pins in the low 56), and for each buffer a count of
  * the pins given back and the words of a record: number, length and value, and then the same of each segment. Of a

@@ -41,9 +41,10 @@ sys.path.insert(0, str(TOP / "tests"))
 import figures  # noqa: E402
 import segment_file as layout  # noqa: E402
 from preload import library  # noqa: E402
-from trials import trial  # noqa: E402
 
 STORES = 200
+# What is timed of the crates. `make bench` proves and builds it.
+PROGRAM = str(TOP / "crates" / "try_bench" / "out" / "try_bench")
 NOTED = figures.Figures()
 
 
@@ -85,7 +86,7 @@ def seconds(*line, stdin=b"", tries=5):
 
 def worlds():
     """Events a second of the world, devices included, and how much of the time copies of the longest values take."""
-    program = trial("bench-world")
+    program = [PROGRAM, "world"]
     print(
         f"\n{'events of a world, values of 8 bytes':<44} {'a second':>12} {'10 x more':>12}"
         "   of 4,080 bytes: a second, in copying"
@@ -192,9 +193,8 @@ def looks():
 
 def pairs(work, folder, rounds):
     """The nanoseconds of both things that a round times."""
-    run = subprocess.run(
-        [*trial("bench-restart", work), folder, str(rounds)], check=True, stdout=subprocess.PIPE, text=True
-    )
+    words = [PROGRAM, "restart", work, folder, str(rounds)]
+    run = subprocess.run(words, check=True, stdout=subprocess.PIPE, text=True)
     return [tuple(map(int, line.split())) for line in run.stdout.splitlines()]
 
 
@@ -231,7 +231,7 @@ def worked(*line):
 def memory_ratio(label, limit, baseline, work, segments, rounds, length, tries=7):
     """Times a round of both programs: the least time of some rounds, without that of none. The runs alternate."""
     least = {}
-    memory = tuple(trial("bench-memory"))
+    memory = PROGRAM, "memory"
     for _ in range(tries):
         for program in (memory, (baseline,)):
             for count in (0, rounds):
@@ -261,8 +261,8 @@ def memories(folder):
             memory_ratio(label, 1.5, baseline, work, segments, rounds, length)
     rates = []
     for writers in ("0", "1", "15"):
-        idle, _ = seconds(*trial("bench-memory", "scan"), "16", writers, "0", "8")
-        took, _ = seconds(*trial("bench-memory", "scan"), "16", writers, "30000", "8")
+        idle, _ = seconds(PROGRAM, "memory", "scan", "16", writers, "0", "8")
+        took, _ = seconds(PROGRAM, "memory", "scan", "16", writers, "30000", "8")
         NOTED.note(f"scans beside {writers} writers", "snapd", [30_000 / (took - idle)], "/s")
         rates.append(f"{30_000 / (took - idle):>12,.0f}")
     print(f"{'scans a second beside 0, 1 and 15 writers':<44} {' '.join(rates)}")
@@ -271,7 +271,8 @@ def memories(folder):
 def largest_memory():
     """The kB resident of a memory for 16 segments and 16 scanners. Whether they are within the aim once its buffers
     were used."""
-    run = subprocess.Popen(trial("bench-memory", "fill", 16, 0, 0, 4080), stdin=subprocess.PIPE, stdout=subprocess.PIPE)
+    words = [PROGRAM, "memory", "fill", "16", "0", "0", "4080"]
+    run = subprocess.Popen(words, stdin=subprocess.PIPE, stdout=subprocess.PIPE)
     run.stdout.readline()
     before, most = resident(run), resident(run, "VmHWM:")
     run.stdin.write(b"\n")
@@ -292,7 +293,7 @@ def service_round(work, segments, rounds, length, tries=5):
     least = {}
     for _ in range(tries):
         for count in (0, rounds):
-            took = worked(*trial("bench-service", work, segments, count, length))
+            took = worked(PROGRAM, "service", work, str(segments), str(count), str(length))
             least[count] = min(took, least.get(count, took))
     return (least[rounds] - least[0]) / rounds
 
@@ -325,7 +326,7 @@ def main():
     with tempfile.TemporaryDirectory(prefix="bench-", dir=words.folder or TOP) as folder:
         folder = pathlib.Path(folder)
         timer, baseline = compiled(folder, "timer"), compiled(folder, "baseline")
-        snapd, many = TOP / "bin" / "snapd", trial("bench-store")
+        snapd, many = TOP / "bin" / "snapd", [PROGRAM, "store"]
         file, value, fresh, used, empty = (folder / name for name in ("F", "value", "fresh", "used", "empty"))
         value.write_bytes(b"v" * 1_000)
         empty.write_bytes(b"")

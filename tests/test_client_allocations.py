@@ -1,6 +1,6 @@
 """Each allocation of a client's calls is refused in turn: the call fails as `NoMemory`, and another client is answered.
-`try_parts bench-service` makes the calls and prints the last answer;
-the end-to-end tests want it built (`make programs`)."""
+`try_parts service-allocations` makes the calls and prints the last answer; the end-to-end tests want it built
+(`make programs`)."""
 
 from test_service_allocations import SEGMENTS, count, run
 

@@ -1,6 +1,6 @@
 """Each allocation of a node's answers is refused in turn: a scan and a status are refused `NoMemory`, and updates ask
-for none. `try_parts bench-service` makes the requests and prints the last reply; the end-to-end tests want it built
-(`make programs`)."""
+for none. `try_parts service-allocations` makes the requests and prints the last reply; the end-to-end tests want it
+built (`make programs`)."""
 
 import os
 import subprocess
@@ -14,7 +14,7 @@ SEGMENTS = 3
 
 def run(work, rounds, **env):
     """What a run over three segments with values of 40 bytes prints."""
-    words = trial("bench-service", work, SEGMENTS, rounds, 40)
+    words = trial("service-allocations", work, rounds)
     more = {"LD_PRELOAD": library("allocations"), **env}
     env = {**os.environ, **more}
     return subprocess.run(words, env=env, check=True, stdout=subprocess.PIPE, text=True, timeout=PATIENCE).stdout

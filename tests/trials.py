@@ -1,5 +1,5 @@
-"""The program crates/try_parts, which runs parts of the server for some tests and benchmarks (`make programs` builds
-it), and what the merge gate has it print."""
+"""The program crates/try_parts, which runs parts of the server for some tests (`make programs` builds it), and what it
+prints."""
 
 import pathlib
 import re

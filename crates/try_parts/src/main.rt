@@ -1,16 +1,12 @@
-//! Runs parts of the server by themselves, for tests and benchmarks: its first word says what it does.
+//! Runs parts of the server by themselves, for tests: its first word says what it does.
 //!
 //!     try_parts segment-sweep
 //!     try_parts restart-sweep
 //!     try_parts restart-threads
 //!     try_parts restart-allocations STEP
+//!     try_parts service-allocations WORK ROUNDS
 //!     try_parts plug ROUNDS SEED
 //!     try_parts server WORKERS MICROS [CONNECTIONS]
-//!     try_parts bench-store FILE COUNT
-//!     try_parts bench-world SEGMENTS ROUNDS LENGTH
-//!     try_parts bench-memory WORK SEGMENTS WRITERS ROUNDS LENGTH
-//!     try_parts bench-restart WORK FOLDER ROUNDS
-//!     try_parts bench-service WORK SEGMENTS ROUNDS LENGTH
 //!
 //! The head of each module describes its words.
 //!
@@ -20,11 +16,12 @@
 #![tactic(auto)]
 
 mod allocations;
-mod bench;
+mod calls;
 mod draw;
 mod files;
 mod plug;
 mod server;
+mod service;
 mod sweeps;
 mod threads;
 mod values;
@@ -37,18 +34,14 @@ use std::thread::Threads;
 use std::{env, io};
 
 /// The words of each run of `all`.
-const RUNS: [&str; 11] = [
+const RUNS: [&str; 7] = [
     "segment-sweep",
     "restart-sweep",
     "restart-threads",
     "restart-allocations scanned",
+    "service-allocations scan 2",
     "plug 200 7",
     "server 2 0 0",
-    "bench-store F 100",
-    "bench-world 2 3 8",
-    "bench-memory scan 3 2 50 8",
-    "bench-restart memory . 0",
-    "bench-service scan 3 2 8",
 ];
 
 /// Prints on standard error what the first word may be. That is always an error.
@@ -75,13 +68,9 @@ fn run<X: Threads + Wait + Clock + Net + Sync>(
         "restart-sweep" => sweeps::sweep_restart(rt),
         "restart-threads" => threads::crash_often(host, rt),
         "restart-allocations" => allocations::allocate(rt, words),
+        "service-allocations" => service::allocate(host, rt, words),
         "plug" => plug::pull_plug(host, rt, words),
         "server" => server::serve(host, rt, words),
-        "bench-store" => bench::store::measure_stores(rt, words),
-        "bench-world" => bench::world::measure_events(rt, words),
-        "bench-memory" => bench::memory::measure_memory(host, rt, words),
-        "bench-restart" => bench::restart::measure_restarts(rt, words),
-        "bench-service" => bench::service::measure_requests(host, rt, words),
         _ => explain(rt),
     }
 }

@@ -1,47 +1,36 @@
-//! Requests to a node over files in memory, and calls of clients, for `make bench` and for
-//! tests/test_service_allocations.py and tests/test_client_allocations.py.
+//! Requests to a node over files in memory.
 //!
-//!     try_parts bench-service update|scan|part|status SEGMENTS ROUNDS LENGTH
+//!     try_bench service update|scan|status SEGMENTS ROUNDS LENGTH
 //!
 //! updates each of SEGMENTS to number 1 with LENGTH bytes, makes the same request ROUNDS times, and
 //! prints its last reply. The update is that of the first segment to number 2: the first round
-//! stores it, and the others repeat it. A part is a scan of the first two segments.
+//! stores it, and the others repeat it.
 //!
-//!     try_parts bench-service call SEGMENTS ROUNDS LENGTH
-//!
-//! calls for an update, a status and a scan ROUNDS times, each on a connection in memory of its own
-//! that has the reply of such a server, and prints the last answer, or why there was none.
-//!
-//!     try_parts bench-service copy SEGMENTS ROUNDS LENGTH
+//!     try_bench service copy SEGMENTS ROUNDS LENGTH
 //!
 //! makes a plain copy of as many bytes ROUNDS times.
 ghost use Rattle.std.specs.Prelude.{◌≡◌, ◌<◌, ◌≤◌, length, IfOk};
-ghost use Rattle.snap_restart.specs.Closed.{AreBack};
 ghost use Rattle.snap_frame.specs.Messages.{IsAskable};
 ghost use Rattle.snap_service.specs.Memory.{AreWriters, IsOf};
 
-use crate::bench::calls::call_rounds;
 use crate::files::{new_memories, opened_all};
 use bytes::Bytes;
 use snap_devices::MemDisk;
-use snap_frame::{Reply, Request, SegmentSet};
+use snap_frame::{Reply, Request};
 use snap_memory::Scanner;
-use snap_restart::Store;
 use snap_service::{Memory, Node, Shared};
 use snap_session::Service;
 use snap_writer::Writer;
 use std::alloc::{AllocError, Global};
+use std::io;
 use std::marker::Brand;
 use std::sync::Wait;
-use std::{io, mem};
 
 /// The request of a round.
 #[derive(Clone, Copy)]
 enum Work {
     Update,
     Scan,
-    /// A scan of the first two segments.
-    Part,
     Status,
 }
 
@@ -73,7 +62,6 @@ fn request_of(alloc: Global, task: Task) -> Result<Request, AllocError>
     match task.work {
         Work::Update => update_of(alloc, 0, 2, task.length),
         Work::Scan => Ok(Request::Scan),
-        Work::Part => Ok(Request::Part(SegmentSet { bits: 3 })),
         Work::Status => Ok(Request::Status),
     }
 }
@@ -105,33 +93,15 @@ fn serve_rounds<M: Memory, R: Wait>(
     Ok(last)
 }
 
-/// All rounds, with a node of this store. The last reply.
-fn serve_store<R: Wait>(
-    rt: &R,
-    alloc: Global,
-    mut store: Store<MemDisk>,
-    task: Task,
-) -> Result<Option<Reply>, AllocError>
-    requires { AreBack store.writers.items store.scanners.items }
-{
-    let writers = mem::replace(&mut store.writers, Vec::new(alloc));
-    match store.scanners.pop() {
-        Some(scanner) => serve_rounds::<Brand, R>(rt, alloc, writers, scanner, task),
-        None => Err(AllocError),
-    }
-}
-
 /// All rounds, with a node over new files. The last reply.
 fn serve_files<R: Wait>(rt: &R, alloc: Global, task: Task) -> io::Result<Option<Reply>> {
-    if task.segments > 16 {
-        return Err(io::Error::other("there are at most 16 segments"));
-    }
-    if task.segments == 0 {
-        return Err(io::Error::other("1 to 16 segments are wanted"));
-    }
     let devices = new_memories(alloc, task.segments)?;
     let store = opened_all(alloc, devices, 1)?;
-    Ok(serve_store(rt, alloc, store, task)?)
+    let (writers, mut scanners) = store.into_parts();
+    let Some(scanner) = scanners.pop() else {
+        return Err(io::Error::other("a scanner is missing"));
+    };
+    Ok(serve_rounds::<Brand, R>(rt, alloc, writers, scanner, task)?)
 }
 
 /// Copies `len` bytes `rounds` times. Returns a number made of the bytes, so that they are read.
@@ -150,7 +120,7 @@ fn copy(alloc: Global, len: usize, rounds: u64) -> Result<u8, AllocError> {
     Ok(read)
 }
 
-/// Prints the reply.
+/// Prints the reply. A refusal isn't timed.
 fn print_reply(rt: &HostRuntime, reply: Option<Reply>) -> io::Result<()> {
     match reply {
         None => println!(rt; "no reply"),
@@ -159,18 +129,11 @@ fn print_reply(rt: &HostRuntime, reply: Option<Reply>) -> io::Result<()> {
             let count = values.len();
             println!(rt; "snapshot of {count}")
         }
-        Some(Reply::Part(values)) => {
-            let count = values.len();
-            println!(rt; "part of {count}")
-        }
         Some(Reply::Status(statuses)) => {
             let count = statuses.len();
             println!(rt; "status of {count}")
         }
-        Some(Reply::Refused { why, detail }) => {
-            let name = why.name();
-            println!(rt; "refused {name} {detail}")
-        }
+        Some(_) => Err(io::Error::other("a request was refused")),
     }
 }
 
@@ -192,15 +155,13 @@ pub(crate) fn measure_requests<X: Wait>(
     let work = match *name {
         "update" => Work::Update,
         "scan" => Work::Scan,
-        "part" => Work::Part,
         "status" => Work::Status,
         "copy" => {
             let len = usize::from(segments) * usize::from(length);
             let read = copy(rt.alloc(), len, rounds)?;
             return println!(rt; "copied {read}");
         }
-        "call" => return print_calls(rt, segments, rounds, length),
-        _ => return Err(io::Error::other("WORK is update, scan, part, status, call or copy")),
+        _ => return Err(io::Error::other("WORK is update, scan, status or copy")),
     };
     let task = Task {
         work,
@@ -209,13 +170,4 @@ pub(crate) fn measure_requests<X: Wait>(
         length: usize::from(length),
     };
     print_reply(rt, serve_files(host, rt.alloc(), task)?)
-}
-
-/// Prints the results of the calls.
-fn print_calls(rt: &HostRuntime, segments: u8, rounds: u64, length: u16) -> io::Result<()> {
-    match call_rounds(rt.alloc(), segments, rounds, length)? {
-        Some(Ok(reply)) => print_reply(rt, Some(reply)),
-        Some(Err(fault)) => println!(rt; "fault {fault:?}"),
-        None => print_reply(rt, None),
-    }
 }

@@ -1,13 +1,12 @@
-//! Times updates beside bare stores, and openings of all files beside bare syncs and reads, in one
-//! process, for `make bench`.
+//! Times updates beside bare stores, and openings of all files beside bare syncs and reads, in one process.
 //!
-//!     try_parts bench-restart file FOLDER ROUNDS
-//!     try_parts bench-restart memory FOLDER ROUNDS
+//!     try_bench restart file FOLDER ROUNDS
+//!     try_bench restart memory FOLDER ROUNDS
 //!
 //! makes two files in FOLDER, or two devices in memory, and in each round a store on one and an
 //! update on the other, of 1,000 bytes. It prints the nanoseconds of both, a line a round.
 //!
-//!     try_parts bench-restart open FOLDER ROUNDS
+//!     try_bench restart open FOLDER ROUNDS
 //!
 //! makes the files of 16 segments in FOLDER, opens all of them for 16 scanners in each round, and then
 //! syncs and reads each of them. It prints the nanoseconds of both, a line a round.
@@ -32,7 +31,7 @@ const VALUE: [u8; 1000] = [7; 1000];
 
 pub(crate) fn measure_restarts(rt: &HostRuntime, words: &[&str]) -> io::Result<()> {
     let [work, folder, rounds] = words else {
-        return Err(io::Error::other("wanted: bench-restart WORK FOLDER ROUNDS"));
+        return Err(io::Error::other("wanted: restart WORK FOLDER ROUNDS"));
     };
     let Ok(rounds) = rounds.parse::<u64>() else {
         return Err(io::Error::other("ROUNDS is a number"));

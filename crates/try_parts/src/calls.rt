@@ -1,7 +1,4 @@
 //! Calls of clients whose peer's replies are there already.
-ghost use Rattle.std.specs.Prelude.{◌≤◌, length};
-ghost use Rattle.snap_frame.specs.Messages.{max_payload, payload, IsAskable};
-
 use bytes::Bytes;
 use snap_client::{Client, ClientFault};
 use snap_frame::{Reply, Request};
@@ -32,22 +29,20 @@ struct Frames {
 
 /// The payload after its length.
 fn frame_of(alloc: Global, payload: &[u8]) -> Result<Vec<u8>, AllocError> {
-    let len = u32::try_from(payload.len()).unwrap_or(0);
-    let mut frame = Vec::from_slice(alloc, &len.to_be_bytes())?;
+    let mut frame = Vec::from_slice(alloc, &(payload.len() as u32).to_be_bytes())?;
     frame.extend_from_slice(payload)?;
     Ok(frame)
 }
 
-/// The replies of a server of `segments` segments, each at number 1 with `length` bytes.
-fn replies(alloc: Global, segments: u8, length: u16) -> Result<Frames, AllocError> {
-    let value = vec![in alloc; 7u8; usize::from(length)]?;
+/// The replies of a server of `segments` segments, each at number 1 with this value.
+fn replies(alloc: Global, segments: u8, value: &[u8]) -> Result<Frames, AllocError> {
     let mut status = Vec::from_slice(alloc, &[0x83, segments])?;
     let mut snapshot = Vec::from_slice(alloc, &[0x82, segments])?;
     for _ in 0..segments {
         status.extend_from_slice(&[0, 0, 0, 0, 0, 0, 0, 1, 0])?;
         snapshot.extend_from_slice(&[0, 0, 0, 0, 0, 0, 0, 1])?;
-        snapshot.extend_from_slice(&u32::from(length).to_be_bytes())?;
-        snapshot.extend_from_slice(&value)?;
+        snapshot.extend_from_slice(&(value.len() as u32).to_be_bytes())?;
+        snapshot.extend_from_slice(value)?;
     }
     Ok(Frames {
         stored: frame_of(alloc, &[0x81, 0, 0, 0, 0, 0, 0, 0, 1])?,
@@ -57,40 +52,30 @@ fn replies(alloc: Global, segments: u8, length: u16) -> Result<Frames, AllocErro
 }
 
 /// One request on a connection of its own.
-fn call_once(alloc: Global, request: &Request, reply: &[u8]) -> Result<Reply, ClientFault>
-    requires fits { length (payload request.now) ≤ max_payload }
-    requires askable { IsAskable request.now }
-{
-    let mut client = Client::new(alloc, reply, Nowhere);
-    client.call(request)
+fn call_once(alloc: Global, request: &Request, reply: &[u8]) -> Result<Reply, ClientFault> {
+    Client::new(alloc, reply, Nowhere).call(request)
 }
 
 /// The three requests. The last answer, or the first fault.
-fn call_each(alloc: Global, update: &Request, frames: &Frames) -> Result<Reply, ClientFault>
-    requires fits { length (payload update.now) ≤ max_payload }
-    requires askable { IsAskable update.now }
-{
+fn call_each(alloc: Global, update: &Request, frames: &Frames) -> Result<Reply, ClientFault> {
     let _ = call_once(alloc, update, &frames.stored)?;
     let _ = call_once(alloc, &Request::Status, &frames.status)?;
     call_once(alloc, &Request::Scan, &frames.snapshot)
 }
 
-/// An update, a status and a scan, `rounds` times. Returns the results of the last time.
+/// An update, a status and a scan of a server of `segments` segments with this value each, `rounds` times. Returns the
+/// results of the last time.
 pub(crate) fn call_rounds(
     alloc: Global,
     segments: u8,
+    value: &[u8],
     rounds: u64,
-    length: u16,
 ) -> Result<Option<Result<Reply, ClientFault>>, AllocError> {
-    let frames = replies(alloc, segments, length)?;
-    let value = Bytes::copy_from_slice(alloc, b"hi")?;
-    if value.len() != 2 {
-        return Ok(None);
-    }
+    let frames = replies(alloc, segments, value)?;
     let update = Request::Update {
         segment: 0,
         number: 1,
-        value,
+        value: Bytes::copy_from_slice(alloc, b"hi")?,
     };
     let mut last = None;
     for _ in 0..rounds {

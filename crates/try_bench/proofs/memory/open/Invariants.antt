@@ -1,6 +1,6 @@
 use Rattle.std.proofs.Common.{◌≡◌, ℕ, length, Some, slice_get, Vec, Global}
 use Rattle.snap_history.specs.Limits.{IsNumber, IsShort}
-use Rattle.try_parts.proofs.bench.memory.open.Given as goal
+use Rattle.try_bench.proofs.memory.open.Given as goal
 
 abbrev pub invariant-loop : goal.invariant-loop
 invariant-loop l = record {

@@ -1,7 +1,6 @@
-//! Stores many values in one process, for `make bench`, which times it against the bare system
-//! calls.
+//! Stores many values in one process, which `make bench` times against the bare system calls.
 //!
-//!     try_parts bench-store FILE COUNT
+//!     try_bench store FILE COUNT
 //!
 //! makes and formats FILE, stores COUNT values of 1,000 bytes and prints the last number.
 use snap_devices::FileDisk;
@@ -28,7 +27,7 @@ fn store_often(rt: &HostRuntime, file: &str, count: u64) -> Result<u64, Refusal>
 
 pub(crate) fn measure_stores(rt: &HostRuntime, words: &[&str]) -> io::Result<()> {
     let [file, count] = words else {
-        return Err(io::Error::other("wanted: bench-store FILE COUNT"));
+        return Err(io::Error::other("wanted: store FILE COUNT"));
     };
     let Ok(count) = count.parse::<u64>() else {
         return Err(io::Error::other("COUNT is a number"));

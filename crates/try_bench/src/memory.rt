@@ -1,13 +1,12 @@
-//! Looks, scans and updates of one memory, for `make bench`, which times them against
-//! bench/baseline_memory.c.
+//! Looks, scans and updates of one memory, which `make bench` times against bench/baseline_memory.c.
 //!
-//!     try_parts bench-memory look|scan|update SEGMENTS WRITERS ROUNDS LENGTH
+//!     try_bench memory look|scan|update SEGMENTS WRITERS ROUNDS LENGTH
 //!
 //! does ROUNDS looks at the first register, scans, or updates of the last segment, over values of
 //! LENGTH bytes, while WRITERS of the other segments make updates in threads of their own, and
 //! prints how many rounds it did.
 //!
-//!     try_parts bench-memory fill SEGMENTS 0 0 LENGTH
+//!     try_bench memory fill SEGMENTS 0 0 LENGTH
 //!
 //! opens a memory for the most scanners, prints `open`, waits for a line, uses the buffers, prints
 //! `used` and waits for another line, so that the process can be measured before and after.
@@ -62,6 +61,7 @@ fn open(alloc: Global, segments: usize, scanners: usize, value: &[u8]) -> Result
 }
 
 /// An update, its scan and its publication. Whether the seat had looks and numbers for it.
+#[tactic(auto, using(snap_writer::proofs::Shown::may_still))]
 fn update(writer: &mut WriteSeat, value: &[u8]) -> bool {
     if value.len() > MAX_VALUE_LEN || writer.looks_left() < most_looks(writer.segments()) as u64 {
         return false;
@@ -237,7 +237,7 @@ pub(crate) fn measure_memory<X: Threads + Sync>(
     words: &[&str],
 ) -> io::Result<()> {
     let [work, segments, writers, rounds, length] = words else {
-        return Err(io::Error::other("wanted: bench-memory WORK SEGMENTS WRITERS ROUNDS LENGTH"));
+        return Err(io::Error::other("wanted: memory WORK SEGMENTS WRITERS ROUNDS LENGTH"));
     };
     let (Ok(segments), Ok(writers), Ok(rounds), Ok(length)) = (
         segments.parse::<usize>(),

@@ -1,6 +1,6 @@
-//! Runs rounds of events on one world, for `make bench`.
+//! Runs rounds of events on one world.
 //!
-//!     try_parts bench-world SEGMENTS ROUNDS LENGTH
+//!     try_bench world SEGMENTS ROUNDS LENGTH
 //!
 //! has in each round each writer make an update of LENGTH bytes whole, device calls included, and
 //! then a scanner scan. It prints how many events were done.
@@ -54,7 +54,7 @@ fn run_rounds(alloc: Global, segments: usize, rounds: u64, length: usize) -> Res
 
 pub(crate) fn measure_events(rt: &HostRuntime, words: &[&str]) -> io::Result<()> {
     let [segments, rounds, length] = words else {
-        return Err(io::Error::other("wanted: bench-world SEGMENTS ROUNDS LENGTH"));
+        return Err(io::Error::other("wanted: world SEGMENTS ROUNDS LENGTH"));
     };
     let (Ok(segments), Ok(rounds), Ok(length)) = (
         segments.parse::<usize>(),
