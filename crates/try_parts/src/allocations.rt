@@ -5,16 +5,11 @@
 //!
 //! ends after that step, so that the allocations of each step can be counted. After an opening that
 //! is refused the machine crashes, and the files are opened again.
-ghost use Rattle.std.specs.Prelude.{◌≡◌, ◌<◌, ◌≤◌, length, IfOk};
-ghost use Rattle.snap_register.specs.Seat.{AreTogether};
-ghost use Rattle.snap_restart.specs.Closed.{AreBack};
-
-use crate::files::{new_memories, try_open_all};
+use crate::files::new_memories;
 use snap_devices::MemDisk;
-use snap_disk::{Fill, Refusal};
-use snap_memory::{Scanner, Snapshot};
-use snap_restart::Store;
-use snap_writer::Writer;
+use snap_disk::Fill;
+use snap_memory::Snapshot;
+use snap_restart::{Store, open_all};
 use std::io;
 
 const FILES: u8 = 3;
@@ -46,10 +41,8 @@ fn step_of(word: &str) -> Option<Step> {
 }
 
 /// Opens the files with one scanner. If that is refused, prints that, crashes the machine, and opens them again.
-fn open(rt: &HostRuntime, devices: Vec<MemDisk>) -> io::Result<Store<MemDisk>>
-    ensures back { IfOk result (λ s. AreBack s.writers.items s.scanners.items) }
-{
-    let mut stopped = match try_open_all(rt.alloc(), devices, 1)? {
+fn open(rt: &HostRuntime, devices: Vec<MemDisk>) -> io::Result<Store<MemDisk>> {
+    let mut stopped = match open_all(rt.alloc(), devices, 1) {
         Ok((store, report)) => {
             print!(rt; "{report}")?;
             return Ok(store);
@@ -62,7 +55,7 @@ fn open(rt: &HostRuntime, devices: Vec<MemDisk>) -> io::Result<Store<MemDisk>>
     for disk in &mut stopped.devices {
         disk.crash(&Fill::All(0xA5));
     }
-    match try_open_all(rt.alloc(), stopped.devices, 1)? {
+    match open_all(rt.alloc(), stopped.devices, 1) {
         Ok((store, report)) => {
             print!(rt; "{report}")?;
             Ok(store)
@@ -79,41 +72,25 @@ fn print_calls(rt: &HostRuntime, devices: &Vec<MemDisk>) -> io::Result<()> {
     println!(rt)
 }
 
-/// The first writer's update.
-#[tactic(auto, using(snap_restart::proofs::Kept::back_updated))]
-fn update(store: &mut Store<MemDisk>, number: u64, value: &[u8]) -> Result<u64, Refusal>
-    requires back { AreBack store.old.writers.items store.old.scanners.items }
-    ensures back { AreBack store.new.writers.items store.new.scanners.items }
-{
-    store.writers[0].update(number, value)
-}
-
 /// All updates of the first segment. Whether each got its number, also when it was sent again.
-fn update_all(store: &mut Store<MemDisk>) -> bool
-    requires back { AreBack store.old.writers.items store.old.scanners.items }
-    ensures back { AreBack store.new.writers.items store.new.scanners.items }
-{
-    let mut right = true;
-    for done in 0..UPDATES {
-        let number = done + 1;
+fn update_all(store: &mut Store<MemDisk>) -> bool {
+    let (writer, mut right) = (&mut store.writers[0], true);
+    for number in 1..=UPDATES {
         let value = number.to_be_bytes();
-        right &= update(store, number, &value) == Ok(number);
-        right &= update(store, number, &value) == Ok(number);
+        right &= writer.update(number, &value) == Ok(number);
+        right &= writer.update(number, &value) == Ok(number);
     }
     right
 }
 
-/// One more update by the writer, and a scan that has it.
-fn scan(writer: &mut Writer<MemDisk>, scanner: &mut Scanner, out: &mut Snapshot) -> bool
-    requires together { AreTogether scanner.old writer.old.seat }
-{
-    let next = writer.number().saturating_add(1);
+/// One more update by the first writer, and a scan that has it.
+fn scan(store: &mut Store<MemDisk>, out: &mut Snapshot) -> bool {
+    let (writer, scanner) = (&mut store.writers[0], &mut store.scanners[0]);
+    let next = writer.number() + 1;
     let stored = writer.update(next, b"hi") == Ok(next);
     writer.meet(scanner);
-    if out.len() != scanner.segments() || scanner.scan_into(out).is_err() || out.len() < 1 {
-        return false;
-    }
-    stored && out.number(0) == next && out.value(0) == b"hi".as_slice()
+    let answered = scanner.scan_into(out).is_ok();
+    stored && answered && out.number(0) == next && out.value(0) == b"hi".as_slice()
 }
 
 /// Everything up to that step.
@@ -142,14 +119,7 @@ fn run_to(rt: &HostRuntime, step: Step) -> io::Result<()> {
     if step == Step::Reopened {
         return Ok(());
     }
-    println!(rt; "scanned {}", scan_first(&mut store, &mut out))
-}
-
-/// A scan beside the first writer.
-fn scan_first(store: &mut Store<MemDisk>, out: &mut Snapshot) -> bool
-    requires back { AreBack store.old.writers.items store.old.scanners.items }
-{
-    scan(&mut store.writers[0], &mut store.scanners[0], out)
+    println!(rt; "scanned {}", scan(&mut store, &mut out))
 }
 
 pub(crate) fn allocate(rt: &HostRuntime, words: &[&str]) -> io::Result<()> {

@@ -1,6 +1,4 @@
 //! Numbers drawn from a seed.
-ghost use Rattle.std.specs.Prelude.{◌<◌};
-
 use snap_disk::Fill;
 
 /// A fixed sequence of numbers for each seed: the linear congruential generator of Knuth's MMIX.
@@ -11,10 +9,7 @@ pub struct Draw {
 
 impl Draw {
     /// The next number, below `bound`.
-    pub fn below(&mut self, bound: u64) -> u64
-        requires { 0 < bound }
-        ensures { result < bound }
-    {
+    pub fn below(&mut self, bound: u64) -> u64 {
         self.state = self
             .state
             .wrapping_mul(6_364_136_223_846_793_005)

@@ -83,7 +83,7 @@ fn print_stop(rt: &HostRuntime, stop: Stop, first: u64) -> io::Result<()> {
     match stop.fault {
         None => print!(rt; "stop behind {}", stop.passes),
         Some(garbage) => {
-            let (call, name) = (stop.passes.saturating_add(first), garbage.name());
+            let (call, name) = (stop.passes + first, garbage.name());
             print!(rt; "call {call} fails {name}")
         }
     }

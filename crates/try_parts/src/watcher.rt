@@ -1,8 +1,4 @@
 //! A reader of scans, in a thread of its own.
-ghost use Rattle.std.specs.Prelude.{◌≡◌, ◌<◌, IfOk, IsTrue};
-ghost use Rattle.snap_register.specs.Seat.{Grows};
-ghost use Rattle.snap_memory.specs.Scans.{IsSnapshot};
-
 use crate::values::{Numbers, SEGMENTS, is_value_of};
 use snap_memory::{Scanner, Snapshot};
 use std::alloc::{AllocError, Global};
@@ -13,7 +9,7 @@ use std::thread::yield_now;
 #[derive(Drop)]
 pub struct Watcher {
     pub scanner: Scanner,
-    pub snapshot: Snapshot,
+    snapshot: Snapshot,
     /// The numbers of its last scan.
     pub shown: Numbers,
     /// Whether each scan was answered, no number fell, and each value was the one of its number.
@@ -22,9 +18,7 @@ pub struct Watcher {
 
 impl Watcher {
     /// A reader of this scanner's scans, after one that showed these numbers.
-    pub fn new(alloc: Global, scanner: Scanner, shown: Numbers) -> Result<Watcher, AllocError>
-        ensures scanner { IfOk result (λ w. w.scanner ≡ scanner) }
-    {
+    pub fn new(alloc: Global, scanner: Scanner, shown: Numbers) -> Result<Watcher, AllocError> {
         Ok(Watcher {
             scanner,
             snapshot: Snapshot::new(alloc, SEGMENTS)?,
@@ -33,36 +27,15 @@ impl Watcher {
         })
     }
 
-    /// One scan. Its snapshot is the memory of one moment of what the scanner has seen then.
-    pub fn scan(&mut self)
-        ensures seen { Grows self.old.scanner self.new.scanner }
-        ensures snapshot { IsTrue self.new.is_right
-            → IsSnapshot self.old.scanner self.new.scanner self.new.snapshot }
-    {
-        if self.snapshot.len() != self.scanner.segments() || self.snapshot.len() != SEGMENTS {
-            self.is_right = false;
-            return;
-        }
+    /// One scan.
+    pub fn scan(&mut self) {
         self.is_right &= self.scanner.scan_into(&mut self.snapshot) == Ok(());
         for segment in 0..SEGMENTS {
-            self.read(segment);
+            let number = self.snapshot.number(segment);
+            let value = self.snapshot.value(segment);
+            self.is_right &= self.shown[segment] <= number && is_value_of(segment, number, value);
+            self.shown[segment] = number;
         }
-    }
-
-    /// The number and the value of one segment.
-    fn read(&mut self, segment: usize)
-        requires { segment < SEGMENTS }
-        ensures scanner { self.new.scanner ≡ self.old.scanner }
-        ensures snapshot { self.new.snapshot ≡ self.old.snapshot }
-        ensures right { IsTrue self.new.is_right → IsTrue self.old.is_right }
-    {
-        if segment >= self.snapshot.len() {
-            return;
-        }
-        let number = self.snapshot.number(segment);
-        let value = self.snapshot.value(segment);
-        self.is_right &= self.shown[segment] <= number && is_value_of(segment, number, value);
-        self.shown[segment] = number;
     }
 }
 

@@ -63,7 +63,7 @@ impl Plug {
     /// The outcome of the next call. Some calls yield to other threads before they are done, so that the plug is pulled
     /// in the midst of them also on one processor.
     pub fn next(&self) -> Fate {
-        let call = self.asked.fetch_add(1, Ordering::SeqCst).saturating_add(1);
+        let call = self.asked.fetch_add(1, Ordering::SeqCst) + 1;
         if call > self.pull.call || call == self.pull.call && !self.pull.is_done {
             return Fate::Lost;
         }

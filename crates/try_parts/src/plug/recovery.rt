@@ -1,7 +1,4 @@
 //! An opening of all files, and the check of the recovered values.
-ghost use Rattle.std.specs.Prelude.{◌<◌};
-
-use crate::files::try_open_all;
 use crate::plug::device::Plugged;
 use crate::plug::pull::{Plug, Pull};
 use crate::plug::tally::Tally;
@@ -9,9 +6,9 @@ use crate::plug::worker::Place;
 use crate::values::{Numbers, SEGMENTS, is_value_of};
 use snap_devices::MemDisk;
 use snap_disk::Refusal;
-use snap_restart::Store;
+use snap_restart::{Store, open_all};
 use snap_writer::Writer;
-use std::alloc::{AllocError, Global};
+use std::alloc::Global;
 use std::io;
 
 pub(crate) const SCANNERS: usize = 2;
@@ -55,37 +52,16 @@ pub enum Opened {
     Cut(Vec<Plugged>),
 }
 
-/// This plug for each of `devices` devices.
-fn plugs_of(alloc: Global, plug: &Plug, devices: usize) -> Result<Vec<Plug>, AllocError> {
-    let mut plugs = Vec::new(alloc);
-    for _ in 0..devices {
-        plugs.push(plug.for_device(alloc)?)?;
-    }
-    Ok(plugs)
-}
-
-/// Each device at its plug.
-fn plug_in(
-    alloc: Global,
-    devices: Vec<MemDisk>,
-    plugs: &Vec<Plug>,
-) -> Result<Vec<Plugged>, AllocError> {
-    let mut plugged = Vec::new(alloc);
-    let mut plugs = plugs.iter();
-    for disk in devices {
-        if let Some(plug) = plugs.next() {
-            plugged.push(Plugged::new(disk, plug.copied()?))?;
-        }
-    }
-    Ok(plugged)
-}
-
 /// Opens all files. Nothing else than the plug may stop that.
 pub(crate) fn open(alloc: Global, devices: Vec<MemDisk>, pull: Pull) -> io::Result<Opened> {
     let plug = Plug::new(alloc, pull)?;
-    let client_plugs = plugs_of(alloc, &plug, devices.len())?;
-    let devices = plug_in(alloc, devices, &client_plugs)?;
-    match try_open_all(alloc, devices, SCANNERS)? {
+    let (mut plugged, mut client_plugs) = (Vec::new(alloc), Vec::new(alloc));
+    for disk in devices {
+        let client_plug = plug.for_device(alloc)?;
+        plugged.push(Plugged::new(disk, client_plug.copied()?))?;
+        client_plugs.push(client_plug)?;
+    }
+    match open_all(alloc, plugged, SCANNERS) {
         Ok((store, _)) => Ok(Opened::Whole(Machine {
             store,
             plug,
@@ -102,9 +78,7 @@ pub(crate) fn open(alloc: Global, devices: Vec<MemDisk>, pull: Pull) -> io::Resu
 
 /// Whether the recovered numbers and values are allowed: nothing is lost that was acknowledged or shown, and nothing is
 /// there that wasn't begun.
-fn is_allowed(writer: &Writer<Plugged>, segment: usize, past: &Past) -> bool
-    requires { segment < SEGMENTS }
-{
+fn is_allowed(writer: &Writer<Plugged>, segment: usize, past: &Past) -> bool {
     let number = writer.number();
     past.least[segment] <= number
         && number <= past.most[segment]
@@ -112,9 +86,7 @@ fn is_allowed(writer: &Writer<Plugged>, segment: usize, past: &Past) -> bool
 }
 
 /// Writes the recovered numbers and the allowed ones in the 80 characters that an error may have.
-fn wrong(alloc: Global, writer: &Writer<Plugged>, segment: usize, past: &Past) -> io::Error
-    requires { segment < SEGMENTS }
-{
+fn wrong(alloc: Global, writer: &Writer<Plugged>, segment: usize, past: &Past) -> io::Error {
     let (number, least, most) = (writer.number(), past.least[segment], past.most[segment]);
     let is_right = is_value_of(segment, number, writer.value());
     let said = format!(in alloc;
@@ -138,9 +110,6 @@ pub(crate) fn judge(
         return Err(io::Error::other("a writer is missing"));
     }
     for (segment, writer) in writers.iter().enumerate() {
-        if segment >= SEGMENTS {
-            return Err(io::Error::other("there is a writer more"));
-        }
         if !is_allowed(writer, segment, past) {
             return Err(wrong(alloc, writer, segment, past));
         }

@@ -1,6 +1,4 @@
 //! The rounds: two starts of a machine, each ended by a crash.
-ghost use Rattle.std.specs.Prelude.{◌+◌, ◌^◌, ◌<◌};
-
 use crate::draw::Draw;
 use crate::files::new_memories;
 use crate::plug::device::Plugged;
@@ -31,10 +29,7 @@ struct Course {
 }
 
 /// One of the `calls` after the first `passed` ones pulls the plug.
-fn pull(draw: &mut Draw, passed: u64, calls: u64) -> Pull
-    requires calls { 0 < calls }
-    requires room { passed + calls < 2 ^ 64 }
-{
+fn pull(draw: &mut Draw, passed: u64, calls: u64) -> Pull {
     Pull {
         call: passed + 1 + draw.below(calls),
         is_done: draw.below(2) == 1,
@@ -93,7 +88,7 @@ fn start_idle(
             Ok(devices_of(alloc, store.writers)?)
         }
         Opened::Cut(devices) => {
-            course.tally.count_opening();
+            course.tally.openings += 1;
             Ok(unplugged(alloc, devices)?)
         }
     }
@@ -150,7 +145,7 @@ pub(crate) fn pull_often<X: Threads + Sync>(
     let mut course = Course {
         draw: Draw { state: seed },
         past: Past::at([0; SEGMENTS]),
-        tally: Tally::new(),
+        tally: Tally::default(),
     };
     for _ in 0..rounds {
         devices = start_work(host, alloc, devices, &mut course)?;

@@ -1,48 +1,15 @@
 //! Updates and scans at once, until the plug is pulled, and what their readers know then.
-ghost use Rattle.std.specs.Prelude.{◌<◌};
-
 use crate::plug::device::Plugged;
-use crate::plug::pull::Plug;
 use crate::plug::recovery::{Machine, Past, SCANNERS};
 use crate::plug::worker::{Client, Place, Worker, work};
 use crate::values::{Numbers, SEGMENTS};
 use crate::watcher::Watcher;
 use snap_devices::MemDisk;
-use snap_memory::Scanner;
 use snap_writer::Writer;
 use std::alloc::{AllocError, Global};
 use std::io;
 use std::sync::atomic::AtomicU64;
 use std::thread::{Threads, for_each_mut};
-
-/// A client at each writer, with the plug of its device.
-fn clients_of(
-    workers: &mut Vec<Worker>,
-    writers: Vec<Writer<Plugged>>,
-    plugs: Vec<Plug>,
-) -> Result<(), AllocError> {
-    let mut plugs = plugs.into_iter();
-    for writer in writers {
-        if let Some(plug) = plugs.next() {
-            let segment = workers.len();
-            workers.push(Worker::Client(Client::new(segment, writer, plug)))?;
-        }
-    }
-    Ok(())
-}
-
-/// A reader of each scanner's scans, which begin at these numbers.
-fn watchers_of(
-    alloc: Global,
-    workers: &mut Vec<Worker>,
-    scanners: Vec<Scanner>,
-    shown: Numbers,
-) -> Result<(), AllocError> {
-    for scanner in scanners {
-        workers.push(Worker::Watcher(Watcher::new(alloc, scanner, shown)?))?;
-    }
-    Ok(())
-}
 
 /// Runs the machine, whose files have these numbers, until its plug is pulled.
 pub(crate) fn run<R: Threads + Sync>(
@@ -57,8 +24,12 @@ pub(crate) fn run<R: Threads + Sync>(
         client_plugs,
     } = machine;
     let mut workers = Vec::new(alloc);
-    clients_of(&mut workers, store.writers, client_plugs)?;
-    watchers_of(alloc, &mut workers, store.scanners, numbers)?;
+    for (writer, plug) in store.writers.into_iter().zip(client_plugs) {
+        workers.push(Worker::Client(Client::new(writer, plug)))?;
+    }
+    for scanner in store.scanners {
+        workers.push(Worker::Watcher(Watcher::new(alloc, scanner, numbers)?))?;
+    }
     let arrived = AtomicU64::new(0);
     let count = SEGMENTS + SCANNERS;
     for_each_mut(
@@ -75,13 +46,14 @@ fn told_by(workers: &Vec<Worker>) -> io::Result<Past> {
     let mut past = Past::at([0; SEGMENTS]);
     for worker in workers {
         if let Worker::Client(client) = worker {
-            if !client.is_right || client.segment >= SEGMENTS {
+            if !client.is_right {
                 return Err(io::Error::other("an update was answered wrongly"));
             }
             let is_begun = client.place == Place::InStore;
-            past.least[client.segment] = client.told;
-            past.most[client.segment] = client.told.saturating_add(is_begun as u64);
-            past.places[client.segment] = client.place;
+            let segment = client.writer.segment();
+            past.least[segment] = client.told;
+            past.most[segment] = client.told + is_begun as u64;
+            past.places[segment] = client.place;
         }
     }
     Ok(past)

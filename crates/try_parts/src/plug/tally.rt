@@ -6,7 +6,7 @@ use std::io;
 
 /// How many rounds pulled the plug while some writer was at each place, and which values came back of the interrupted
 /// stores.
-#[derive(Clone, Copy)]
+#[derive(Clone, Copy, Default)]
 pub struct Tally {
     pub rounds: u64,
     /// Rounds with a writer at rest.
@@ -30,54 +30,29 @@ pub struct Tally {
 }
 
 impl Tally {
-    /// Nothing was counted yet.
-    pub fn new() -> Tally {
-        Tally {
-            rounds: 0,
-            at_rest: 0,
-            in_store: 0,
-            before_answer: 0,
-            old: 0,
-            new: 0,
-            openings: 0,
-            kept: 0,
-            alike: 0,
-            torn: 0,
-        }
-    }
-
     /// Counts a round by where its writers were.
     pub fn count(&mut self, places: &[Place; SEGMENTS]) {
-        count_up(&mut self.rounds, true);
-        count_up(&mut self.at_rest, places.contains(&Place::AtRest));
-        count_up(&mut self.in_store, places.contains(&Place::InStore));
-        count_up(
-            &mut self.before_answer,
-            places.contains(&Place::BeforeAnswer),
-        );
+        self.rounds += 1;
+        self.at_rest += places.contains(&Place::AtRest) as u64;
+        self.in_store += places.contains(&Place::InStore) as u64;
+        self.before_answer += places.contains(&Place::BeforeAnswer) as u64;
     }
 
     /// Counts the recovered value of a writer that was at this place.
     pub fn count_back(&mut self, place: Place, is_new: bool) {
         if place == Place::InStore {
-            count_up(&mut self.new, is_new);
-            count_up(&mut self.old, !is_new);
+            self.new += is_new as u64;
+            self.old += !is_new as u64;
         }
-    }
-
-    /// Counts an opening that was interrupted.
-    pub fn count_opening(&mut self) {
-        count_up(&mut self.openings, true);
     }
 
     /// Counts a crash of a file by this fill.
     pub fn count_fill(&mut self, fill: &Fill) {
-        let count = match fill {
-            Fill::Keep => &mut self.kept,
-            Fill::All(_) => &mut self.alike,
-            Fill::At(_, _) => &mut self.torn,
-        };
-        count_up(count, true);
+        match fill {
+            Fill::Keep => self.kept += 1,
+            Fill::All(_) => self.alike += 1,
+            Fill::At(_, _) => self.torn += 1,
+        }
     }
 
     /// Prints the counts in three lines, on standard error.
@@ -101,11 +76,5 @@ impl Tally {
             {openings} openings were cut too\n\
             crashes left the bytes of {kept} files, one byte at the open places of {alike}, and tore {torn}"
         )
-    }
-}
-
-fn count_up(count: &mut u64, does: bool) {
-    if does {
-        *count = count.saturating_add(1);
     }
 }

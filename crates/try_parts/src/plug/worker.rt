@@ -31,7 +31,6 @@ pub struct Client {
     pub writer: Writer<Plugged>,
     /// The plug of the writer's device.
     pub plug: Plug,
-    pub segment: usize,
     /// The number of the last update that was answered.
     pub told: u64,
     /// Where the writer was when the plug was pulled.
@@ -49,12 +48,11 @@ pub enum Worker {
 
 impl Client {
     /// A client of this writer, which is at rest.
-    pub fn new(segment: usize, writer: Writer<Plugged>, plug: Plug) -> Client {
+    pub fn new(writer: Writer<Plugged>, plug: Plug) -> Client {
         Client {
             told: writer.number(),
             writer,
             plug,
-            segment,
             place: Place::AtRest,
             is_right: true,
         }
@@ -62,9 +60,10 @@ impl Client {
 
     /// The next update. Whether it was answered before the plug was pulled.
     fn send(&mut self) -> bool {
-        let next = self.told.saturating_add(1);
+        let next = self.told + 1;
         let done = self.plug.done();
-        match self.writer.update(next, &value_of(self.segment, next)) {
+        let value = value_of(self.writer.segment(), next);
+        match self.writer.update(next, &value) {
             Ok(stored) => {
                 self.is_right &= stored == next;
                 self.told = next;

@@ -57,9 +57,7 @@ pub(crate) struct Desk<'a, R: Wait> {
 impl<R: Wait> Service for Desk<'_, R> {
     type Outcome = u64;
 
-    ghost use Rattle.snap_frame.specs.Messages.{IsInLimits};
-
-    ghost gives = { λ old q r new. IsInLimits r };
+    ghost gives = { λ old request reply new. Unit {0} };
 
     ghost hands_over = { Unit {0} };
 

@@ -39,7 +39,7 @@ pub(crate) fn migration_cell(
         new.set_plan(stop.plan(alloc, 0)?);
     }
     let words = migrate_words(alloc, &mut old, &mut new, 1)?;
-    let (of_old, of_new) = (old.calls().saturating_sub(made), new.calls());
+    let (of_old, of_new) = (old.calls() - made, new.calls());
     let answer = format!(in alloc; "{words}, calls {of_old} and {of_new}")?;
     old.crash(&garbage.fill());
     old.set_plan(FaultPlan::new(alloc));
@@ -48,17 +48,13 @@ pub(crate) fn migration_cell(
     Ok((answer, format!(in alloc; "{found}, {again}")?))
 }
 
-/// The result of a migration to the first of `count` segments, in words. Devices that can count no more failures take
-/// no call.
+/// The result of a migration to the first of `count` segments, in words.
 pub(crate) fn migrate_words<D: Disk>(
     alloc: Global,
     old: &mut D,
     new: &mut MemDisk,
     count: u8,
 ) -> io::Result<String> {
-    if count == 0 || count > 16 || old.failures() == u64::MAX || new.failures() == u64::MAX {
-        return Err(as_io(Refusal::DeviceFailed));
-    }
     match migrate(old, new, 0, count) {
         Ok(number) => Ok(format!(in alloc; "migrated {number}")?),
         Err((which, why)) => {
@@ -82,13 +78,7 @@ fn old_file(alloc: Global) -> io::Result<MemDisk> {
 
 fn put_old_file(disk: &mut MemDisk) -> Result<(), DeviceFault> {
     for (at, part) in PARTS {
-        if at + part.len() as u64 > disk.len() || disk.failures() == u64::MAX {
-            return Err(DeviceFault);
-        }
         disk.write_at(at, part)?;
-    }
-    if disk.failures() == u64::MAX {
-        return Err(DeviceFault);
     }
     disk.sync()
 }

@@ -1,9 +1,10 @@
 //! An opening of three files that is stopped, and what they are opened as after the crash.
-use crate::files::{as_io, new_memory, try_open_all};
+use crate::files::{as_io, new_memory};
 use crate::sweeps::segment::open_segment;
 use crate::sweeps::stop::{Garbage, Stop};
 use snap_devices::{FaultPlan, MemDisk};
 use snap_disk::{Disk, Fill, Refusal};
+use snap_restart::open_all;
 use std::alloc::Global;
 use std::io;
 use std::string::String;
@@ -37,10 +38,7 @@ fn with_hi(alloc: Global, index: u8, fails: Option<u64>) -> io::Result<MemDisk> 
     if let Some(call) = fails {
         let mut plan = FaultPlan::new(alloc);
         // An opening makes two calls.
-        plan.fail_call(
-            disk.calls().saturating_add(2).saturating_add(call),
-            Fill::Keep,
-        )?;
+        plan.fail_call(disk.calls() + 2 + call, Fill::Keep)?;
         disk.set_plan(plan);
     }
     let mut segment = open_segment(alloc, disk, index, 3)?;
@@ -55,12 +53,12 @@ fn with_hi(alloc: Global, index: u8, fails: Option<u64>) -> io::Result<MemDisk> 
 
 /// Plans the stop of the next opening, which makes two calls on each file in turn.
 fn plan_all(alloc: Global, devices: &mut Vec<MemDisk>, stop: Stop) -> io::Result<()> {
-    let mut before: u64 = 0;
+    let mut before = 0;
     for disk in devices.iter_mut() {
         if let Some(stop) = stop.behind(before) {
             disk.set_plan(stop.plan(alloc, disk.calls())?);
         }
-        before = before.saturating_add(2);
+        before += 2;
     }
     Ok(())
 }
@@ -78,7 +76,7 @@ pub(crate) fn found<D: Disk + Drop>(
     alloc: Global,
     devices: Vec<D>,
 ) -> io::Result<(String, Vec<D>)> {
-    match try_open_all(alloc, devices, 1)? {
+    match open_all(alloc, devices, 1) {
         Ok((store, report)) => {
             let text = format!(in alloc; "{report}")?;
             Ok((one_line(alloc, text.as_str())?, store.close()))

@@ -59,12 +59,12 @@ fn run_store(
 ) -> io::Result<(String, MemDisk)> {
     let mut disk = disk;
     // An opening makes two calls.
-    let made = disk.calls().saturating_add(2);
+    let made = disk.calls() + 2;
     disk.set_plan(stop.plan(alloc, made)?);
     let mut segment = open_segment(alloc, disk, 0, 1)?;
     let answer = store_words(alloc, &mut segment, value)?;
     let disk = segment.into_device();
-    let calls = disk.calls().saturating_sub(made);
+    let calls = disk.calls() - made;
     Ok((format!(in alloc; "{answer}, calls {calls}")?, disk))
 }
 
@@ -98,7 +98,7 @@ fn refused_words(
 
 /// The result of an opening, in words: a number, a value and the spare gate, or the refusal.
 fn opened(alloc: Global, disk: MemDisk) -> io::Result<(String, MemDisk)> {
-    match try_open(alloc, disk, 0, 1) {
+    match Segment::open(alloc, disk, 0, 1) {
         Ok(segment) => {
             let words = opened_words(alloc, &segment)?;
             Ok((words, segment.into_device()))
@@ -125,28 +125,12 @@ pub(crate) fn with_hi(alloc: Global) -> io::Result<MemDisk> {
     Ok(segment.into_device())
 }
 
-/// The result of a format, in words. A device that can count no more failures takes no call.
+/// The result of a format, in words.
 fn try_format(disk: &mut MemDisk) -> &'static str {
-    if disk.failures() == u64::MAX {
-        return Refusal::DeviceFailed.name();
-    }
     match format(disk, 0, 1) {
         Ok(()) => "formatted",
         Err(why) => why.name(),
     }
-}
-
-/// An opening as segment `index` of `count`. A device that can count no more failures takes no call.
-fn try_open(
-    alloc: Global,
-    disk: MemDisk,
-    index: u8,
-    count: u8,
-) -> Result<Segment<MemDisk>, (Refusal, MemDisk)> {
-    if index >= count || count > 16 || disk.failures() == u64::MAX {
-        return Err((Refusal::DeviceFailed, disk));
-    }
-    Segment::open(alloc, disk, index, count)
 }
 
 /// An opening as segment `index` of `count`, where nothing may refuse it.
@@ -156,7 +140,7 @@ pub(crate) fn open_segment(
     index: u8,
     count: u8,
 ) -> io::Result<Segment<MemDisk>> {
-    match try_open(alloc, disk, index, count) {
+    match Segment::open(alloc, disk, index, count) {
         Ok(segment) => Ok(segment),
         Err((why, _)) => Err(as_io(why)),
     }

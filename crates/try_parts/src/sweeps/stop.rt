@@ -43,9 +43,9 @@ impl Stop {
     /// The plan of a device that has made `made` calls before the run.
     pub(crate) fn plan(self, alloc: Global, made: u64) -> Result<FaultPlan, AllocError> {
         let mut plan = FaultPlan::new(alloc);
-        let passes = made.saturating_add(self.passes);
+        let passes = made + self.passes;
         match self.fault {
-            Some(garbage) => plan.fail_call(passes.saturating_add(1), garbage.fill())?,
+            Some(garbage) => plan.fail_call(passes + 1, garbage.fill())?,
             None => plan.fail_after(passes, Fill::Keep),
         }
         Ok(plan)

@@ -9,7 +9,7 @@ fn plan(alloc: Global, disk: &mut MemDisk, draw: &mut Draw) -> Result<(), AllocE
     let call = draw.below(60);
     let fill = draw.fill();
     let mut plan = FaultPlan::new(alloc);
-    plan.fail_call(disk.calls().saturating_add(3).saturating_add(call), fill)?;
+    plan.fail_call(disk.calls() + 3 + call, fill)?;
     disk.set_plan(plan);
     Ok(())
 }

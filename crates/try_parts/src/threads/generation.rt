@@ -1,15 +1,10 @@
 //! One run between an opening of all files and the crash that ends it.
-ghost use Rattle.std.specs.Prelude.{◌≡◌, ℕ, ◌+◌, ◌<◌, slice_get, Some};
-ghost use Rattle.snap_restart.specs.Closed.{IsSeatAt};
-
 use crate::draw::Draw;
-use crate::threads::seats::{SeatedWatcher, SeatedWriter};
 use crate::threads::worker::{Client, scan_all, update_all};
 use crate::values::{Numbers, SEGMENTS, is_value_of};
+use crate::watcher::Watcher;
 use snap_devices::MemDisk;
-use snap_memory::Scanner;
 use snap_restart::Store;
-use snap_service::Memory;
 use snap_writer::Writer;
 use std::alloc::{AllocError, Global};
 use std::sync::atomic::AtomicU64;
@@ -24,12 +19,10 @@ const WORKERS: u64 = (SEGMENTS + SCANNERS) as u64;
 /// The numbers that the clients and the readers of scans know when the machine crashes.
 #[derive(Clone, Copy)]
 pub struct Outcome {
-    /// The last number of each segment whose update was answered.
+    /// The last number of each segment whose update was answered, which the last scans showed.
     pub stored: Numbers,
     /// The greatest number that may be there after the crash: one more where an update was begun.
     pub most: Numbers,
-    /// The greatest number of each segment that a scan showed.
-    pub shown: Numbers,
 }
 
 /// The machine crashes. What each device is left with is drawn.
@@ -42,84 +35,43 @@ pub(crate) fn crash_all(devices: &mut Vec<MemDisk>, draw: &mut Draw) {
 
 /// Whether the number and the value are right for what was known before the crash: nothing that was
 /// answered or shown is lost, and nothing is there that wasn't begun.
-fn is_recovered(writer: &Writer<MemDisk>, segment: usize, last: &Outcome) -> bool
-    requires { segment < SEGMENTS }
-{
-    let number = writer.number();
+fn is_recovered(writer: &Writer<MemDisk>, last: &Outcome) -> bool {
+    let (segment, number) = (writer.segment(), writer.number());
     last.stored[segment] <= number
         && number <= last.most[segment]
-        && last.shown[segment] <= number
         && is_value_of(segment, number, writer.value())
-}
-
-/// A client at each writer, in order of the segments.
-fn clients_of<M: Memory>(
-    alloc: Global,
-    writers: Vec<Writer<MemDisk>>,
-    last: &Outcome,
-) -> io::Result<Vec<Client<M>>>
-    requires seats { (i : ℕ) (w : _) → slice_get writers.items i ≡ Some w
-        → IsSeatAt M.table M.plan i (i + 1) w.seat }
-{
-    let mut clients = Vec::new(alloc);
-    'writers: for writer in writers {
-        let segment = clients.len();
-        if segment >= SEGMENTS || !is_recovered(&writer, segment, last) {
-            return Err(io::Error::other("a crash left what it could not leave"));
-        }
-        clients.push(Client::new(SeatedWriter::new(writer, segment)))?;
-    }
-    Ok(clients)
-}
-
-/// A reader of each scanner's scans.
-fn watchers_of<M: Memory>(
-    alloc: Global,
-    scanners: Vec<Scanner>,
-    last: &Outcome,
-) -> Result<Vec<SeatedWatcher<M>>, AllocError>
-    requires seats { (k : ℕ) (b : _) → slice_get scanners.items k ≡ Some b
-        → IsSeatAt M.table M.plan 0 0 b }
-{
-    let mut watchers = Vec::new(alloc);
-    'scanners: for scanner in scanners {
-        watchers.push(SeatedWatcher::new(alloc, scanner, last.shown)?)?;
-    }
-    Ok(watchers)
 }
 
 /// All clients and watchers, taken out of their store.
 #[derive(Drop)]
-pub struct Workers<M: Memory> {
-    pub clients: Vec<Client<M>>,
-    pub watchers: Vec<SeatedWatcher<M>>,
+pub struct Workers {
+    /// In the order of their segments.
+    pub clients: Vec<Client>,
+    pub watchers: Vec<Watcher>,
 }
 
 /// Takes the writers and the scanners out of the store, and puts a client or a watcher at each.
-pub(crate) fn take_out<M: Memory>(
+pub(crate) fn take_out(
     alloc: Global,
     store: &mut Store<MemDisk>,
     last: &Outcome,
-) -> io::Result<Workers<M>>
-    requires writers { (i : ℕ) (w : _) → slice_get store.old.writers.items i ≡ Some w
-        → IsSeatAt M.table M.plan i (i + 1) w.seat }
-    requires scanners { (k : ℕ) (b : _) → slice_get store.old.scanners.items k ≡ Some b
-        → IsSeatAt M.table M.plan 0 0 b }
-{
-    let writers = mem::replace(&mut store.writers, Vec::new(alloc));
-    let scanners = mem::replace(&mut store.scanners, Vec::new(alloc));
-    Ok(Workers {
-        clients: clients_of(alloc, writers, last)?,
-        watchers: watchers_of(alloc, scanners, last)?,
-    })
+) -> io::Result<Workers> {
+    let mut clients = Vec::new(alloc);
+    for writer in mem::replace(&mut store.writers, Vec::new(alloc)) {
+        if !is_recovered(&writer, last) {
+            return Err(io::Error::other("a crash left what it could not leave"));
+        }
+        clients.push(Client::new(writer))?;
+    }
+    let mut watchers = Vec::new(alloc);
+    for scanner in mem::replace(&mut store.scanners, Vec::new(alloc)) {
+        watchers.push(Watcher::new(alloc, scanner, last.stored)?)?;
+    }
+    Ok(Workers { clients, watchers })
 }
 
 /// All clients make their updates, each in a thread of its own.
-fn update_at_once<M: Memory + Send, R: Threads + Sync>(
-    rt: &R,
-    clients: &mut [Client<M>],
-    arrived: &AtomicU64,
-) {
+fn update_at_once<R: Threads + Sync>(rt: &R, clients: &mut [Client], arrived: &AtomicU64) {
     for_each_mut(
         rt,
         clients,
@@ -129,11 +81,7 @@ fn update_at_once<M: Memory + Send, R: Threads + Sync>(
 }
 
 /// All watchers make their scans, each in a thread of its own.
-fn scan_at_once<M: Memory + Send, R: Threads + Sync>(
-    rt: &R,
-    watchers: &mut [SeatedWatcher<M>],
-    arrived: &AtomicU64,
-) {
+fn scan_at_once<R: Threads + Sync>(rt: &R, watchers: &mut [Watcher], arrived: &AtomicU64) {
     for_each_mut(
         rt,
         watchers,
@@ -143,7 +91,7 @@ fn scan_at_once<M: Memory + Send, R: Threads + Sync>(
 }
 
 /// All work at once.
-pub(crate) fn work_all<M: Memory + Send, R: Threads + Sync>(rt: &R, workers: &mut Workers<M>) {
+pub(crate) fn work_all<R: Threads + Sync>(rt: &R, workers: &mut Workers) {
     let arrived = AtomicU64::new(0);
     let clients = workers.clients.as_mut_slice();
     let watchers = workers.watchers.as_mut_slice();
@@ -155,13 +103,42 @@ pub(crate) fn work_all<M: Memory + Send, R: Threads + Sync>(rt: &R, workers: &mu
 }
 
 /// The numbers that the files start with, or end with.
-pub(crate) fn stored_by<M: Memory>(clients: &Vec<Client<M>>) -> Numbers {
+pub(crate) fn stored_by(clients: &Vec<Client>) -> Numbers {
     let mut stored = [0; SEGMENTS];
     for client in clients {
-        let segment = client.writer.segment();
-        if segment < SEGMENTS {
-            stored[segment] = client.stored;
-        }
+        stored[client.writer.segment()] = client.stored;
     }
     stored
+}
+
+/// The outcome of a run, where each answer was right, and one scan more by each watcher has all that was stored.
+pub(crate) fn outcome_of(workers: &mut Workers) -> io::Result<Outcome> {
+    let stored = stored_by(&workers.clients);
+    let (mut most, mut is_right) = (stored, true);
+    for client in &workers.clients {
+        is_right &= client.is_right;
+        most[client.writer.segment()] += client.has_begun as u64;
+    }
+    for watcher in workers.watchers.iter_mut() {
+        watcher.scan();
+        is_right &= watcher.is_right && watcher.shown == stored;
+    }
+    if !is_right {
+        return Err(io::Error::other("an answer was wrong"));
+    }
+    Ok(Outcome { stored, most })
+}
+
+/// Puts all writers and scanners back into their store, and closes it. The devices, in order.
+pub(crate) fn close(
+    mut store: Store<MemDisk>,
+    workers: Workers,
+) -> Result<Vec<MemDisk>, AllocError> {
+    for client in workers.clients {
+        store.writers.push(client.writer)?;
+    }
+    for watcher in workers.watchers {
+        store.scanners.push(watcher.scanner)?;
+    }
+    Ok(store.close())
 }

@@ -1,12 +1,9 @@
 //! The writers and the scanners, each in a thread of its own, with their results.
-ghost use Rattle.std.specs.Prelude.{◌≡◌};
-
-use crate::threads::seats::{SeatedWatcher, SeatedWriter};
 use crate::values::value_of;
-use crate::watcher::wait_for_all;
+use crate::watcher::{Watcher, wait_for_all};
 use snap_devices::MemDisk;
 use snap_disk::Refusal;
-use snap_service::Memory;
+use snap_writer::Writer;
 use std::sync::atomic::AtomicU64;
 use std::thread::yield_now;
 
@@ -21,8 +18,8 @@ const TURNS: u64 = 10_000;
 
 /// A writer, and what was acknowledged to its client.
 #[derive(Drop)]
-pub struct Client<M: Memory> {
-    pub writer: SeatedWriter<M, MemDisk>,
+pub struct Client {
+    pub writer: Writer<MemDisk>,
     /// The number of the last update that was answered.
     pub stored: u64,
     /// Whether the next one was begun and refused.
@@ -31,11 +28,9 @@ pub struct Client<M: Memory> {
     pub is_right: bool,
 }
 
-impl<M: Memory> Client<M> {
+impl Client {
     /// The client of this writer, to which nothing was answered yet.
-    pub fn new(writer: SeatedWriter<M, MemDisk>) -> Client<M>
-        ensures writer { result.writer ≡ writer }
-    {
+    pub fn new(writer: Writer<MemDisk>) -> Client {
         Client {
             stored: writer.number(),
             writer,
@@ -53,7 +48,7 @@ impl<M: Memory> Client<M> {
             let again = self.writer.update(number, &value_of(segment, number));
             self.is_right &= again == Ok(number);
         }
-        let next = number.saturating_add(1);
+        let next = number + 1;
         match self.writer.update(next, &value_of(segment, next)) {
             Ok(stored) => {
                 self.is_right &= stored == next;
@@ -73,7 +68,7 @@ impl<M: Memory> Client<M> {
         for _ in 0..UPDATES {
             if !self.send() {
                 let segment = self.writer.segment();
-                let next = self.writer.number().saturating_add(1);
+                let next = self.writer.number() + 1;
                 let again = self.writer.update(next, &value_of(segment, next));
                 self.is_right &= again == Err(Refusal::Fenced);
                 return;
@@ -84,17 +79,13 @@ impl<M: Memory> Client<M> {
 }
 
 /// Makes all updates of one client, once all workers are there.
-pub(crate) fn update_all<M: Memory>(client: &mut Client<M>, arrived: &AtomicU64, workers: u64) {
+pub(crate) fn update_all(client: &mut Client, arrived: &AtomicU64, workers: u64) {
     wait_for_all(arrived, workers, TURNS);
     client.work();
 }
 
 /// Makes all scans of one watcher, once all workers are there.
-pub(crate) fn scan_all<M: Memory>(
-    watcher: &mut SeatedWatcher<M>,
-    arrived: &AtomicU64,
-    workers: u64,
-) {
+pub(crate) fn scan_all(watcher: &mut Watcher, arrived: &AtomicU64, workers: u64) {
     wait_for_all(arrived, workers, TURNS);
     for _ in 0..SCANS {
         watcher.scan();
