@@ -1,11 +1,11 @@
 """Every call of a store and of a restart fails in a world, or is the last before a crash, with each fill that matters.
-What the next restart serves is compared with the table of the segment crate's sweep (what `try_parts segment-sweep`
-prints), which an independent model prints, and for a restart's own calls with the rule of the disk model."""
+What the next restart serves is compared with the table that an independent model prints of a segment's calls (as
+`try_parts segment-sweep` does), and for a restart's own calls with the rule of the disk model."""
 
 import itertools
 import re
 
-from trials import stored
+from trials import foretold
 
 FILLS = ("keep", "00", "a5")
 VALUES = {"empty": "-", "hi": "6869", "yo": "796f"}
@@ -24,7 +24,7 @@ def last_line(snapd, script):
 def rows():
     """(lines up to the store, calls before the fault, the fault's fill, the value after a crash with each fill)."""
     before = None
-    for line in stored("segment-sweep").splitlines():
+    for line in foretold("segment-sweep").splitlines():
         if line.startswith("store of"):
             before = BEGIN_HI if line.startswith("store of hi") else [*STORED_HI, *BEGIN_YO]
         elif " of " in line.partition(":")[0]:

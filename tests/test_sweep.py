@@ -1,16 +1,25 @@
-"""The table of faults and crashes that `try_parts segment-sweep` prints is the one that an independent model prints."""
+"""What `try_parts` prints of faults and crashes is what independent models print: the tables of those of a segment, and
+of an opening of all files and random bytes, and the numbers after each of 200 crashes of writers in threads. The
+end-to-end tests want it built (`make programs`)."""
 
-import pathlib
-import subprocess
-import sys
+from itertools import zip_longest
 
-from trials import stored
-
-TOP = pathlib.Path(__file__).resolve().parent.parent
+from trials import foretold, printed
 
 
-def test_the_oracle_prints_the_stored_table(_, __):
-    oracle = subprocess.run(
-        [sys.executable, TOP / "tests" / "oracle" / "segment_sweep.py"], capture_output=True, check=True
-    )
-    assert oracle.stdout.decode() == stored("segment-sweep")
+def compare(word):
+    pairs = zip_longest(printed(word).splitlines(), foretold(word).splitlines())
+    wrong = [(line, wanted) for line, wanted in pairs if line != wanted]
+    assert not wrong, (word, len(wrong), wrong[0])
+
+
+def test_faults_and_crashes_of_a_segment(_, __):
+    compare("segment-sweep")
+
+
+def test_faults_and_stops_of_an_opening_and_random_bytes(_, __):
+    compare("restart-sweep")
+
+
+def test_numbers_after_each_crash_of_threads(_, __):
+    compare("restart-threads")
