@@ -9,10 +9,6 @@
 //!     try_parts server WORKERS MICROS [CONNECTIONS]
 //!
 //! The head of each module describes its words.
-//!
-//!     try_parts all
-//!
-//! runs each of them in turn, the long ones for a few rounds, and prints a heading `== WORDS` before each.
 #![tactic(auto)]
 
 mod allocations;
@@ -33,26 +29,6 @@ use std::sync::Wait;
 use std::thread::Threads;
 use std::{env, io};
 
-/// The words of each run of `all`.
-const RUNS: [&str; 7] = [
-    "segment-sweep",
-    "restart-sweep",
-    "restart-threads",
-    "restart-allocations scanned",
-    "service-allocations scan 2",
-    "plug 200 7",
-    "server 2 0 0",
-];
-
-/// Prints on standard error what the first word may be. That is always an error.
-fn explain(rt: &HostRuntime) -> io::Result<()> {
-    eprintln!(rt; "The first word is one of these, or all:")?;
-    for line in RUNS {
-        eprintln!(rt; "{}", line.split(' ').next().unwrap_or(line))?;
-    }
-    Err(io::Error::other("there is no such word"))
-}
-
 /// Runs the part that the first word names, with the other words. `host` is the runtime again, for parts that may start
 /// threads, wait and connect.
 fn run<X: Threads + Wait + Clock + Net + Sync>(
@@ -60,29 +36,16 @@ fn run<X: Threads + Wait + Clock + Net + Sync>(
     rt: &HostRuntime,
     words: &[&str],
 ) -> io::Result<()> {
-    let [name, words @ ..] = words else {
-        return explain(rt);
-    };
-    match *name {
-        "segment-sweep" => sweeps::sweep_segment(rt),
-        "restart-sweep" => sweeps::sweep_restart(rt),
-        "restart-threads" => threads::crash_often(host, rt),
-        "restart-allocations" => allocations::allocate(rt, words),
-        "service-allocations" => service::allocate(host, rt, words),
-        "plug" => plug::pull_plug(host, rt, words),
-        "server" => server::serve(host, rt, words),
-        _ => explain(rt),
+    match words {
+        ["segment-sweep"] => sweeps::sweep_segment(rt),
+        ["restart-sweep"] => sweeps::sweep_restart(rt),
+        ["restart-threads"] => threads::crash_often(host, rt),
+        ["restart-allocations", words @ ..] => allocations::allocate(rt, words),
+        ["service-allocations", words @ ..] => service::allocate(host, rt, words),
+        ["plug", words @ ..] => plug::pull_plug(host, rt, words),
+        ["server", words @ ..] => server::serve(host, rt, words),
+        _ => Err(io::Error::other("the first word is none of those that src/main.rt has")),
     }
-}
-
-/// Each run of `all`, after its heading.
-fn run_all<X: Threads + Wait + Clock + Net + Sync>(host: &X, rt: &HostRuntime) -> io::Result<()> {
-    for line in RUNS {
-        println!(rt; "== {line}")?;
-        let words: Vec<&str> = line.split(' ').collect(rt.alloc())?;
-        run(host, rt, words.as_slice())?;
-    }
-    Ok(())
 }
 
 fn main(rt: HostRuntime) -> io::Result<()> {
@@ -92,8 +55,5 @@ fn main(rt: HostRuntime) -> io::Result<()> {
         .skip(1)
         .map(|word| word.as_str())
         .collect(rt.alloc())?;
-    match words.as_slice() {
-        ["all"] => run_all(&rt, &rt),
-        words => run(&rt, &rt, words),
-    }
+    run(&rt, &rt, words.as_slice())
 }
