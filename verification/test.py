@@ -37,7 +37,7 @@ BOTH = 16_000_000_000
 # The program that the test builds, apart from the one that `make demo` or `make prove` left.
 PROGRAM = TOP / "out" / "snapd"
 # The programs that end-to-end tests run beside it, as they are to be built.
-BESIDE = [(it, False, place(it)) for it in crates_of(TOP) if it.startswith("try_")]
+BESIDE = [(it, False, place(it)) for it in crates_of(TOP) if it.startswith("try_") and it != "try_bench"]
 # How long the tests of one crate may take each, in seconds.
 LIMIT = "300"
 RESULT = re.compile(r"test result: \w+\. (\d+) passed; (\d+) failed")
