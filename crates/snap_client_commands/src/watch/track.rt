@@ -8,7 +8,7 @@ const SPAN: u64 = 5_000;
 
 /// A number that was seen, and when, in milliseconds since the watch began.
 #[derive(Clone, Copy, Debug, PartialEq, Eq)]
-struct Sight {
+struct SeenNumber {
     at: u64,
     number: u64,
 }
@@ -19,26 +19,26 @@ pub struct Track {
     segment: usize,
     /// When the number was last seen to change. `None` if it never was.
     changed: Option<u64>,
-    last: Sight,
+    last: SeenNumber,
     /// Takes the place of `begin` once it is [`SPAN`] old.
-    middle: Sight,
+    middle: SeenNumber,
     /// The beginning of the time over which the rate is taken.
-    begin: Sight,
+    begin: SeenNumber,
 }
 
 impl Track {
     /// The track of a segment that was seen for the first time.
     fn new(row: &Row, at: u64) -> Track {
-        let sight = Sight {
+        let seen = SeenNumber {
             at,
             number: row.number,
         };
         Track {
             segment: row.segment,
             changed: None,
-            last: sight,
-            middle: sight,
-            begin: sight,
+            last: seen,
+            middle: seen,
+            begin: seen,
         }
     }
 
