@@ -220,13 +220,15 @@ def test_dumps_beside_sixteen_writers(snapd, rng):
     load, dumps, over = Load(16, rng), [], threading.Event()
 
     def dump(address):
+        shown = 0
         try:
-            # So that no segment is fresh in any dump, however slow the machine is.
-            wait_until(lambda: all(load.numbers), "an update of each writer")
             while len(dumps) < 30:
+                # So that no segment is fresh in any dump, and each has more than the last, however slow the machine is.
+                wait_until(lambda: all(load.numbers) and sum(load.numbers) > shown, "an update")  # noqa: B023
                 began = time.monotonic()
                 run = snapd("dump", address)
                 dumps.append((began, time.monotonic(), run))
+                shown = sum(number for number, _ in entries_in(run.output))
         finally:
             over.set()
 
@@ -239,7 +241,7 @@ def test_dumps_beside_sixteen_writers(snapd, rng):
         assert (run.status, run.errors) == (0, ""), run
         load.scans.append(Scan(began, ended, entries_in(run.output)))
     load.judge()
-    assert len({tuple(number for number, _ in entries_in(run.output)) for _, _, run in dumps}) > 20
+    assert len({tuple(number for number, _ in entries_in(run.output)) for _, _, run in dumps}) == 30
     for index in (5, 29):
         entries = entries_in(dumps[index][2].output)
         assert all(number > 0 for number, _ in entries)
