@@ -229,6 +229,15 @@ class Server:
         """How many connections it has: of its sockets one listens."""
         return sum(it.startswith("socket:") for it in open_files(self.process.pid)) - 1
 
+    def polled(self):
+        """How many connections each thread polls, the most first: a worker beside its waker, and the main thread none
+        beside its listener."""
+        counts = []
+        for place in pathlib.Path(f"/proc/{self.process.pid}/fdinfo").iterdir():
+            with contextlib.suppress(FileNotFoundError):
+                counts.append(place.read_text().count("tfd:"))
+        return sorted((it - 1 for it in counts if it), reverse=True)
+
     def descriptors(self):
         return len(open_files(self.process.pid))
 

@@ -13,7 +13,7 @@ import remedies
 import segment_file as layout
 from serving import FRESH, OVER_THE_LIMIT, SCAN, STATUS, TOO_LARGE, Server, frame, free_port, fresh, received, refused
 from serving import reset, segments, snapshot, standings, stored, to_its_end, update
-from waiting import PATIENCE, comes_to, is_read
+from waiting import PATIENCE, comes_to, is_read, wait_until
 
 REPORT = "segment 0 number 1 length 2 spare open\nsegment 1 number 0 length 0 spare closed\nsegments 2\n"
 HELD = [(0, b""), (1, b"hi")]
@@ -78,12 +78,35 @@ def test_sixteen_files_for_each_number_of_scanners(snapd, _):
     for count, scanners in [(16, it) for it in range(1, 17)] + [(it, it) for it in range(1, 16)]:
         with Server(snapd, *fresh(snapd, count), scanners=scanners) as server, contextlib.ExitStack() as peers:
             assert server.report.endswith(f"segments {count}\n"), (count, scanners)
-            # They are dealt to the workers in turn.
+            # Each worker gets one, and then they are dealt in turn.
             streams = [peers.enter_context(server.connect()) for _ in range(count)]
             for segment, stream in enumerate(streams):
                 stream.sendall(update(segment, 1, b"v%d" % segment))
             assert [received(stream, len(stored(1))) for stream in streams] == [stored(1)] * count, (count, scanners)
             assert server.scan() == [(1, b"v%d" % it) for it in range(count)], (count, scanners)
+
+
+def test_connections_get_workers_of_their_own(snapd, _):
+    """While a worker has none, it gets the next one, whosever turn it is. Two share one only if each has one."""
+    with Server(snapd, *two(snapd), scanners=4) as server, contextlib.ExitStack() as peers:
+        streams = [peers.enter_context(server.connect()) for _ in range(4)]
+        comes_to([1, 1, 1, 1, 0], server.polled)
+        streams[1].close()
+        streams[3].close()
+        comes_to(2, lambda: sum(server.polled()))
+
+        def is_spread():
+            # (A worker may not have said yet that it let go of its own.)
+            with server.connect(), server.connect():
+                comes_to(4, lambda: sum(server.polled()))
+                spread = server.polled()
+            comes_to(2, lambda: sum(server.polled()))
+            return spread == [1, 1, 1, 1, 0]
+
+        wait_until(is_spread, "a worker for each")
+        for _ in range(3):
+            peers.enter_context(server.connect())
+        comes_to([2, 1, 1, 1, 0], server.polled)
 
 
 # ---- addresses ----

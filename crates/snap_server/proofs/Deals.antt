@@ -8,9 +8,9 @@ use Rattle.snap_server.specs.declared.listen.{Accepted.Accepted, AcceptFault.Acc
 -- k connections were delivered and counted, and the next turn is known. `held` are the senders that the dispatcher then
 -- has.
 pub record HasDealt {L H : Type 0} (accepts : L → Result Accepted AcceptFault → L → Type 0)
-    (refuses : L → Type 0) (takes : H → Accepted → Type 0) (busy : H → Type 0) (senders : List H) (k : ℕ) (old new : L)
-    (held : List H) (next dealt : ℕ) : Type 0 where
-  pub deals : Deals accepts takes busy senders k old new
+    (refuses : L → Type 0) (takes : H → Accepted → Type 0) (busy idle : H → Type 0) (senders : List H) (k : ℕ)
+    (old new : L) (held : List H) (next dealt : ℕ) : Type 0 where
+  pub deals : Deals accepts takes busy idle senders k old new
   pub same : refuses new → refuses old
   pub turn : turn_of next (length senders) ≡ turn_after (length senders) k
   pub counted : dealt ≡ k
@@ -21,13 +21,14 @@ one_more = grind arith
 
 -- one more connection was accepted, and delivered to the sender whose turn it was
 pub dealt_more : {L H : Type 0} (accepts : L → Result Accepted AcceptFault → L → Type 0) (refuses : L → Type 0)
-    (takes : H → Accepted → Type 0) (busy : H → Type 0) (senders : List H) (k : ℕ) (a b c : L) (held held' : List H)
-    (next next' dealt dealt' : ℕ) → HasDealt accepts refuses takes busy senders k a b held next dealt
+    (takes : H → Accepted → Type 0) (busy idle : H → Type 0) (senders : List H) (k : ℕ) (a b c : L)
+    (held held' : List H) (next next' dealt dealt' : ℕ)
+    → HasDealt accepts refuses takes busy idle senders k a b held next dealt
     → (arrival : Accepted) × (sender : H) × Gives accepts b arrival c
-    × (slice_get held (turn_of next (length held)) ≡ Some sender) × IsDelivered takes busy held sender arrival
+    × (slice_get held (turn_of next (length held)) ≡ Some sender) × IsDelivered takes busy idle held sender arrival
     → (refuses c → refuses b) → next' ≡ turn_of next (length held) + 1 → dealt' ≡ dealt + 1 → held' ≡ held
-    → HasDealt accepts refuses takes busy senders (k + 1) a c held' next' dealt'
-dealt_more accepts refuses takes busy senders k a b c held held' next next' dealt dealt' before given
+    → HasDealt accepts refuses takes busy idle senders (k + 1) a c held' next' dealt'
+dealt_more accepts refuses takes busy idle senders k a b c held held' next next' dealt dealt' before given
     is_same in_turn counted kept = rw (one_more k) record {
       deals = (
         b,
@@ -66,16 +67,16 @@ module _ {L : Type 0} (accepts : L → Result Accepted AcceptFault → L → Typ
   gives_behind a b c arrival before gives = (gives.0, vain_behind a b gives.0 before gives.1, gives.2)
 
   -- the connections that were delivered were accepted
-  pub deals_accepted : {H : Type 0} (takes : H → Accepted → Type 0) (busy : H → Type 0) (senders : List H) (k : ℕ)
-      (a b : L) → Deals accepts takes busy senders k a b → GivesSoMany accepts k a b
-  deals_accepted takes busy senders zero a b same = same
-  deals_accepted takes busy senders (suc k) a b (mid, arrival, sender, before, gives, turn, taken) =
-      (mid, arrival, deals_accepted takes busy senders k a mid before, gives)
+  pub deals_accepted : {H : Type 0} (takes : H → Accepted → Type 0) (busy idle : H → Type 0) (senders : List H) (k : ℕ)
+      (a b : L) → Deals accepts takes busy idle senders k a b → GivesSoMany accepts k a b
+  deals_accepted takes busy idle senders zero a b same = same
+  deals_accepted takes busy idle senders (suc k) a b (mid, arrival, sender, before, gives, turn, taken) =
+      (mid, arrival, deals_accepted takes busy idle senders k a mid before, gives)
 
   -- if the result is the number of delivered connections, as many were accepted
-  pub dealt_accepted : {H E : Type 0} (takes : H → Accepted → Type 0) (busy : H → Type 0) (senders : List H) (first : L)
-      (end : Result ℕ E) → IfOk end (λ k. (left : L) × Deals accepts takes busy senders k first left)
+  pub dealt_accepted : {H E : Type 0} (takes : H → Accepted → Type 0) (busy idle : H → Type 0) (senders : List H)
+      (first : L) (end : Result ℕ E) → IfOk end (λ k. (left : L) × Deals accepts takes busy idle senders k first left)
       → IfOk end (λ k. (left : L) × GivesSoMany accepts k first left)
-  dealt_accepted takes busy senders first (Ok k) (left, deals) =
-      (left, deals_accepted takes busy senders k first left deals)
-  dealt_accepted takes busy senders first (Err why) deals = tt
+  dealt_accepted takes busy idle senders first (Ok k) (left, deals) =
+      (left, deals_accepted takes busy idle senders k first left deals)
+  dealt_accepted takes busy idle senders first (Err why) deals = tt

@@ -13,12 +13,14 @@ abbrev pub turn_after : (many k : ℕ) → ℕ
 turn_after many zero = 0
 turn_after many (suc k) = turn_of (turn_after many k + 1) many
 
--- the connection was delivered to this sender, or, as this one is busy, to the last of them
-pub data IsDelivered {H : Type 0} (takes : H → Accepted → Type 0) (busy : H → Type 0) (senders : List H) (sender : H)
-    (arrival : Accepted) : Type 0 where
-  Taken : takes sender arrival → IsDelivered takes busy senders sender arrival
+-- the connection was delivered to a sender that had none, or to this one, or, as this one is busy, to the last of them
+pub data IsDelivered {H : Type 0} (takes : H → Accepted → Type 0) (busy idle : H → Type 0) (senders : List H)
+    (sender : H) (arrival : Accepted) : Type 0 where
+  First : (free : H) × (i : ℕ) × (slice_get senders i ≡ Some free) × idle free × takes free arrival
+      → IsDelivered takes busy idle senders sender arrival
+  Taken : takes sender arrival → IsDelivered takes busy idle senders sender arrival
   Passed : busy sender → (last : H) × (slice_get senders (length senders - 1) ≡ Some last) × takes last arrival
-      → IsDelivered takes busy senders sender arrival
+      → IsDelivered takes busy idle senders sender arrival
 
 -- `accepts` has the possible results of a call of the listener, and the listener after it.
 module _ {L : Type 0} (accepts : L → Result Accepted AcceptFault → L → Type 0) where
@@ -40,11 +42,12 @@ module _ {L : Type 0} (accepts : L → Result Accepted AcceptFault → L → Typ
   GivesSoMany zero old new = new ≡ old
   GivesSoMany (suc k) old new = (mid : L) × (arrival : Accepted) × GivesSoMany k old mid × Gives mid arrival new
 
-  -- `GivesSoMany`, and each connection was delivered to the sender whose turn it was, or for that one to the last.
-  abbrev pub Deals : {H : Type 0} (takes : H → Accepted → Type 0) (busy : H → Type 0) (senders : List H)
+  -- `GivesSoMany`, and each connection was delivered to a sender that had none, or to the one whose turn it was, or for
+  -- that one to the last.
+  abbrev pub Deals : {H : Type 0} (takes : H → Accepted → Type 0) (busy idle : H → Type 0) (senders : List H)
       → ℕ → L → L → Type 0
-  Deals takes busy senders zero old new = new ≡ old
-  Deals {H} takes busy senders (suc k) old new =
-      (mid : L) × (arrival : Accepted) × (sender : H) × Deals takes busy senders k old mid
+  Deals takes busy idle senders zero old new = new ≡ old
+  Deals {H} takes busy idle senders (suc k) old new =
+      (mid : L) × (arrival : Accepted) × (sender : H) × Deals takes busy idle senders k old mid
       × Gives mid arrival new × (slice_get senders (turn_after (length senders) k) ≡ Some sender)
-      × IsDelivered takes busy senders sender arrival
+      × IsDelivered takes busy idle senders sender arrival

@@ -1,6 +1,6 @@
 //! The dispatcher: delivers accepted connections to the workers.
 ghost use Rattle.std.specs.Prelude.{◌≡◌, ◌⊎◌, ◌+◌, IfOk, IfErr, OnOk, OnErr, IsOk, Some, true, false, min, length};
-ghost use Rattle.std.specs.Prelude.{slice_get, ◌-◌};
+ghost use Rattle.std.specs.Prelude.{slice_get, ◌-◌, ℕ, IfSome};
 ghost use Rattle.snap_server.specs.declared.listen.Accepted.{Accepted};
 ghost use Rattle.snap_server.specs.Deals.{Deals, Gives, IsDelivered, turn_of};
 
@@ -12,7 +12,8 @@ use crate::server_event::ServerEvent;
 use std::rt::Clock;
 use std::sync::Wait;
 
-/// Delivers accepted connections to the workers, in turn; those of a busy worker to the last one.
+/// Delivers accepted connections to workers without one, so that each has a worker of its own as long as there are
+/// enough; then to all in turn, and those of a busy worker to the last one.
 #[derive(Drop)]
 pub struct Dispatcher<'a, H: Deliver> {
     acceptor: Acceptor<'a>,
@@ -38,14 +39,15 @@ impl<'a, H: Deliver> Dispatcher<'a, H> {
         }
     }
 
-    /// Delivers a connection to the next worker, or to the last if that one is busy; `false` if the worker has ended.
+    /// Delivers a connection to a worker without one, or to the next worker, or to the last if that one is busy;
+    /// `false` if the worker has ended.
     fn deal<X: Wait + Clock>(&mut self, rt: &X, arrival: Accepted) -> bool
         ensures counted { result ≡ true → self.new.dealt ≡ min (self.old.dealt + 1) 18446744073709551615 }
         ensures refused { result ≡ false → self.new.dealt ≡ self.old.dealt }
         ensures in_turn { result ≡ true → self.new.next ≡ turn_of self.old.next (length self.old.senders.now) + 1 }
         ensures handed { result ≡ true → (sender : H) × (slice_get self.old.senders.now
             (turn_of self.old.next (length self.old.senders.now)) ≡ Some sender)
-            × IsDelivered H.takes H.is_busy self.old.senders.now sender arrival }
+            × IsDelivered H.takes H.is_busy H.was_idle self.old.senders.now sender arrival }
         ensures senders { self.new.senders.now ≡ self.old.senders.now }
     {
         if self.next >= self.senders.len() {
@@ -62,14 +64,36 @@ impl<'a, H: Deliver> Dispatcher<'a, H> {
         true
     }
 
-    /// Delivers a connection to this worker, or to the last if this one is busy; `false` if the worker has ended.
+    /// Delivers a connection to a worker without one, or to this worker, or to the last if this one is busy; `false` if
+    /// the worker has ended.
     fn deliver<X: Wait + Clock>(&self, rt: &X, sender: &H, arrival: Accepted) -> bool
-        ensures { result ≡ true → IsDelivered H.takes H.is_busy self.now.senders.now sender.now arrival }
+        ensures { result ≡ true → IsDelivered H.takes H.is_busy H.was_idle self.now.senders.now sender.now arrival }
     {
-        match sender.deliver(rt, arrival) {
+        let mut left = arrival;
+        if let Some(idle) = self.first_idle() {
+            left = match idle.deliver(rt, left) {
+                Ok(is_taken) => return is_taken,
+                Err(back) => back,
+            };
+        }
+        match sender.deliver(rt, left) {
             Ok(is_taken) => is_taken,
             Err(back) => self.deal_to_last(rt, back),
         }
+    }
+
+    /// The first worker that has no connection, if there is one.
+    fn first_idle(&self) -> Option<&H>
+        ensures { IfSome result (λ idle. (i : ℕ) × (slice_get self.now.senders.now i ≡ Some idle.now)
+            × H.was_idle idle.now) }
+    {
+        for at in 0..self.senders.len() {
+            let sender = &self.senders[at];
+            if sender.is_idle() {
+                return Some(sender);
+            }
+        }
+        None
     }
 
     /// Delivers a connection to the last worker, which is never busy; `false` if it has ended.
@@ -97,7 +121,7 @@ impl<'a, H: Deliver> Dispatcher<'a, H> {
         ensures handed { OnOk result ((arrival : Accepted) × (sender : H)
             × Gives L.accepts listener.old arrival listener.new
             × (slice_get self.old.senders.now (turn_of self.old.next (length self.old.senders.now))
-            ≡ Some sender) × IsDelivered H.takes H.is_busy self.old.senders.now sender arrival) }
+            ≡ Some sender) × IsDelivered H.takes H.is_busy H.was_idle self.old.senders.now sender arrival) }
         ensures senders { self.new.senders.now ≡ self.old.senders.now }
         ensures same { L.refuses listener.new → L.refuses listener.old }
         ensures faults { IfErr result (λ fault. (fault ≡ ServerFault.AcceptFailed) ⊎ (fault ≡ ServerFault.PollFailed)) }
@@ -126,7 +150,7 @@ impl<'a, H: Deliver> Dispatcher<'a, H> {
         requires note { N.IsAlwaysCallable note.now }
         ensures dealt { OnOk result (self.new.dealt ≡ most) }
         ensures deals { OnOk result
-            (Deals L.accepts H.takes H.is_busy self.old.senders.now most listener.old listener.new) }
+            (Deals L.accepts H.takes H.is_busy H.was_idle self.old.senders.now most listener.old listener.new) }
         ensures none { most ≡ 0 → IsOk result }
         ensures faults { IfErr result (λ fault. (fault ≡ ServerFault.AcceptFailed) ⊎ (fault ≡ ServerFault.PollFailed)) }
         ensures deaf { IfErr result (λ fault. fault ≡ ServerFault.AcceptFailed → L.refuses listener.old) }
@@ -154,7 +178,7 @@ impl<'a, H: Deliver> Dispatcher<'a, H> {
         ensures asked { IfOk result (λ k. connections ≡ Some k) }
         ensures dealt { IfOk result (λ k. self.new.dealt ≡ k) }
         ensures deals { IfOk result (λ k.
-            Deals L.accepts H.takes H.is_busy self.old.senders.now k listener.old listener.new) }
+            Deals L.accepts H.takes H.is_busy H.was_idle self.old.senders.now k listener.old listener.new) }
         ensures none { connections ≡ Some 0 → IsOk result }
         ensures faults { IfErr result (λ fault. (fault ≡ ServerFault.AcceptFailed) ⊎ (fault ≡ ServerFault.PollFailed)) }
         ensures deaf { IfErr result (λ fault. fault ≡ ServerFault.AcceptFailed → L.refuses listener.old) }

@@ -37,6 +37,13 @@ pub trait Deliver {
     /// The worker was busy with a request of its only connection.
     ghost is_busy: { Self → Type 0 };
 
+    /// The worker had no connection.
+    ghost was_idle: { Self → Type 0 };
+
+    /// Whether the worker has no connection, as far as it has said yet.
+    fn is_idle(&self) -> bool
+        ensures { result ≡ true → was_idle self.now };
+
     /// Delivers a connection and wakes the worker; `Ok(false)` if it has ended. If it is busy, the connection is
     /// returned.
     fn deliver<X: Wait + Clock>(&self, rt: &X, arrival: Accepted) -> Result<bool, Accepted>
@@ -62,6 +69,7 @@ pub struct MailboxSender<O: Drop> {
     waker: Waker,
     sleeps: Arc<AtomicBool, Global>,
     busy: Arc<AtomicBool, Global>,
+    idle: Arc<AtomicBool, Global>,
     /// Whether its worker is the last one, which is never busy.
     is_last: bool,
     /// The index of its worker. Only clauses read it.
@@ -78,6 +86,8 @@ pub struct Mailbox<O: Drop> {
     /// Whether the worker is busy with its only connection, or gets another one just now. Whoever changes it from
     /// `false` changes it back. That of the last worker is always `true`, so that nobody changes it.
     busy: Arc<AtomicBool, Global>,
+    /// Whether the worker has no connection, and none was delivered since it said so.
+    idle: Arc<AtomicBool, Global>,
     /// The index of its worker. Only clauses read it.
     place: usize,
 }
@@ -97,11 +107,13 @@ impl<O: Drop> MailboxSender<O> {
         let (messages, came) = unbounded(alloc)?;
         let sleeps = Arc::new(alloc, AtomicBool::new(false))?;
         let busy = Arc::new(alloc, AtomicBool::new(is_last))?;
+        let idle = Arc::new(alloc, AtomicBool::new(true))?;
         let mailbox = Mailbox {
             arrivals: arrived,
             messages: came,
             sleeps: Arc::try_clone(&sleeps)?,
             busy: Arc::try_clone(&busy)?,
+            idle: Arc::try_clone(&idle)?,
             place,
         };
         let sender = MailboxSender {
@@ -110,6 +122,7 @@ impl<O: Drop> MailboxSender<O> {
             waker,
             sleeps,
             busy,
+            idle,
             is_last,
             place,
         };
@@ -164,6 +177,11 @@ impl<O: Drop> Mailbox<O> {
         }
     }
 
+    /// Marks the worker as one without a connection.
+    pub fn be_idle(&self) {
+        self.idle.store(true, Ordering::SeqCst);
+    }
+
     /// Marks the worker as about to sleep, then checks the mailbox. If the mailbox isn't empty the
     /// worker may not sleep, and is marked as awake.
     pub fn may_sleep(&self) -> bool {
@@ -189,7 +207,14 @@ impl<O: Drop> Deliver for MailboxSender<O> {
 
     ghost is_busy = { λ _. Unit {0} };
 
+    ghost was_idle = { λ _. Unit {0} };
+
+    fn is_idle(&self) -> bool {
+        self.idle.load(Ordering::SeqCst)
+    }
+
     fn deliver<X: Wait + Clock>(&self, rt: &X, arrival: Accepted) -> Result<bool, Accepted> {
+        self.idle.store(false, Ordering::SeqCst);
         if self.is_last {
             return Ok(self.send(rt, &self.arrivals, arrival));
         }

@@ -152,7 +152,7 @@ where
     requires note { N.IsAlwaysCallable note.now }
     ensures whole { OnOk result (is_whole ≡ true) }
     ensures asked { IfOk result (λ k. connections ≡ Some k) }
-    ensures deals { IfOk result (λ k. Deals L.accepts H.takes H.is_busy dispatcher.entry.senders.now k
+    ensures deals { IfOk result (λ k. Deals L.accepts H.takes H.is_busy H.was_idle dispatcher.entry.senders.now k
         listener.old listener.new) }
     ensures accepted { IfOk result (λ k. GivesSoMany L.accepts k listener.old listener.new) }
     ensures deaf { IfErr result (λ why. why ≡ RunFault.Server ServerFault.AcceptFailed → L.refuses listener.old) }
@@ -174,7 +174,7 @@ where
 /// and accepts on the calling thread.
 ///
 /// It succeeds only if each worker has served all its connections, and each connection was
-/// delivered to the sender whose turn it was, or for a busy one to the last.
+/// delivered to a sender that had none, or to the one whose turn it was, or for a busy one to the last.
 fn run_threads<X, L, K, H, B, N, T, A>(
     rt: &X,
     alloc: Global,
@@ -199,7 +199,8 @@ where
     requires note { N.IsAlwaysCallable note.now }
     requires needs { K.needs }
     ensures asked { IfOk result (λ k. limits.connections ≡ Some k) }
-    ensures deals { IfOk result (λ k. (left : L) × Deals L.accepts H.takes H.is_busy senders.now k listener left) }
+    ensures deals { IfOk result (λ k.
+        (left : L) × Deals L.accepts H.takes H.is_busy H.was_idle senders.now k listener left) }
     ensures served { OnOk result (All K.serves workers.items) }
     ensures deaf { IfErr result (λ why. why ≡ RunFault.Server ServerFault.AcceptFailed → L.refuses listener) }
     ensures announced { Announced (A.announces announce.now) (A.fails announce.now) to.old result to.new }
@@ -217,7 +218,7 @@ where
                 × N.IsAlwaysCallable note.now × K.needs × (threads.items ≡ []) }
             ensures asked { IfOk result.0 (λ k. limits.connections ≡ Some k) }
             ensures deals { IfOk result.0 (λ k.
-                (left : L) × Deals L.accepts H.takes H.is_busy senders.entry.now k listener left) }
+                (left : L) × Deals L.accepts H.takes H.is_busy H.was_idle senders.entry.now k listener left) }
             ensures served { OnOk result.0 (All K.serves workers.items) }
             ensures deaf { IfErr result.0 (λ why. why ≡ RunFault.Server ServerFault.AcceptFailed → L.refuses listener) }
             ensures announced { Announced (A.announces announce.entry.now)
@@ -251,8 +252,8 @@ where
 }
 
 /// Serves the listener's connections until as many as the limits allow were accepted and closed,
-/// and returns their number. Connections are delivered in turn to the workers, one for each
-/// service; those of a worker that is busy with its only connection to the last one.
+/// and returns their number. A connection is delivered to a worker that has none; else to the workers, one for each
+/// service, in turn; those of a worker that is busy with its only connection to the last one.
 ///
 /// While the limit of open connections is reached, clients wait in the listener's queue.
 ///

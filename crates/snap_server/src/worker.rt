@@ -394,9 +394,12 @@ where
     {
         let mut piece = [0u8; PIECE];
         for _ in rt.forever() {
-            // All connections were sent before the mailbox was closed.
-            if !self.is_open && !self.mailbox.has_arrivals() && self.sessions.is_empty() {
-                return Ok(());
+            if self.sessions.is_empty() && !self.mailbox.has_arrivals() {
+                // All connections were sent before the mailbox was closed.
+                if !self.is_open {
+                    return Ok(());
+                }
+                self.mailbox.be_idle();
             }
             self.wait()?;
             self.take_events(rt, limit, note);

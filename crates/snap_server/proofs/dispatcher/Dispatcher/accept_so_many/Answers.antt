@@ -8,7 +8,7 @@ below : (k most dealt dealt' : ℕ) → dealt ≡ k → k < most → most < 1844
 below = grind arith
 
 pub loop-preserved : goal.loop-preserved
-loop-preserved g c = dealt_more _ _ _ _ _ _ _ _ _ _ _ _ _ _ _ c.loop.invariant
+loop-preserved g c = dealt_more _ _ _ _ _ _ _ _ _ _ _ _ _ _ _ _ c.loop.invariant
     c.in_ok-accept_one.ensures.handed c.in_ok-accept_one.ensures.same c.in_ok-accept_one.ensures.in_turn
     (below _ _ _ _ c.loop.invariant.counted c.loop-test.true c.ranges.most.fits c.in_ok-accept_one.ensures.counted)
     c.in_ok-accept_one.ensures.senders
