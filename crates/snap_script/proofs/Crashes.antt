@@ -1,8 +1,7 @@
 -- The words of a crash's line, as they are read.
 use Rattle.std.proofs.Common.{◌≡◌, ℕ, ◌≤◌, Option, Some, None, List, [], ◌∷◌, ◌++◌, length, Bor, refl, sym, ap, ◌∙◌}
-use Rattle.std.proofs.Common.{append_assoc, append-nil, arith}
-use Rattle.std.specs.{Prelude.◌==◌, Prelude.MatchOption, List.AllZip}
-use Rattle.std.proofs.lemmas.List.Splits.{length-slice_split}
+use Rattle.std.proofs.Common.{append_assoc, append-nil, arith, ◌==◌, MatchOption}
+use Rattle.std.{specs.List.AllZip, proofs.lemmas.List.Splits.length-slice_split}
 use Rattle.snap_disk.specs.declared.fill.Fill.{Fill}
 use Rattle.snap_script.{specs.Words.words_of, specs.Words.IsFill, proofs.Zip.AllZip-push}
 

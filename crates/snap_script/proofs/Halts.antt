@@ -2,10 +2,10 @@
 use Rattle.std.proofs.Common.{◌≡◌, ◌≢◌, ℕ, ◌<◌, ◌≤◌, inl, Option, List, [], ◌∷◌, ◌++◌, length, refl, sym, ap, ◌∙◌}
 use Rattle.std.proofs.Common.{append_assoc, append-nil, length-append, arith}
 use Rattle.std.proofs.lemmas.List.Elements.{All-push}
-use Rattle.snap_script.specs.Script.{ended, Ends, IsAt}
-use Rattle.snap_script.{proofs.Steps.prints, specs.LineBuffer.HasDone, specs.declared.run.ScriptEnd.TheVariants.TooLong}
-use Rattle.snap_script.{specs.LineBuffer.HasTaken, specs.declared.line_buffer.LineBuffer.LineBuffer}
-use Rattle.snap_script.{specs.declared.run.ScriptEnd.TheVariants.NoMemory, specs.declared.run.TheConstants.MAX_LINE}
+use Rattle.snap_script.specs.Script.{ended, Ends, EndsAt, EndPrints, IsAt}
+use Rattle.snap_script.{proofs.Steps.prints, specs.LineBuffer.HasDone, specs.LineBuffer.HasTaken}
+use Rattle.snap_script.specs.declared.run.{ScriptEnd.ScriptEnd, TheConstants.MAX_LINE, ScriptEnd.TheVariants.NoMemory}
+use Rattle.snap_script.specs.declared.{run.ScriptEnd.TheVariants.TooLong, line_buffer.LineBuffer.LineBuffer}
 
 ended-push : (lines : List (List ℕ)) (line : List ℕ) → ended (lines ++ line ∷ []) ≡ ended lines ++ (line ++ 10 ∷ [])
 ended-push [] line = refl
@@ -13,16 +13,20 @@ ended-push (l ∷ lines) line = ap (λ t. l ++ 10 ∷ t) (ended-push lines line)
     ∙ sym (append_assoc l (10 ∷ ended lines) (line ++ 10 ∷ []))
 
 -- after these bytes
-module _ {taken : List ℕ} {old now : Option (List ℕ)} {buffer : LineBuffer}
-    (t : HasTaken taken old now buffer) where
+module _ {taken : List ℕ} {old now : Option (List ℕ)} {buffer : LineBuffer} (t : HasTaken taken old now buffer) where
   abbrev held : List ℕ
   held = buffer.line.items
 
   grown : (more : List ℕ) → taken ++ more ≡ ended t.done ++ (held ++ more)
   grown more = ap (λ bytes. bytes ++ more) t.whole ∙ append_assoc (ended t.done) held more
 
-  pub at_line : (more : List ℕ) → IsAt (taken ++ more) t.done held more
-  at_line more = record { whole = grown more; lines = t.has_done.lines; plain = t.is_line.0 }
+  -- the script ends at this line
+  pub ends_in : (more : List ℕ) (left new : Option (List ℕ)) (end : ScriptEnd) → EndsAt t.done held more left end
+      → EndPrints old new t.done held end → Ends (taken ++ more) left old new end
+  ends_in more left new end ends printed =
+      let at : IsAt (taken ++ more) t.done held more =
+      record { whole = grown more; lines = t.has_done.lines; plain = t.is_line.0 } in
+      record { done = t.done; line = held; after = more; at = at; ends = ends; prints = printed }
 
   -- the line ends here
   pub taken_line : (new : Option (List ℕ)) (next : LineBuffer) → next.line.items ≡ []
@@ -53,23 +57,16 @@ module _ {taken : List ℕ} {old now : Option (List ℕ)} {buffer : LineBuffer}
       has_done = rw same t.has_done;
     }
 
+    ends_by : (more : List ℕ) (left : Option (List ℕ)) (end : ScriptEnd) → EndsAt t.done (held ++ b ∷ []) more left end
+        → EndPrints old now t.done (held ++ b ∷ []) end → Ends (taken ++ b ∷ more) left old now end
+    ends_by more left end ends printed =
+        record { done = t.done; line = held ++ b ∷ []; after = more; at = at_byte more; ends = ends; prints = printed }
+
     pub too_long : (more : List ℕ) (left : Option (List ℕ)) (number : ℕ) → MAX_LINE ≤ length held
         → Ends (taken ++ b ∷ more) left old now (TooLong number)
-    too_long more left number long = record {
-      done = t.done;
-      line = held ++ b ∷ [];
-      after = more;
-      at = at_byte more;
-      ends = omega (arith, long, length-append held (b ∷ []));
-      prints = prints t.has_done;
-    }
+    too_long more left number long =
+        ends_by more left (TooLong number) (omega (arith, long, length-append held (b ∷ []))) (prints t.has_done)
 
     pub no_memory : (more : List ℕ) (left : Option (List ℕ)) → Ends (taken ++ b ∷ more) left old now NoMemory
-    no_memory more left = record {
-      done = t.done;
-      line = held ++ b ∷ [];
-      after = more;
-      at = at_byte more;
-      ends = inl (λ none. omega (arith, length-append held (b ∷ []), ap length none));
-      prints = prints t.has_done;
-    }
+    no_memory more left = ends_by more left NoMemory
+        (inl (λ none. omega (arith, length-append held (b ∷ []), ap length none))) (prints t.has_done)

@@ -4,8 +4,7 @@ use Rattle.std.proofs.Common.{length, codes, refl, sym, ap, ◌∙◌, arith}
 use Rattle.std.{specs.Prelude.MatchOption, specs.Prelude.IfOk, proofs.Math.Nat.pow-le-pow_right}
 use Rattle.hex.specs.Hex.{decode_of, decode_sized, decode_pairs}
 use Rattle.hex.proofs.HexLemmas.{decode_of-ok, decode_of-even}
-use Rattle.snap_disk.specs.declared.fill.Fill.{Fill}
-use Rattle.snap_disk.specs.declared.fill.Fill.TheVariants.{Keep, All, At}
+use Rattle.snap_disk.specs.declared.fill.Fill.{Fill, TheVariants.Keep, TheVariants.All, TheVariants.At}
 use Rattle.snap_stream.specs.Hex.{IsHex}
 use Rattle.snap_script.specs.Words.{Finds, parts_at, IsNumber, IsFill, IsFillAt}
 
@@ -47,8 +46,8 @@ module _ (word rest : List ℕ) (at : parts_at 58 word ≡ codes "at" ∷ parts_
   picked keep byte (Some f) h = found f h
 
   pub fill_after : {E : Type 0} → (codes "keep" ≢ word) → ((b : ℕ) → decode_of word ≢ Ok (b ∷ []))
-      → (r : Result (Option Fill) E)
-      → IfOk r (λ o. MatchOption o IsNoFillAt IsFillAfter) → IfOk r (λ o. Finds o (IsFill word))
+      → (r : Result (Option Fill) E) → IfOk r (λ o. MatchOption o IsNoFillAt IsFillAfter)
+      → IfOk r (λ o. Finds o (IsFill word))
   fill_after keep byte (Ok o) h = picked keep byte o h
   fill_after keep byte (Err e) h = tt
 

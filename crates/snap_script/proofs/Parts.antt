@@ -1,11 +1,10 @@
 -- The parts of a text.
-use Rattle.std.proofs.Common.{◌≡◌, ℕ, ◌+◌, ◌<◌, Bool, true, false, cond, Option, Some, None, List, [], ◌∷◌, length}
-use Rattle.std.proofs.Common.{take, drop, refl, ap, arith}
-use Rattle.std.specs.Prelude.{MatchOption, ◌==◌}
+use Rattle.std.proofs.Common.{◌≡◌, ℕ, ◌+◌, ◌<◌, Bool, true, false, cond, Option, Some, None, List, [], ◌∷◌, length, ap}
+use Rattle.std.proofs.Common.{take, drop, refl, arith, MatchOption, ◌==◌}
 use Rattle.std.specs.List.{position_from, position_or_len, slice_split}
-use Rattle.std.proofs.lemmas.Bool.{ltb-true, ltb-false}
-use Rattle.std.proofs.lemmas.List.Splits.{length-slice_split, slice_split_first, slice_split_none}
-use Rattle.std.proofs.{Math.Dec.ltb, lemmas.Iterator.Adapters.position_from-zero, lemmas.List.Sums.fails_before_first}
+use Rattle.std.proofs.{lemmas.Bool.ltb-true, lemmas.Bool.ltb-false, lemmas.List.Splits.length-slice_split, Math.Dec.ltb}
+use Rattle.std.proofs.lemmas.List.Splits.{slice_split_first, slice_split_none}
+use Rattle.std.proofs.lemmas.{Iterator.Adapters.position_from-zero, List.Sums.fails_before_first}
 use Rattle.snap_script.specs.Words.{parts_at}
 
 module _ (p : ℕ → Bool) (xs : List ℕ) where

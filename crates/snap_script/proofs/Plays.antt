@@ -1,8 +1,7 @@
 -- One line more.
-use Rattle.std.proofs.Common.{◌≡◌, ℕ, Some, List, [], ◌∷◌, ◌++◌, refl, sym, ap, ◌∙◌, append_assoc, append-nil}
-use Rattle.snap_script.specs.Text.{world_text, line_text, reply_text, replies_text}
-use Rattle.snap_script.proofs.Zip.{AllZip-push}
-use Rattle.snap_script.specs.{Line.IsWorldLine, Line.IsEventLine, Interpreter.Played}
+use Rattle.std.proofs.Common.{◌≡◌, ℕ, Some, List, [], ◌∷◌, ◌++◌, refl, sym, ◌∙◌, append_assoc, append-nil}
+use Rattle.snap_script.{proofs.Zip.AllZip-push, specs.Interpreter.Played, specs.Line.IsEventLine}
+use Rattle.snap_script.specs.{Line.IsWorldLine, Text.world_text, Text.line_text, Text.reply_text, Text.replies_text}
 use Rattle.snap_world.specs.Start.{start_state, start_world_phases, AreFormatted}
 use Rattle.snap_world.specs.Surface.{StandsFor, IsRun, configuration, segments_of, phases_of, devices_of}
 use Rattle.snap_world.proofs.Runs.{Run-append}
@@ -11,8 +10,7 @@ use Rattle.snap_world.specs.declared.{event.Event.Event, event.Reply.Reply, worl
 replies_text-push : (replies : List Reply) (reply : Reply)
     → replies_text (replies ++ reply ∷ []) ≡ replies_text replies ++ line_text (reply_text reply)
 replies_text-push [] reply = append-nil (line_text (reply_text reply))
-replies_text-push (r ∷ replies) reply = ap (λ t. line_text (reply_text r) ++ t) (replies_text-push replies reply)
-    ∙ sym (append_assoc (line_text (reply_text r)) (replies_text replies) (line_text (reply_text reply)))
+replies_text-push (r ∷ replies) reply = simp (replies_text-push replies reply, append_assoc)
 
 pub played_on : (old new : World) (lines : List (List ℕ)) (text line : List ℕ) (e : Event) (reply : Reply)
     (out : List ℕ) → Played lines text (Some old) → IsEventLine line e → IsRun old (e ∷ []) (reply ∷ []) new
@@ -33,9 +31,8 @@ played_on old new (first ∷ lines) text line e reply out (x, stands, plays) is 
         replies = plays.replies ++ reply ∷ [];
         run = Run-append n _ plays.events plays.replies (configuration old x) (e ∷ [])
             (reply ∷ []) (configuration new step.0) plays.run step.1;
-        printed = ap (λ t. t ++ out) plays.printed ∙ append_assoc (line_text (world_text n plays.s))
-            (replies_text plays.replies) out ∙ ap (λ t. line_text (world_text n plays.s) ++ t)
-            (ap (λ o. replies_text plays.replies ++ o) printed ∙ sym (replies_text-push plays.replies reply));
+        printed = rw (plays.printed, printed, replies_text-push)
+            (append_assoc (line_text (world_text n plays.s)) (replies_text plays.replies) (line_text (reply_text reply)));
       },
     )
 

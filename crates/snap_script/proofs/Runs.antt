@@ -1,11 +1,11 @@
 -- A script from its first read to its end.
-use Rattle.std.proofs.Common.{◌≡◌, ℕ, inr, Option, List, [], ◌++◌, refl, append-nil, arith}
+use Rattle.std.proofs.Common.{◌≡◌, ℕ, inr, Option, List, [], ◌++◌, refl, append-nil}
 use Rattle.std.proofs.KnownBytes.{Appends-nil, Consumes-kept, Consumes-nil, Consumes-trans}
+use Rattle.std.proofs.lemmas.List.Elements.{All-nil}
 use Rattle.std.specs.{Io.KnownBytes.Consumes, Io.KnownBytes.Keeps, declared.io.Error.Error}
-use Rattle.snap_script.proofs.{Halts.at_line, Steps.prints}
-use Rattle.snap_script.specs.{LineBuffer.HasTaken, Script.Ends, Script.Runs, declared.line_buffer.LineBuffer.LineBuffer}
-use Rattle.snap_script.specs.{declared.run.ScriptEnd.ScriptEnd, declared.run.ScriptEnd.TheVariants.NoMemory}
-use Rattle.snap_script.specs.declared.run.ScriptEnd.TheVariants.{ReadFailed}
+use Rattle.snap_script.{proofs.Halts.ends_in, proofs.Steps.prints, specs.LineBuffer.HasTaken, specs.Script.Ends}
+use Rattle.snap_script.specs.{Script.Runs, declared.line_buffer.LineBuffer.LineBuffer, declared.run.ScriptEnd.ScriptEnd}
+use Rattle.snap_script.specs.declared.run.ScriptEnd.TheVariants.{NoMemory, ReadFailed}
 
 -- no memory at first
 pub runs_none : (read old : Option (List ℕ)) → Runs read read old old NoMemory
@@ -16,7 +16,7 @@ runs_none read old = (
     done = [];
     line = [];
     after = [];
-    at = record { whole = refl; lines = λ k d l. absurd (omega arith); plain = λ k d l. absurd (omega arith) };
+    at = record { whole = refl; lines = All-nil _; plain = All-nil _ };
     ends = inr refl;
     prints = ([], refl, Appends-nil old);
   },
@@ -51,12 +51,5 @@ module _ {read_old read_new old new : Option (List ℕ)} {buffer : LineBuffer}
   runs_cut {after} error kept = (
     f.taken,
     Consumes-kept read_old read_new after f.taken f.read kept,
-    record {
-      done = f.has_taken.done;
-      line = buffer.line.items;
-      after = [];
-      at = rw (append-nil f.taken) at (at_line f.has_taken []);
-      ends = refl;
-      prints = prints f.has_taken.has_done;
-    },
+    rw (append-nil f.taken) at (ends_in f.has_taken [] after new (ReadFailed error) refl (prints f.has_taken.has_done)),
   )

@@ -1,8 +1,7 @@
 -- A script, line by line.
 use Rattle.std.proofs.Common.{◌≡◌, ◌≢◌, ℕ, ◌+◌, ◌<◌, Option, Some, None, List, [], ◌∷◌, ◌++◌, length, take, refl, ap}
-use Rattle.std.proofs.Common.{arith}
-use Rattle.std.proofs.KnownBytes.{Appends-nil, Appends-trans}
-use Rattle.std.{specs.Io.KnownBytes.Appends, proofs.Math.Seq.take-append-add, proofs.lemmas.List.Elements.All-push}
+use Rattle.std.proofs.{Common.arith, KnownBytes.Appends-nil, KnownBytes.Appends-trans, Math.Seq.take-append-add}
+use Rattle.std.{specs.Io.KnownBytes.Appends, proofs.lemmas.List.Elements.All-push, proofs.lemmas.List.nil_from_length}
 use Rattle.snap_script.specs.Script.{full_lines, IsLine, IsUnreadable, MayPrint, Prints, PrintsPart}
 use Rattle.snap_script.specs.{Interpreter.HaltsAt, declared.interpreter.InterpreterFault.TheVariants.Fault}
 use Rattle.snap_script.specs.{Interpreter.Played, LineBuffer.HasDone, declared.fault.LineFault.LineFault}
@@ -40,10 +39,6 @@ unreadable [] text (Some w) line fault played halts = absurd played
 unreadable (first ∷ lines) text None line fault played halts = absurd played
 unreadable (first ∷ lines) text (Some w) line fault played halts = halts
 
-pub empty_list : (line : List ℕ) → length line ≡ 0 → line ≡ []
-empty_list [] e = refl
-empty_list (b ∷ line) e = absurd (omega arith)
-
 pub some_list : (line : List ℕ) → 0 < length line → line ≢ []
 some_list line some e = omega (arith, ap length e)
 
@@ -60,7 +55,7 @@ module _ {done : List (List ℕ)} {old now : Option (List ℕ)} {world : Option 
     done_empty none is = record {
       lines = All-push IsLine done line h.lines is;
       text = h.text;
-      played = rw (empty_list line none, full_lines-push_empty done) h.played;
+      played = rw (nil_from_length line none, full_lines-push_empty done) h.played;
       wrote = h.wrote;
     }
 

@@ -11,8 +11,7 @@ returns-in-Ok-eq0 g c =
     let fed = c.loop.invariant.2 in
     let room : 0 < length c.read.new.buf = grind (arith, common_steps) in
     let end = c.in-Ok-eq0.ensures.bytes.1 c.in-Ok-eq0.field-0-test room in
-    runs_finish fed c.finish.result
-    (ap (λ k. take k c.read.new.buf) c.in-Ok-eq0.field-0-test)
+    runs_finish fed c.finish.result (ap (λ k. take k c.read.new.buf) c.in-Ok-eq0.field-0-test)
     c.in-Ok-eq0.ensures.bytes.0 (c.finish.ensures fed.taken _ _ end fed.has_taken)
 
 pub returns-in-Err : goal.returns-in-Err

@@ -1,8 +1,7 @@
 use Rattle.std.proofs.Common.{ℕ, ◌≡◌, ◌<◌, ◌+◌, Some, None, ◌∷◌, length, take, drop, ◌-◌, length-drop, arith}
 use Rattle.std.{proofs.lemmas.List.take_all, proofs.lemmas.List.length-take-le, specs.Prelude.◌==◌}
-use Rattle.snap_script.{specs.Words.parts_at, proofs.Parts.splits_at_place}
+use Rattle.snap_script.{specs.Words.parts_at, proofs.Parts.splits_at_place, proofs.words.cut.Goals.In-Some}
 use Rattle.snap_script.proofs.words.cut.Goals as goal
-use Rattle.snap_script.proofs.words.cut.Goals.{In-Some}
 
 place : (c : In-Some) → (c.in-Some.i < length c.args.text.now)
     × (parts_at c.args.at c.args.text.now ≡ take c.in-Some.i c.args.text.now

@@ -1,6 +1,6 @@
 use Rattle.std.proofs.Common.{◌≡◌, ◌≢◌, ℕ, ◌<◌, ◌≤◌, Option, List, [], ◌∷◌, ◌++◌, Result, Ok, Err, length, refl, arith}
 use Rattle.std.{specs.Prelude.OnOk, proofs.lemmas.Bool.Decides.nat_tests, proofs.lemmas.Result.IfErr-weaker}
-use Rattle.snap_script.proofs.Halts.{at_line, no_memory, taken_byte, taken_line, too_long}
+use Rattle.snap_script.proofs.Halts.{ends_in, no_memory, taken_byte, taken_line, too_long}
 use Rattle.snap_script.specs.{LineBuffer.HasDone, Script.IsLine, declared.run.TheConstants.MAX_LINE}
 use Rattle.snap_script.proofs.line_buffer.LineBuffer.take_byte.Goals as goal
 
@@ -23,14 +23,8 @@ returns-then-byte-eq10-clause-ok g c =
 pub returns-then-byte-eq10-clause-err : goal.returns-then-byte-eq10-clause-err
 returns-then-byte-eq10-clause-err g c = IfErr-weaker c.do_line.result _ _ (λ end err taken rest left old t.
     let halts = err t.done old t.is_line t.has_done in
-    rw c.if-byte-eq10.true record {
-      done = t.done;
-      line = c.args.self.now.line.items;
-      after = 10 ∷ rest;
-      at = at_line t (10 ∷ rest);
-      ends = halts.0 (10 ∷ rest) left refl;
-      prints = halts.1;
-    }) c.do_line.ensures.err
+    rw c.if-byte-eq10.true (ends_in t (10 ∷ rest) left _ end (halts.0 (10 ∷ rest) left refl) halts.1))
+    c.do_line.ensures.err
 
 pub returns-then-len-ge-MAX_LINE-clause-err : goal.returns-then-len-ge-MAX_LINE-clause-err
 returns-then-len-ge-MAX_LINE-clause-err g c = λ taken rest left old t.
