@@ -1,10 +1,9 @@
 -- Files on one of which a command worked keep one memory.
-use Rattle.std.proofs.Common.{◌≡◌, ◌≢◌, ◌⊎◌, ⊎_elim, ℕ, suc, ◌+◌, ◌<◌, ◌≤◌, ◌==◌, inl, inr, false, List, [], ◌∷◌}
-use Rattle.std.proofs.Common.{◌++◌, length, map, replicate, None, Some, slice_get, slice_set, refl, ap, sym, ◌∙◌, arith}
-use Rattle.std.proofs.Common.{append-nil}
-use Rattle.std.proofs.lemmas.List.{length-set, length-map, length-append, length-replicate}
-use Rattle.std.specs.Prelude.{if◌then◌else◌}
-use Rattle.std.proofs.lemmas.{Bool.Decides.nat_tests, Option.same_Some, Option.slice_get_within, Bool.cases_eq}
+use Rattle.std.proofs.Common.{◌≡◌, ◌≢◌, ◌⊎◌, ⊎_elim, ℕ, suc, ◌+◌, ◌<◌, ◌≤◌, ◌==◌, inl, inr, false, List, [], ◌∷◌, ◌++◌}
+use Rattle.std.proofs.Common.{length, map, replicate, None, Some, slice_get, slice_set, refl, ap, sym, ◌∙◌, arith}
+use Rattle.std.proofs.{Common.append-nil, Common.length-set, lemmas.List.length-map, Common.length-append}
+use Rattle.std.proofs.{lemmas.List.length-replicate, Common.if◌then◌else◌, lemmas.Bool.Decides.nat_tests}
+use Rattle.std.proofs.lemmas.{Option.same_Some, Option.slice_get_within, Bool.cases_eq}
 use Rattle.snap_disk.specs.Device.{MayLeave}
 use Rattle.snap_segment.specs.{Layout.IsFileOf, States.IsEither}
 use Rattle.snap_slot.proofs.Readings.{holds_same}
@@ -57,11 +56,8 @@ found n start h begun files r j =
     let number : number_after start (h ++ more) j ≡ number_after start h j + 1 =
     omega (arith, updates-append j h more, r.once j, l.some) in
     let value = last-append (start j).1 j h more ∙ l.value_is in
-    inr (
-      l.is.value,
-      rw l.segment_is at (r.were_begun l.place l.is l.at).1,
-      λ b at. same_file refl refl number value (r.holds j b at),
-    ))
+    let was = rw l.segment_is at (r.were_begun l.place l.is l.at).1 in
+    inr (l.is.value, was, λ b at. same_file refl refl number value (r.holds j b at)))
     (last_of (value_after start h j) j more)
 
 -- ---- a history without one segment

@@ -92,10 +92,8 @@ module _ {D : Type 0} (disk : Disk.Ghosts D) where
       let pair = paired i w at in
       let seat = back.writers_are i w at in
       let none = (fresh.writers_are i w at).0 in
-      let number : number_of w ≡ number_after (starts back.plan) [] i =
-      λ t. number_after (starts (seat.plan_is t)) (none t) (seat.low_is t) in
-      let value : value_of w ≡ value_after (starts back.plan) [] i =
-      λ t. value_after (starts (seat.plan_is t)) (none t) (seat.low_is t) in
+      let number : number_of w ≡ number_after (starts back.plan) [] i = cc in
+      let value : value_of w ≡ value_after (starts back.plan) [] i = cc in
       (omega (arith, number, pair.number_is), pair.value_is ∙ value)) in
       let any_moment : AnyMoment disk back.plan writers =
       λ s kept places files count each left.

@@ -1,21 +1,19 @@
 -- A crash of all devices: at a consistent cut, and at a moment of the registers.
-use Rattle.std.proofs.Common.{◌≡◌, ◌⊎◌, ⊎_elim, ℕ, zero, suc, ◌+◌, ◌<◌, ◌≤◌, inl, inr, List, [], ◌∷◌, length, Some}
+use Rattle.std.proofs.Common.{◌≡◌, ⊎_elim, ℕ, zero, suc, ◌<◌, ◌≤◌, inl, inr, List, [], ◌∷◌, length, Some}
 use Rattle.std.proofs.Common.{slice_get, refl, ap, sym, ◌∙◌, arith}
 use Rattle.std.proofs.lemmas.{List.length-append, List.length-map, Option.same_Some}
-use Rattle.snap_register.specs.History.{starts, updates}
-use Rattle.snap_register.proofs.Updates.{updates_count, beginning_is}
-use Rattle.snap_register.specs.{Registers.Moment, declared.plan.Plan.Plan, declared.plan.SeatView.SeatView, Rule.Kept}
-use Rattle.snap_register.specs.Rule.{segments, IsWriter}
+use Rattle.snap_register.specs.{Rule.Kept, Rule.segments, Rule.IsWriter, History.starts, History.updates}
+use Rattle.snap_register.{proofs.Updates.updates_count, proofs.Updates.beginning_is, specs.Registers.Moment}
+use Rattle.snap_register.specs.declared.plan.{Plan.Plan, SeatView.SeatView, UpdatePhase.TheVariants.Storing}
 use Rattle.snap_slot.specs.Layout.{IsFileOf}
 use Rattle.snap_history.specs.History.{Update, IsBeginning, number_after, value_after}
 use Rattle.snap_history.proofs.Beginnings.{beginning-self, beginning-trans, number-beginning}
 use Rattle.snap_history.{specs.Pairs.Pairs, proofs.Pairs.element}
 use Rattle.snap_memory.proofs.ScanAnswer.{same_value}
 use Rattle.snap_writer.specs.Writer.{number_of, value_of}
-use Rattle.snap_writer.specs.Life.{Place, HasBegun, seen_at, CrashLeaves, IsPlaceOf}
+use Rattle.snap_writer.specs.Life.{Place, seen_at, CrashLeaves, IsPlaceOf}
 use Rattle.snap_restart.specs.LifeCrash.{all_seen, HoldsIn, Begun, IsRecovered}
 use Rattle.snap_restart.specs.LifeLaws.{CutLaw, ConsistentLaw, InstantLaw, IsOf, IsSeatOf, IsSeenIn}
-use Rattle.snap_register.specs.declared.plan.UpdatePhase.TheVariants.{Storing}
 use Rattle.snap_restart.proofs.{LifeOrder.longest, LifeOrder.has_early, Merge.FileAt, Merge.all_found}
 use Rattle.snap_restart.proofs.{Placed.same_file, Placed.phase_leaves, Placed.in_any, Pairs.partner_of, Lives.life_fits}
 use mathlib.Core.Option.{some}
@@ -61,12 +59,7 @@ seat_agrees : (plan : Plan) (s : Moment) (kept : Kept plan s) (i j : ℕ) (v : S
 seat_agrees plan s kept i j v at writes =
     let role = (kept.each_seat j v at).role i (omega arith) in record {
       saw = seat_saw plan s kept j v at;
-      whole = omega (
-        arith,
-        updates_count i v.seen,
-        updates_count i kept.history,
-        ap length (role.all (omega arith)),
-      );
+      whole = omega (arith, updates_count i v.seen, updates_count i kept.history, ap length (role.all (omega arith)));
     }
 
 place_agrees : {D : Type 0} (plan : Plan) (s : Moment) (kept : Kept plan s) (i : ℕ) (p : Place D)
@@ -79,9 +72,7 @@ moment_consistent plan s kept writers scanners seats seen j x e i p at =
     let begins = each_seen (λ (y : List Update). IsBeginning y h) writers scanners
     (λ k q there. (place_agrees plan s kept k q (seats k q there)).saw)
     (λ k y there. seen_saw plan s kept y (seen k y there)) j x e in
-    let below = number-beginning (starts plan) x h i begins in
-    let whole = (place_agrees plan s kept i p (seats i p at)).whole in
-    omega (arith, below, whole)
+    omega (arith, number-beginning (starts plan) x h i begins, (place_agrees plan s kept i p (seats i p at)).whole)
 
 -- ---- the contents of the files
 
@@ -124,10 +115,8 @@ module _ {D : Type 0} (disk : Disk.Ghosts D) where
       let p = partner_of _ writers files i b left at in
       let is = each i p.0 p.1 in
       let of = is.0.writer_is in
-      let number : number_of p.0.writer ≡ number_after (starts plan) (seen_at p.0) i =
-      λ t. number_after (starts (of.plan_is t)) (seen_at p.0) (of.low_is t) in
-      let value : value_of p.0.writer ≡ value_after (starts plan) (seen_at p.0) i =
-      λ t. value_after (starts (of.plan_is t)) (seen_at p.0) (of.low_is t) in
+      let number : number_of p.0.writer ≡ number_after (starts plan) (seen_at p.0) i = cc in
+      let value : value_of p.0.writer ≡ value_after (starts plan) (seen_at p.0) i = cc in
       agreed plan h n i (seen_at p.0) (Begun writers i) b is.1
       (⊎_elim (λ old. inl (same_file refl refl number value old))
       (λ new. inr (new.0, (p.0, p.1, new.1), rw number at new.2))
@@ -145,23 +134,24 @@ module _ {D : Type 0} (disk : Disk.Ghosts D) where
       let x = lived i p e in
       let f = life_fits disk plan n i x.0 x.1 x.2 p x.3 x.4 x.5 in
       (f.0, beginning-trans (seen_at p) x.1.seat.seen h f.2 x.6)) in
-      let begins = each_seen (λ (y : List Update). IsBeginning y h) writers scanners
-      (λ i p e. (fits i p e).1) saw in
+      let begins = each_seen (λ (y : List Update). IsBeginning y h) writers scanners (λ i p e. (fits i p e).1) saw in
       let long : 0 < length (all_seen writers scanners) = simp (length-append, length-map) (omega arith) in
       let l = longest (all_seen writers scanners) h long begins in
       let within : IsBeginning l.it h = begins l.place l.it l.there in
+      let sees : (i : ℕ) (p : Place D) → slice_get writers i ≡ Some p → IsBeginning (seen_at p) l.it =
+      λ i p e. l.whole i (seen_at p) (seen_there writers scanners i p e) in
       record {
         visible = l.it;
         within = within;
         seen_by = (l.place, l.there);
         all_visible = l.whole;
         acknowledged = λ i k v p e has low. (
-            let more = number-beginning start (seen_at p) l.it i
-            (l.whole i (seen_at p) (seen_there writers scanners i p e)) in
+            let more = number-beginning start (seen_at p) l.it i (sees i p e) in
             has_early start l.it h i k v within has (omega (arith, low, more)));
-        recovered = recovered plan n l.it writers files refl (λ i p e. let saw = l.whole i (seen_at p)
-            (seen_there writers scanners i p e) in
-            ((fits i p e).0, record { saw = saw; whole = consistent l.place l.it l.there i p e })) left;
+        recovered = recovered plan n l.it writers files refl (λ i p e. (
+          (fits i p e).0,
+          record { saw = sees i p e; whole = consistent l.place l.it l.there i p e },
+        )) left;
       }
 
   -- ---- a moment of the registers
@@ -174,8 +164,6 @@ module _ {D : Type 0} (disk : Disk.Ghosts D) where
       × IsRecovered n (starts plan) (updates kept.history) (Begun writers) files
   moment_recovers plan n s kept writers files count each left = (
     seat_saw plan s kept,
-    recovered plan n (updates kept.history) writers files count (λ i p e. (
-      (each i p e).0,
-      place_agrees plan s kept i p (each i p e).1,
-    )) left,
+    recovered plan n (updates kept.history) writers files count
+        (λ i p e. ((each i p e).0, place_agrees plan s kept i p (each i p e).1)) left,
   )

@@ -1,23 +1,19 @@
 -- At each place in a writer's life its device and its seat agree.
-use Rattle.std.proofs.Common.{◌≡◌, ◌⊎◌, ⊎_elim, ℕ, ◌+◌, inl, inr, List, [], ◌∷◌, ◌++◌, None, refl, ap, sym, ◌∙◌, arith}
+use Rattle.std.proofs.Common.{◌≡◌, ◌⊎◌, ⊎_elim, ℕ, ◌+◌, inl, inr, List, [], ◌∷◌, refl, ap, sym, ◌∙◌, arith}
 use Rattle.std.proofs.lemmas.List.{append_assoc}
 use Rattle.snap_segment.specs.Segment.{SegmentState}
 use Rattle.snap_history.{specs.History.IsBeginning, proofs.Beginnings.beginning-self, proofs.Beginnings.beginning-trans}
-use Rattle.snap_register.specs.{declared.plan.Plan.Plan, Seat.Known, Seat.own_of}
+use Rattle.snap_register.specs.{declared.plan.Plan.Plan, Seat.Known, declared.plan.UpdatePhase.UpdatePhase}
+use Rattle.snap_register.specs.declared.plan.UpdatePhase.TheVariants.{Shown, Storing, Stored}
 use Rattle.snap_writer.specs.{Writer.WriterState, Writer.number_of, Writer.value_of, Update.IsSameSeat, Update.EndsWith}
 use Rattle.snap_writer.proofs.Shown.{same_grown, number_grown, value_grown, number_shown, value_shown}
 use Rattle.snap_writer.specs.Life.{Place, seen_at, HasInPhase, Rests, Sees, Begins, Stores, Ends, Shows, Does, Lived}
 use Rattle.snap_writer.specs.Life.{IsAt, IsInStore, IsIn, IsWriterOf, IsPlaceOf}
-use Rattle.snap_register.specs.declared.plan.UpdatePhase.{UpdatePhase}
-use Rattle.snap_register.specs.declared.plan.UpdatePhase.TheVariants.{Shown, Storing, Stored}
 use Rattle.snap_disk.specs.declared.disk.Disk as Disk
 
 -- an update that a seat shows comes after all that it had seen
 shown_later : (a b : Known) (v : List ℕ) → EndsWith a b v → IsBeginning a.seen b.seen
-shown_later a b v e = (
-  e.between ++ record { segment = own_of a; value = v } ∷ [],
-  e.seen ∙ append_assoc a.seen e.between (record { segment = own_of a; value = v } ∷ []),
-)
+shown_later a b v e = grind (arith, append_assoc)
 
 module _ {D : Type 0} (disk : Disk.Ghosts D) where
   -- a step on the seat leaves the segment as it is
@@ -43,15 +39,7 @@ module _ {D : Type 0} (disk : Disk.Ghosts D) where
     same_writer : (a b : WriterState D) (t : SegmentState D) (f : UpdatePhase) → Is a → IsSameSeat a.seat b.seat
         → b.segment ≡ t → t.index ≡ i → t.count ≡ n → b.seat.phase ≡ f → HasInPhase t (number_of b) (value_of b) f
         → Rests disk b → Is b
-    same_writer a b t f is seat same index count phase stored rests = record {
-      plan_is = seat.plan ∙ is.plan_is;
-      low_is = seat.low ∙ is.low_is;
-      high_is = seat.high ∙ is.high_is;
-      index_is = rw same index;
-      count_is = rw same count;
-      phase_is = rw (phase, same) stored;
-      rests = rests;
-    }
+    same_writer a b t f is seat same index count phase stored rests = grind (arith)
 
     -- the seat with another phase
     abbrev same_but : Known → UpdatePhase → Known
@@ -63,9 +51,7 @@ module _ {D : Type 0} (disk : Disk.Ghosts D) where
     -- what was shown last stays so while the seat sees more
     seen_still : (P : ℕ → List ℕ → Type 0) (a b : WriterState D) → Is a → Sees disk a b
         → P (number_of a) (value_of a) → P (number_of b) (value_of b)
-    seen_still P a b is s shown =
-        let alone : a.seat.high ≡ a.seat.low + 1 = omega (arith, is.high_is, is.low_is) in
-        rw (number_grown a.seat b.seat s.grows alone, value_grown a.seat b.seat s.grows alone) shown
+    seen_still P a b is s shown = grind (arith, number_grown, value_grown)
 
     sees_is : (a b : WriterState D) → Is a → Sees disk a b → Is b
     sees_is a b is s = same_writer a b a.segment a.seat.phase is (same_grown a.seat b.seat s.grows) s.segment_is
@@ -93,14 +79,11 @@ module _ {D : Type 0} (disk : Disk.Ghosts D) where
         is.count_is (ap (λ (k : Known). k.phase) s.seat_is) (rw s.seat_is s.stored) (rw s.segment_is is.rests)
 
     shows_is : (a b : WriterState D) → Is a → Shows disk a b → Is b
-    shows_is a b is s = same_writer a b a.segment Shown is s.same_seat s.segment_is is.index_is is.count_is s.phase (
-      (
-        s.stored.0 ∙ sym (number_shown a.seat b.seat a.segment.value s.same_seat s.shown),
-        sym (value_shown a.seat b.seat a.segment.value s.same_seat s.shown),
-      ),
-      s.stored.1,
-    )
-        (rw s.segment_is is.rests)
+    shows_is a b is s =
+        let number = number_shown a.seat b.seat a.segment.value s.same_seat s.shown in
+        let value = value_shown a.seat b.seat a.segment.value s.same_seat s.shown in
+        same_writer a b a.segment Shown is s.same_seat s.segment_is is.index_is is.count_is s.phase
+        ((s.stored.0 ∙ sym number, sym value), s.stored.1) (rw s.segment_is is.rests)
 
     pub does_is : (a b : WriterState D) → Is a → Does disk a b → Is b
     does_is a b is (inl (inl sees)) = sees_is a b is sees
@@ -117,18 +100,15 @@ module _ {D : Type 0} (disk : Disk.Ghosts D) where
         rw at (record { writer_is = sees_is a m is sees; storing_is = record {} }, sees.grows.later, seen)
 
     mid_store : (a z : WriterState D) (p : Place D) → Is a → IsInStore disk z a p → Fits a z p
-    mid_store a z p is (m, v, d, sees, seen, went, at) = rw at (
-      record {
-        writer_is = sees_is a m is sees;
-        storing_is = rw sees.segment_is (
-          sees.grows.phase ∙ went.noted,
-          seen_still (λ k u. (a.segment.number ≡ k) × (a.segment.value ≡ u)) a m is sees went.shown,
-          λ hon. (went.any_time hon).each,
-        );
-      },
-      sees.grows.later,
-      seen,
-    )
+    mid_store a z p is (m, v, d, sees, seen, went, at) =
+        let shown = seen_still (λ k u. (a.segment.number ≡ k) × (a.segment.value ≡ u)) a m is sees went.shown in rw at (
+          record {
+            writer_is = sees_is a m is sees;
+            storing_is = rw sees.segment_is (sees.grows.phase ∙ went.noted, shown, λ hon. (went.any_time hon).each);
+          },
+          sees.grows.later,
+          seen,
+        )
 
     fits_here : (a z : WriterState D) (p : Place D) → Is a → IsAt disk z a p ⊎ IsInStore disk z a p → Fits a z p
     fits_here a z p is = ⊎_elim (at_rest a z p is) (mid_store a z p is)
@@ -138,8 +118,5 @@ module _ {D : Type 0} (disk : Disk.Ghosts D) where
     life_fits a z [] p is lived there = fits_here a z p is there
     life_fits a z (b ∷ life) p is lived (inl here) = fits_here a z p is here
     life_fits a z (b ∷ life) p is lived (inr later) =
-        let rest = life_fits b z life p (does_is a b is lived.0) lived.1 later in (
-          rest.0,
-          beginning-trans a.seat.seen b.seat.seen (seen_at p) (step_later a b lived.0) rest.1,
-          rest.2,
-        )
+        let rest = life_fits b z life p (does_is a b is lived.0) lived.1 later in
+        (rest.0, beginning-trans a.seat.seen b.seat.seen (seen_at p) (step_later a b lived.0) rest.1, rest.2)

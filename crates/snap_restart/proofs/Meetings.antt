@@ -38,12 +38,8 @@ told_now start scanner met a grown first more g is = record {
   heard = rw is g.later;
   no_more = λ j l h.
       let later = beginning-trans start.seen scanner.seen met.seen first.later more.later in
-      omega (
-        arith,
-        g.own j l h,
-        number-beginning (starts a.plan) start.seen met.seen j later,
-        ap (λ (h : List Update). number_in a h j) is,
-      );
+      let rises = number-beginning (starts a.plan) start.seen met.seen j later in
+      omega (arith, g.own j l h, rises, ap (λ (h : List Update). number_in a h j) is);
 }
 
 module _ {D : Type 0} where
@@ -61,10 +57,8 @@ module _ {D : Type 0} where
       → IsTold x.seat start met
   told_step olds k w start scanner met grown there before first more g is =
       one_more (λ (x : WriterState D). IsTold x.seat start met) olds k w there
-      (λ i x at low. let t = before i x at low in record {
-        heard = beginning-trans x.seat.seen scanner.seen met.seen t.heard more.later;
-        no_more = t.no_more;
-      })
+      (λ i x at low. let t = before i x at low in
+      record { heard = beginning-trans x.seat.seen scanner.seen met.seen t.heard more.later; no_more = t.no_more })
       (told_now start scanner met w.seat grown first more g is)
 
   -- the seats of one opening are together, also after they have seen more
@@ -127,11 +121,7 @@ module _ {D : Type 0} where
       let value_is : w.segment.value ≡ value_in w.seat h i = value
       ∙ same_value (starts w.seat.plan) h w.seat.seen h i saw.0 (beginning-self h) (omega (arith, saw.1)) in
       let kept = rw same at r.kept in
-      record {
-        number_is = number_is;
-        value_is = value_is;
-        file = λ hon. rw (← number_is, ← value_is) (kept hon);
-      }
+      record { number_is = number_is; value_is = value_is; file = λ hon. rw (← number_is, ← value_is) (kept hon) }
 
 -- ---- devices that are returned
 

@@ -30,16 +30,9 @@ module _ {D : Type 0} (z : RegistersId) (p : Plan) (ss : List (SegmentState D)) 
     each = λ i s a es ea.
         let n = new i a ea in
         let first = o.each i (contents s) (get_map contents ss i s es) in
-        let number : number_in a a.seen (own_of a) ≡ number_after (starts p) [] i =
-        λ t. number_after (starts (n.plan_is t)) (n.seen_is t) (n.low_is t) in
-        let value : value_in a a.seen (own_of a) ≡ value_after (starts p) [] i =
-        λ t. value_after (starts (n.plan_is t)) (n.seen_is t) (n.low_is t) in
-        record {
-          number_is = grind arith;
-          value_is = grind arith;
-          unfenced = unfenced i s es;
-          phase_is = n.phase_is;
-        };
+        let number : number_in a a.seen (own_of a) ≡ number_after (starts p) [] i = cc in
+        let value : value_in a a.seen (own_of a) ≡ value_after (starts p) [] i = cc in
+        record { number_is = grind arith; value_is = grind arith; unfenced = unfenced i s es; phase_is = n.phase_is };
   }
 
   module _ (rs : List Known) (writers : List (WriterState D))

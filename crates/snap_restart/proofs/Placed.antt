@@ -1,12 +1,11 @@
 -- A crash leaves of one writer's device what the phase of its seat says.
-use Rattle.std.proofs.Common.{◌≡◌, ◌⊎◌, ⊎_elim, ℕ, ◌+◌, inl, inr, List, Option, Some, None, refl, ap, subst}
+use Rattle.std.proofs.Common.{◌≡◌, ⊎_elim, ℕ, ◌+◌, inl, inr, List, Option, Some, None, refl, ap, subst}
 use Rattle.snap_slot.specs.Layout.{IsFileOf}
-use Rattle.snap_register.specs.declared.plan.Plan.{Plan}
+use Rattle.snap_register.specs.declared.plan.{Plan.Plan, UpdatePhase.UpdatePhase, UpdatePhase.TheVariants.Shown}
+use Rattle.snap_register.specs.declared.plan.UpdatePhase.TheVariants.{Storing, Stored}
 use Rattle.snap_writer.specs.{Writer.WriterState, Writer.number_of, Writer.value_of, Life.IsMidStore, Life.IsPlaceOf}
 use Rattle.snap_writer.specs.Life.{Place, resting, HasBegun, IsShown, IsAhead, IsInPhase, HoldsOf, Leaves, CrashLeaves}
 use Rattle.snap_writer.specs.Life.{IsWriterOf}
-use Rattle.snap_register.specs.declared.plan.UpdatePhase.{UpdatePhase}
-use Rattle.snap_register.specs.declared.plan.UpdatePhase.TheVariants.{Shown, Storing, Stored}
 use Rattle.snap_restart.specs.LifeCrash.{HoldsIn}
 use Rattle.snap_disk.specs.declared.disk.Disk as Disk
 

@@ -1,8 +1,7 @@
 -- Lists whose items are removed one after another.
-use Rattle.std.proofs.Common.{◌≡◌, ℕ, zero, suc, ◌+◌, List, ◌∷◌, ◌++◌, length, map, Some, slice_get, Option}
-use Rattle.std.proofs.Common.{[], None, Result, Ok, Err, IfOk, append-nil, refl, ap, sym, ◌∙◌, arith}
-use Rattle.std.specs.Prelude.{◌<◌, IsSome, IsErr, option_map}
-use Rattle.std.proofs.lemmas.Option.{slice_get-map}
+use Rattle.std.proofs.Common.{◌≡◌, ℕ, zero, suc, ◌+◌, List, ◌∷◌, ◌++◌, length, map, Some, slice_get, Option, [], None}
+use Rattle.std.proofs.Common.{Result, Ok, Err, IfOk, append-nil, refl, ap, ◌∙◌, arith, ◌<◌, IsSome, IsErr, option_map}
+use Rattle.std.proofs.lemmas.{List.nil_from_length, Option.slice_get-map}
 
 pub get_map : {A B : Type 0} (f : A → B) (ws : List A) (k : ℕ) (x : A) → slice_get ws k ≡ Some x
     → slice_get (map f ws) k ≡ Some (f x)
@@ -21,8 +20,7 @@ none_comes None (suc n) some none = absurd (let is = some (omega arith) in cc)
 
 -- nothing is left to be taken
 pub all_yielded : {A : Type 0} {n : ℕ} (xs left all : List A) → xs ++ left ≡ all → n ≡ length left → n ≡ 0 → xs ≡ all
-all_yielded xs [] all whole long none = sym (append-nil xs) ∙ whole
-all_yielded xs (x ∷ left) all whole long none = absurd (omega arith)
+all_yielded xs left all whole long none = grind (arith, append-nil, nil_from_length)
 
 -- the item that is taken next
 pub get_next : {A B : Type 0} (f : B → A) (ws : List B) (left rest all : List A) (x : A) → map f ws ++ left ≡ all

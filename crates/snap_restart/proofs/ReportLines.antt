@@ -1,5 +1,5 @@
 -- The lines of a report, one after another.
-use Rattle.std.proofs.Common.{◌≡◌, ℕ, ◌+◌, List, [], ◌∷◌, ◌++◌, length, ◌≤◌, take, slice_get, Some, ap, ◌∙◌, arith}
+use Rattle.std.proofs.Common.{◌≡◌, ℕ, ◌+◌, List, [], ◌∷◌, ◌++◌, length, ◌≤◌, take, slice_get, Some, arith}
 use Rattle.std.proofs.{Common.append-nil, Common.append_assoc, lemmas.List.length-take-le, lemmas.List.take_all}
 use Rattle.std.{proofs.lemmas.Option.slice_get_within, specs.Prelude.codes, specs.Fmt.decimal}
 use Rattle.snap_register.proofs.Pairs.{take_next}
@@ -23,5 +23,4 @@ lines_next xs k x e = grind (arith, slice_get_within, length-take-le, take_next,
 pub lines_all : (xs : List Recovered) (report : Report) (k : ℕ) → xs ≡ report.segments.items → length xs ≤ k
     → lines_text 0 (take k xs) ++ line (codes "segments " ++ decimal (length report.segments.items)) ≡ report_text
     report
-lines_all xs report k e all = ap (λ l. lines_text 0 l ++ line (codes "segments " ++ decimal (length
-    report.segments.items))) (take_all k xs all ∙ e)
+lines_all xs report k e all = grind (arith, take_all)

@@ -4,12 +4,11 @@ use Rattle.std.proofs.lemmas.List.{length-map}
 use Rattle.snap_history.{specs.History.Update, specs.History.Start, proofs.Pairs.partner}
 use Rattle.snap_register.specs.History.{starts, updates}
 use Rattle.snap_writer.specs.Writer.{WriterState}
-use Rattle.snap_restart.specs.LifeCrash.{Begun, IsRecovered, KeepMemory}
-use Rattle.snap_restart.specs.Crash.{AllHonest, GoesOn, AreOpened}
-use Rattle.snap_restart.specs.Restarts.{Restarts, First, Crashed, Interrupted, Spared, Put, PutCutOff, Remade, Last}
-use Rattle.snap_restart.specs.Restarts.{MadeLaw, IsJoined, update, without}
-use Rattle.snap_restart.proofs.Commands.{stored, cut_off, remade, joined_without}
-use Rattle.snap_restart.proofs.{LifeStarts.kept_now, Placed.same_file, Pairs.partner_of}
+use Rattle.snap_restart.proofs.{Placed.same_file, Commands.stored, Commands.cut_off, Commands.remade, Pairs.partner_of}
+use Rattle.snap_restart.{proofs.Commands.joined_without, proofs.LifeStarts.kept_now, specs.Crash.AllHonest}
+use Rattle.snap_restart.specs.{Crash.GoesOn, Crash.AreOpened, LifeCrash.Begun, LifeCrash.IsRecovered, Restarts.Restarts}
+use Rattle.snap_restart.specs.{LifeCrash.KeepMemory, Restarts.First, Restarts.Crashed, Restarts.Interrupted}
+use Rattle.snap_restart.specs.Restarts.{Spared, Put, PutCutOff, Remade, Last, MadeLaw, IsJoined, update, without}
 use Rattle.snap_disk.specs.declared.disk.Disk as Disk
 
 module _ {D : Type 0} (disk : Disk.Ghosts D) (n : ℕ) (start : Start) where

@@ -1,4 +1,4 @@
-use Rattle.std.proofs.Common.{rules, ◌≡◌, ℕ, suc, ◌+◌, length, take, ap, sym, ◌∙◌, arith}
+use Rattle.std.proofs.Common.{rules, ◌≡◌, ℕ, suc, ◌+◌, length, take, ap, ◌∙◌, arith}
 use Rattle.std.proofs.lemmas.List.{length_push, length-take-le}
 use Rattle.snap_history.proofs.Removals.{taken, all_taken}
 use Rattle.snap_register.proofs.Pairs.{Pairs-push}
@@ -7,8 +7,7 @@ use Rattle.snap_restart.proofs.Refusals.{back_later, returned_here, stopped_at}
 use Rattle.snap_restart.proofs.files.open_segments.Goals as goal
 
 pub open-requires-clause-headroom : goal.open-requires-clause-headroom
-open-requires-clause-headroom g c =
-    (rw c.in-Some.ensures.cases.0 at c.opening.invariant.headroom) 0 c.in-Some.device (omega arith)
+open-requires-clause-headroom g c = grind arith
 
 pub opening-preserved : goal.opening-preserved
 opening-preserved g c =
@@ -67,7 +66,4 @@ returns-in-Err-clause-stopped g c =
     (rw index next.head) (omega arith) (rw index inv.opened) o.refusals (rw (← inv.count) here) c.returned.ensures
 
 pub returns-clause-opened : goal.returns-clause-opened
-returns-clause-opened g c =
-    let inv = c.opening.invariant in
-    let empty = none_comes _ _ c.next.ensures.variant.1 c.in_default-next.not-Some in
-    rw (all_taken _ c.args.devices.items _ inv.rest (sym inv.long ∙ empty)) at inv.opened
+returns-clause-opened g c = grind (arith, all_taken, none_comes)

@@ -1,11 +1,10 @@
-use Rattle.std.proofs.Common.{rules, ◌≡◌, ◌≤◌, length, Some, slice_get, refl, arith}
-use Rattle.std.proofs.lemmas.Option.{slice_get_within, slice_get_read}
+use Rattle.std.proofs.Common.{rules, ◌≡◌, length, Some, slice_get, refl}
+use Rattle.std.proofs.lemmas.Option.{slice_get_read}
 use Rattle.snap_register.specs.Seat.{Known, Grows}
 use Rattle.snap_memory.proofs.Collects.{grows_more}
-use Rattle.snap_restart.proofs.Pairs.{partner_of, pairs_moved}
-use Rattle.snap_restart.proofs.Meetings.{together_grown, heard_step, met_more}
+use Rattle.snap_restart.proofs.{Pairs.partner_of, Pairs.pairs_moved, Meetings.together_grown, Meetings.heard_step}
+use Rattle.snap_restart.proofs.{Meetings.met_more, shutdown.hear_all.Goals.After-index_mut}
 use Rattle.snap_restart.proofs.shutdown.hear_all.Goals as goal
-use Rattle.snap_restart.proofs.shutdown.hear_all.Goals.{After-index_mut}
 
 at : (g : _) (c : After-index_mut g) → slice_get c.loop-k.scanners.items c.loop-k.k ≡ Some c.index_mut.result.now
 at g c = slice_get_read _ (length c.loop-k.scanners.items) _ _ refl (search rules) (search rules)
@@ -36,10 +35,3 @@ loop-k-preserved g c =
       heard = heard_step _ _ b.0 _ _ _ b.1 inv.heard (grows_more b.0 _ _ b.2 grows) c.meet.ensures.writer.grows
           c.meet.ensures.met;
     }
-
-pub returns-clause-heard : goal.returns-clause-heard
-returns-clause-heard g c = λ k b there. (
-    let inside = slice_get_within c.args.scanners.now.items k b there in
-    let long = c.loop-k.invariant.scanners.size in
-    let end : length c.args.scanners.now.items ≤ c.loop-k.k = search rules in
-    c.loop-k.invariant.heard k b there (omega arith))

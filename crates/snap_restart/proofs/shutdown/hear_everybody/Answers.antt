@@ -31,9 +31,7 @@ pub meet_all-requires : goal.meet_all-requires
 meet_all-requires g c =
     let now = (goal.at.meet_all-requires g c).After-index_mut-scanner in
     let b = scanner g now in
-    record {
-      together = together_after _ _ _ b.0 _ c.requires.back b.1 (heard g now) b.2;
-    }
+    record { together = together_after _ _ _ b.0 _ c.requires.back b.1 (heard g now) b.2 }
 
 pub meet_all-requires-2 : goal.meet_all-requires-2
 meet_all-requires-2 g c =

@@ -1,11 +1,10 @@
-use Rattle.std.proofs.Common.{rules, ◌≡◌, ◌≤◌, length, Some, slice_get, refl, arith}
-use Rattle.std.proofs.lemmas.Option.{slice_get_within, slice_get_read}
+use Rattle.std.proofs.Common.{rules, ◌≡◌, length, Some, slice_get, refl}
+use Rattle.std.proofs.lemmas.Option.{slice_get_read}
 use Rattle.snap_memory.proofs.Collects.{grows_more}
 use Rattle.snap_writer.specs.Writer.{WriterState}
-use Rattle.snap_restart.proofs.Meetings.{together_grown, told_step, met_more}
-use Rattle.snap_restart.{specs.Closed.HasMet, proofs.Pairs.partner_of, proofs.Pairs.pairs_moved}
+use Rattle.snap_restart.proofs.{Meetings.together_grown, Meetings.told_step, Meetings.met_more, Pairs.partner_of}
+use Rattle.snap_restart.{proofs.Pairs.pairs_moved, specs.Closed.HasMet, proofs.shutdown.meet_all.Goals.After-index_mut}
 use Rattle.snap_restart.proofs.shutdown.meet_all.Goals as goal
-use Rattle.snap_restart.proofs.shutdown.meet_all.Goals.{After-index_mut}
 
 at : (g : _) (c : After-index_mut g) → slice_get c.loop-i.writers.items c.loop-i.i ≡ Some c.index_mut.result.now
 at g c = slice_get_read _ (length c.loop-i.writers.items) _ _ refl (search rules) (search rules)
@@ -37,10 +36,3 @@ loop-i-preserved g c =
       told = told_step _ _ w.0 _ _ _ _ w.1 inv.told inv.scanner grows (met_more w.0 _ _ w.2 met).grows
           c.meet.ensures.met;
     }
-
-pub returns-clause-told : goal.returns-clause-told
-returns-clause-told g c = λ i w there. (
-    let inside = slice_get_within c.args.writers.now.items i w there in
-    let long = c.loop-i.invariant.writers.size in
-    let end : length c.args.writers.now.items ≤ c.loop-i.i = search rules in
-    c.loop-i.invariant.told i w there (omega arith))

@@ -1,5 +1,4 @@
-use Rattle.std.proofs.Common.{◌≡◌, ap, map, ◌∙◌, arith}
-use Rattle.std.proofs.lemmas.Grind.{common_steps}
+use Rattle.std.proofs.{Common.◌≡◌, Common.arith, lemmas.Grind.common_steps}
 use Rattle.snap_history.proofs.Lists.{get-push}
 use Rattle.snap_restart.{specs.Closed.Rests, proofs.Removals.all_yielded, proofs.Meetings.rests_moved}
 use Rattle.snap_restart.proofs.shutdown.release_all.Goals as goal
@@ -17,9 +16,7 @@ writers-preserved g c =
     }
 
 pub returns-clause-devices : goal.returns-clause-devices
-returns-clause-devices g c =
-    let inv = c.writers.invariant in
-    inv.devices ∙ ap (map (λ w. w.segment.device)) (all_yielded _ _ _ inv.whole inv.long c.in-None.ensures.steps.0)
+returns-clause-devices g c = grind (arith, all_yielded)
 
 pub returns-clause-rests : goal.returns-clause-rests
 returns-clause-rests g c =

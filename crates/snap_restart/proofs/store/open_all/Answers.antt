@@ -4,7 +4,7 @@ use Rattle.snap_disk.specs.declared.refusal.Refusal.TheVariants.{NoMemory}
 use Rattle.snap_segment.specs.Segment.{SegmentState}
 use Rattle.snap_restart.proofs.NewSeats.{unfenced_are, starts_are, fresh_are, back_are, paired_are}
 use Rattle.snap_restart.proofs.Crash.{opened, stay_kept, backs_opened, backs_stopped}
-use Rattle.snap_restart.{specs.Opened.recovered, proofs.Refusals.stopped_last, proofs.LifeDurability.stay_stored}
+use Rattle.snap_restart.{proofs.Refusals.stopped_last, proofs.LifeDurability.stay_stored}
 use Rattle.snap_restart.proofs.store.open_all.Goals as goal
 
 pub place_writers-requires-clause-starts : goal.place_writers-requires-clause-starts
@@ -36,8 +36,7 @@ returns-in-Ok-take_memory-clause-back g c =
     let size = c.in-Ok.ensures.opened.size in
     rw c.place_scanners.ensures (back_are had.seats.0 had.seats.1 c.in-Ok.opened.0.items _ had.seats.2 had.seats.3
     had.counts.0 (unfenced_are g.D.Disk _ _ _ c.in-Ok.ensures.opened) _ c.place_writers.result.items
-    c.place_writers.ensures.seats
-    (omega arith) (omega arith) (omega (arith, had.counts.1)) had.seats.4)
+    c.place_writers.ensures.seats (omega arith) (omega arith) (omega (arith, had.counts.1)) had.seats.4)
 
 pub returns-in-Ok-take_memory-clause-crash : goal.returns-in-Ok-take_memory-clause-crash
 returns-in-Ok-take_memory-clause-crash g c =
@@ -56,9 +55,7 @@ pub returns-in-Err-clause-kept_err : goal.returns-in-Err-clause-kept_err
 returns-in-Err-clause-kept_err g c = stay_kept g.D.Disk _ _ (backs_stopped g.D.Disk _ _ _ _ c.in-Err.ensures.stopped)
 
 pub returns-in-Ok-take_memory-clause-report : goal.returns-in-Ok-take_memory-clause-report
-returns-in-Ok-take_memory-clause-report g c =
-    c.in-Ok-take_memory.ensures.report ∙ (ap (map recovered) (sym c.place_writers.ensures.segments)
-    ∙ map-map recovered (λ w. w.segment) c.place_writers.result.items)
+returns-in-Ok-take_memory-clause-report g c = grind (arith, map-map)
 
 pub returns-in-Err-take_memory-clause-stopped : goal.returns-in-Err-take_memory-clause-stopped
 returns-in-Err-take_memory-clause-stopped g c =
@@ -72,17 +69,3 @@ returns-in-Err-take_memory-clause-stopped g c =
 pub returns-in-Err-take_memory-clause-kept_err : goal.returns-in-Err-take_memory-clause-kept_err
 returns-in-Err-take_memory-clause-kept_err g c =
     stay_kept g.D.Disk _ _ (backs_stopped g.D.Disk _ _ NoMemory _ (returns-in-Err-take_memory-clause-stopped g c))
-
-pub take_memory-requires-clause-count : goal.take_memory-requires-clause-count
-take_memory-requires-clause-count g c = rw (← c.in-Ok.ensures.opened.size) c.requires.count
-
-pub place_scanners-requires-clause-room : goal.place_scanners-requires-clause-room
-place_scanners-requires-clause-room g c = rw c.in-Ok-take_memory.ensures.counts.1 c.in-Ok-take_memory.ensures.scanners.1
-
-pub release-requires : goal.release-requires
-release-requires g c =
-    omega (arith, c.in-Ok.ensures.opened.size, ap length c.in-Ok.ensures.emptied.0, c.in-Ok.ensures.emptied.1)
-
-pub returns-in-Ok-take_memory-clause-scanners : goal.returns-in-Ok-take_memory-clause-scanners
-returns-in-Ok-take_memory-clause-scanners g c =
-    ap length c.place_scanners.ensures ∙ c.in-Ok-take_memory.ensures.counts.1

@@ -18,17 +18,11 @@ new-requires g c =
     }
 
 pub returns-clause-segments : goal.returns-clause-segments
-returns-clause-segments g c =
-    let inv = c.writers.invariant in
-    all_yielded _ _ _ inv.segments inv.segments_long c.in-None.ensures.steps.0
+returns-clause-segments g c = grind (arith, all_yielded)
 
 pub returns-clause-seats : goal.returns-clause-seats
 returns-clause-seats g c =
     let inv = c.writers.invariant in
-    let all = returns-clause-segments g c in
-    all_yielded _ _ _ inv.seats refl (omega (
-      arith,
-      c.requires.starts.size,
-      simp length-map at (ap length all),
-      simp (length-append, length-map) at (ap length inv.seats),
-    ))
+    let all = simp length-map at (ap length (returns-clause-segments g c)) in
+    let seats = simp (length-append, length-map) at (ap length inv.seats) in
+    all_yielded _ _ _ inv.seats refl (omega (arith, c.requires.starts.size, all, seats))

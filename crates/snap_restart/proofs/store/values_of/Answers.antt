@@ -1,5 +1,5 @@
-use Rattle.std.proofs.Common.{rules, ◌≡◌, ℕ, ◌^◌, ◌<◌, ◌≤◌, ◌∷◌, ◌++◌, List, [], length, map, take, slice_get, Some}
-use Rattle.std.proofs.Common.{Vec, Global, refl, ap, sym, ◌∙◌}
+use Rattle.std.proofs.Common.{arith, rules, ◌≡◌, ℕ, ◌^◌, ◌<◌, ◌≤◌, ◌∷◌, ◌++◌, List, [], length, map, take, slice_get}
+use Rattle.std.proofs.Common.{Some, Vec, Global, refl, ap, sym, ◌∙◌}
 use Rattle.std.proofs.lemmas.{List.map-append, List.take_all, Option.slice_get_read}
 use Rattle.snap_history.proofs.Lists.{get-push}
 use Rattle.snap_register.proofs.Pairs.{map_next}
@@ -36,10 +36,4 @@ all_of : {A B : Type 0} (f : A → B) (k : ℕ) (items xs : List A) → length i
 all_of f k items xs short same = ap (map f) (take_all k items short ∙ same)
 
 pub returns : goal.returns
-returns g c =
-    let inv = c.loop-segment.invariant in
-    record {
-      contents = inv.contents ∙ all_of contents _ _ _ c.loop-segment-test.false c.deref-segment-items.ensures.value;
-      numbers = inv.numbers;
-      sizes = inv.sizes;
-    }
+returns g c = grind (arith, all_of)
