@@ -17,12 +17,10 @@ wrote_last (Err x) old xs ys before after e f = f
 
 each_push : {X Y : Type 0} (f : ℕ → X → List Y) (i j : ℕ) (xs : List X) (x : X) → j ≡ i + length xs
     → each_from f i (xs ++ x ∷ []) ≡ each_from f i xs ++ f j x
-each_push f i j [] x e =
-    let at : i ≡ j = omega arith in append-nil (f i x) ∙ ap (λ (k : ℕ). f k x) at
+each_push f i j [] x e = let at : i ≡ j = omega arith in rw (append-nil, at)
 each_push f i j (y ∷ xs) x e =
     let at : j ≡ i + 1 + length xs = omega arith in
-    ap (λ l. f i y ++ l) (each_push f (i + 1) j xs x at)
-    ∙ sym (append_assoc (f i y) (each_from f (i + 1) xs) (f j x))
+    rw (each_push f (i + 1) j xs x at, append_assoc (f i y) (each_from f (i + 1) xs))
 
 -- the elements' tokens up to and with the next one, after `old`
 pub each_next : {X Y : Type 0} (f : ℕ → X → List Y) (xs : List X) (k : ℕ) (x : X)

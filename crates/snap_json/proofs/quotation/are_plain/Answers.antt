@@ -1,6 +1,5 @@
 use Rattle.std.proofs.Common.{◌≡◌, ◌∙◌, ℕ, ◌+◌, ◌<◌, ◌&&◌, Bool, List, ap, drop, get_or, length, nat_eq, refl, sym}
-use Rattle.std.proofs.Common.{arith}
-use Rattle.std.proofs.lemmas.List.{at_drop_all, at_drop_more}
+use Rattle.std.proofs.{Common.arith, lemmas.List.at_drop_all, lemmas.List.at_drop_more}
 use Rattle.snap_json.specs.Quotation.{are_plain, is_plain}
 use Rattle.snap_json.proofs.quotation.are_plain.Goals as goal
 
