@@ -1,7 +1,6 @@
 -- The bytes that were taken, with the next one, and how a script ends at it.
-use Rattle.std.proofs.Common.{◌≡◌, ◌≢◌, ℕ, ◌<◌, ◌≤◌, inl, Option, List, [], ◌∷◌, ◌++◌, length, refl, sym, ap, ◌∙◌}
-use Rattle.std.proofs.Common.{append_assoc, append-nil, length-append, arith}
-use Rattle.std.proofs.lemmas.List.Elements.{All-push}
+use Rattle.std.proofs.Common.{◌≡◌, ◌≢◌, ℕ, ◌≤◌, inl, Option, List, [], ◌∷◌, ◌++◌, length, refl, sym, ap, ◌∙◌, arith}
+use Rattle.std.proofs.{Common.append_assoc, Common.append-nil, Common.length-append, lemmas.List.Elements.All-push}
 use Rattle.snap_script.specs.Script.{ended, Ends, EndsAt, EndPrints, IsAt}
 use Rattle.snap_script.{proofs.Steps.prints, specs.LineBuffer.HasDone, specs.LineBuffer.HasTaken}
 use Rattle.snap_script.specs.declared.run.{ScriptEnd.ScriptEnd, TheConstants.MAX_LINE, ScriptEnd.TheVariants.NoMemory}
@@ -46,15 +45,6 @@ module _ {taken : List ℕ} {old now : Option (List ℕ)} {buffer : LineBuffer} 
       whole = grown (b ∷ more) ∙ ap (λ bytes. ended t.done ++ bytes) (sym (append_assoc held (b ∷ []) more));
       lines = t.has_done.lines;
       plain = All-push (λ c. c ≢ 10) held b t.is_line.0 no_end;
-    }
-
-    pub taken_byte : (next : LineBuffer) → next.line.items ≡ held ++ b ∷ [] → next.interpreter ≡ buffer.interpreter
-        → length held < MAX_LINE → HasTaken (taken ++ b ∷ []) old now next
-    taken_byte next is same room = record {
-      done = t.done;
-      whole = grown (b ∷ []) ∙ ap (λ line. ended t.done ++ line) (sym is);
-      is_line = rw is ((at_byte []).plain, omega (arith, room, length-append held (b ∷ [])));
-      has_done = rw same t.has_done;
     }
 
     ends_by : (more : List ℕ) (left : Option (List ℕ)) (end : ScriptEnd) → EndsAt t.done (held ++ b ∷ []) more left end

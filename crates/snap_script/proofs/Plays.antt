@@ -32,7 +32,7 @@ played_on old new (first ∷ lines) text line e reply out (x, stands, plays) is 
         run = Run-append n _ plays.events plays.replies (configuration old x) (e ∷ [])
             (reply ∷ []) (configuration new step.0) plays.run step.1;
         printed = rw (plays.printed, printed, replies_text-push)
-            (append_assoc (line_text (world_text n plays.s)) (replies_text plays.replies) (line_text (reply_text reply)));
+            (append_assoc (line_text (world_text n plays.s)) (replies_text plays.replies) _);
       },
     )
 

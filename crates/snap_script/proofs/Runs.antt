@@ -1,10 +1,10 @@
 -- A script from its first read to its end.
-use Rattle.std.proofs.Common.{◌≡◌, ℕ, inr, Option, List, [], ◌++◌, refl, append-nil}
+use Rattle.std.proofs.Common.{ℕ, inr, Option, List, [], ◌++◌, refl, append-nil}
 use Rattle.std.proofs.KnownBytes.{Appends-nil, Consumes-kept, Consumes-nil, Consumes-trans}
 use Rattle.std.proofs.lemmas.List.Elements.{All-nil}
 use Rattle.std.specs.{Io.KnownBytes.Consumes, Io.KnownBytes.Keeps, declared.io.Error.Error}
-use Rattle.snap_script.{proofs.Halts.ends_in, proofs.Steps.prints, specs.LineBuffer.HasTaken, specs.Script.Ends}
-use Rattle.snap_script.specs.{Script.Runs, declared.line_buffer.LineBuffer.LineBuffer, declared.run.ScriptEnd.ScriptEnd}
+use Rattle.snap_script.{proofs.Halts.ends_in, proofs.Steps.prints, specs.LineBuffer.HasTaken}
+use Rattle.snap_script.specs.{Script.Runs, declared.line_buffer.LineBuffer.LineBuffer}
 use Rattle.snap_script.specs.declared.run.ScriptEnd.TheVariants.{NoMemory, ReadFailed}
 
 -- no memory at first
@@ -28,22 +28,12 @@ pub record IsFed (read_old read_new old new : Option (List ℕ)) (buffer : LineB
   pub read : Consumes read_old read_new taken
   pub has_taken : HasTaken taken old new buffer
 
-pub fed_none : {read old : Option (List ℕ)} {buffer : LineBuffer} → HasTaken [] old old buffer
-    → IsFed read read old old buffer
-fed_none {read} t = record { taken = []; read = Consumes-nil read; has_taken = t }
-
 module _ {read_old read_new old new : Option (List ℕ)} {buffer : LineBuffer}
     (f : IsFed read_old read_new old new buffer) where
   -- a piece was read
   pub read_on : (after : Option (List ℕ)) (piece : List ℕ) → Consumes read_new after piece
       → Consumes read_old after (f.taken ++ piece)
   read_on after piece came = Consumes-trans read_old read_new after f.taken piece f.read came
-
-  -- the reader has no more bytes
-  pub runs_finish : {after wrote : Option (List ℕ)} {piece : List ℕ} (end : ScriptEnd) → piece ≡ []
-      → Consumes read_new after piece → Ends f.taken after old wrote end → Runs read_old after old wrote end
-  runs_finish {after} {wrote} {piece} end none came ends =
-      (f.taken, rw (none, append-nil f.taken) at (read_on after piece came), ends)
 
   -- the reader fails
   pub runs_cut : {after : Option (List ℕ)} (error : Error) → Keeps read_new after

@@ -1,18 +1,6 @@
-use Rattle.std.proofs.Common.{◌<◌, ◌++◌, length, take, ap, arith}
-use Rattle.std.proofs.lemmas.Grind.{common_steps}
-use Rattle.snap_script.proofs.Runs.{fed_none, read_on, runs_cut, runs_finish}
+use Rattle.std.proofs.{Common.◌<◌, Common.◌++◌, Common.length, Common.take, Common.arith, lemmas.Grind.common_steps}
+use Rattle.snap_script.proofs.Runs.{read_on, runs_cut}
 use Rattle.snap_script.proofs.run.run_pieces.Goals as goal
-
-pub loop-init : goal.loop-init
-loop-init g c = ((tt, tt), c.requires, fed_none (c.new-lines.ensures _))
-
-pub returns-in-Ok-eq0 : goal.returns-in-Ok-eq0
-returns-in-Ok-eq0 g c =
-    let fed = c.loop.invariant.2 in
-    let room : 0 < length c.read.new.buf = grind (arith, common_steps) in
-    let end = c.in-Ok-eq0.ensures.bytes.1 c.in-Ok-eq0.field-0-test room in
-    runs_finish fed c.finish.result (ap (λ k. take k c.read.new.buf) c.in-Ok-eq0.field-0-test)
-    c.in-Ok-eq0.ensures.bytes.0 (c.finish.ensures fed.taken _ _ end fed.has_taken)
 
 pub returns-in-Err : goal.returns-in-Err
 returns-in-Err g c = runs_cut c.loop.invariant.2 c.in-Err.error c.in-Err.ensures.bytes

@@ -1,4 +1,4 @@
-use Rattle.std.proofs.{Common.◌<◌, Common.length, Common.arith, Common.inl, lemmas.Bool.Decides.nat_tests}
+use Rattle.std.proofs.{Common.◌<◌, Common.length, Common.arith, lemmas.Bool.Decides.nat_tests}
 use Rattle.snap_script.proofs.Steps.{done_empty, done_on, prints, prints_part, some_list, unreadable}
 use Rattle.snap_script.specs.Script.{full_lines}
 use Rattle.snap_script.proofs.line_buffer.LineBuffer.do_line.Goals as goal
@@ -27,8 +27,3 @@ returns-in-Err-Fault-clause-err g c = λ done old is h.
     let halts = rw (c.in-Err-Fault.field-0-is, c.deref.ensures.value) at c.in-Err-Fault.ensures.err in
     let bad = unreadable (full_lines done) h.text _ line c.in-Err-Fault.fault h.played halts in
     ((λ after left whole. (some_list line some, is, whole, bad)), prints h)
-
-pub returns-in-Err-NoMemory-clause-err : goal.returns-in-Err-NoMemory-clause-err
-returns-in-Err-NoMemory-clause-err g c = λ done old is h.
-    let some : 0 < length c.args.self.now.line.items = grind (arith, nat_tests) in
-    ((λ after left whole. inl (some_list c.args.self.now.line.items some)), prints h)

@@ -1,6 +1,6 @@
-use Rattle.std.proofs.Common.{◌≡◌, ◌≢◌, ℕ, ◌<◌, ◌≤◌, Option, List, [], ◌∷◌, ◌++◌, Result, Ok, Err, length, refl, arith}
+use Rattle.std.proofs.Common.{◌≡◌, ◌≢◌, ℕ, ◌≤◌, Option, List, [], ◌∷◌, ◌++◌, Result, Ok, Err, length, refl, arith}
 use Rattle.std.{specs.Prelude.OnOk, proofs.lemmas.Bool.Decides.nat_tests, proofs.lemmas.Result.IfErr-weaker}
-use Rattle.snap_script.proofs.Halts.{ends_in, no_memory, taken_byte, taken_line, too_long}
+use Rattle.snap_script.proofs.Halts.{ends_in, no_memory, taken_line, too_long}
 use Rattle.snap_script.specs.{LineBuffer.HasDone, Script.IsLine, declared.run.TheConstants.MAX_LINE}
 use Rattle.snap_script.proofs.line_buffer.LineBuffer.take_byte.Goals as goal
 
@@ -31,12 +31,6 @@ returns-then-len-ge-MAX_LINE-clause-err g c = λ taken rest left old t.
     let no_end : c.args.byte ≢ 10 = grind (arith, nat_tests) in
     let long : MAX_LINE ≤ length c.args.self.now.line.items = grind (arith, nat_tests) in
     too_long t c.args.byte no_end rest left _ long
-
-pub returns-in-Ok-clause-ok : goal.returns-in-Ok-clause-ok
-returns-in-Ok-clause-ok g c = λ taken old t.
-    let no_end : c.args.byte ≢ 10 = grind (arith, nat_tests) in
-    let room : length c.args.self.now.line.items < MAX_LINE = grind (arith, nat_tests) in
-    taken_byte t c.args.byte no_end _ c.in-Ok.ensures.items refl room
 
 pub returns-in-Err-clause-err : goal.returns-in-Err-clause-err
 returns-in-Err-clause-err g c = λ taken rest left old t.
