@@ -1,13 +1,11 @@
 -- The files after a migration, in terms of the command.
-use Rattle.std.proofs.Common.{rules, ◌≡◌, ℕ, List, inl, inr, ap, refl, false, Result, Err}
-use Rattle.snap_disk.specs.declared.refusal.Refusal.TheVariants.{AlreadyFormatted, DeviceFailed, WrongFile}
-use Rattle.snap_disk.specs.{Device.Device, Device.MayLeave, Time.LeavesOnly, Laws.started, Laws.weaker}
-use Rattle.snap_disk.specs.declared.refusal.Refusal.{Refusal}
+use Rattle.std.proofs.Common.{◌≡◌, ℕ, List, inl, inr, refl, false}
+use Rattle.snap_disk.specs.{declared.refusal.Refusal.TheVariants.WrongFile, Device.Device, Device.MayLeave, Laws.weaker}
+use Rattle.snap_disk.specs.{Time.LeavesOnly, Laws.started, declared.refusal.Refusal.Refusal}
 use Rattle.snap_slot.specs.{Layout.IsUnformatted, States.IsAtRest, Old.OldHead, Old.OldHolds}
 use Rattle.snap_segment.specs.{Creation.IsMadeOrLeft, Creation.new_file, Migration.IsPast, Refusals.IsMigrationRefusal}
 use Rattle.snap_segment.specs.declared.migration.Which.{TheVariants.Old, TheVariants.New, Which}
-use Rattle.snap_file_commands.specs.Migration.{IsMigrated, IsOldFile, MigrationKeeps, MigrationLeaves, MigrationReads}
-use Rattle.snap_file_commands.specs.declared.migration.MigrationFault.TheVariants.{OfFile}
+use Rattle.snap_file_commands.specs.Migration.{IsMigrated, IsOldFile, MigrationLeaves}
 use Rattle.snap_disk.specs.declared.disk.Disk as Disk
 
 widened : (i n k : ℕ) (v : List ℕ) (old new : Device) → OldHead old.bytes i n → OldHolds old.bytes k v → (b : List ℕ)
@@ -45,20 +43,3 @@ pub migrated : (i n number : ℕ) (old new new' : Device) → IsOldFile i n old.
 migrated i n number old new new' (head, (k, v, holds)) unformatted rests bytes =
     let end = rests k v holds in
     rw end.0 (head, (v, holds, (unformatted, end.1, bytes k v holds)))
-
--- the old file after a refused migration
-pub refused_reads : (same : Type 0) (which : Which) (why : Refusal) → ((which ≡ Old → why ≡ DeviceFailed → ⊥) → same)
-    → MigrationReads (Err (OfFile which why)) same
-refused_reads same which why reads = search rules
-
--- both files after a refused migration
-pub migration_keeps : (same_old same_new kept : Type 0) (which : Which) (why : Refusal) → (which ≡ Old → same_new)
-    → (which ≡ New → why ≡ WrongFile → same_old × same_new) → (which ≡ New → why ≡ AlreadyFormatted → kept)
-    → MigrationKeeps (Err (OfFile which why)) same_old same_new kept
-migration_keeps same_old same_new kept which why old wrong taken = search rules
-
-pub told_apart : (which w : Which) (why y : Refusal)
-    → ◌≡◌ {A = Result ℕ (Which × Refusal)} (Err (which, why)) (Err (w, y)) → (which ≡ w) × (why ≡ y)
-told_apart which w why y same =
-    let pair : ◌≡◌ {A = Which × Refusal} (which, why) (w, y) = cc in
-    (ap (λ (p : Which × Refusal). p.0) pair, ap (λ (p : Which × Refusal). p.1) pair)

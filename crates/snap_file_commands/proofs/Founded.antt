@@ -1,21 +1,16 @@
 -- A file of a folder that was kept, or neither made nor kept.
-use Rattle.std.proofs.Common.{Bool, rules, ◌≡◌, ℕ, List, length, Ok, Err, inl, inr}
-use Rattle.snap_disk.specs.Device.{Device, IsUnchanged, MayLeave}
-use Rattle.snap_disk.specs.{Laws.then, Laws.unchanged_leaves, declared.refusal.Refusal.Refusal}
-use Rattle.snap_slot.specs.Layout.{Head, Holds, IsFormatted}
+use Rattle.std.proofs.Common.{Bool, ◌≡◌, ℕ, List, length, Ok, Err, inl, inr}
+use Rattle.snap_disk.specs.{Device.Device, Device.IsUnchanged, declared.refusal.Refusal.Refusal}
+use Rattle.snap_slot.specs.Layout.{Head, Holds, IsFileOf, IsFormatted}
 use Rattle.snap_slot.specs.{declared.layout.TheConstants.FILE_LEN, Findings.IsNoOpening, States.IsAtRest}
-use Rattle.snap_segment.specs.{Refusals.IsOpenRefusal, Open.CountsFailed}
-use Rattle.snap_file_commands.specs.{Commands.End, Commands.CountsEnd, Effects.LeavesNoMore, Effects.StoreKeeps}
+use Rattle.snap_segment.specs.{Refusals.IsOpenRefusal}
+use Rattle.snap_file_commands.specs.{Commands.End}
 use Rattle.snap_file_commands.specs.Foundation.{EndsFounding, EndsKeeping, HasKept, IsNotWhole, refusal_of_formatted}
 use Rattle.snap_file_commands.specs.declared.fault.CommandFault.TheVariants.{Refused, Output}
 use Rattle.snap_disk.specs.declared.disk.Disk as Disk
 use Rattle.snap_disk.specs.declared.refusal.Refusal.TheVariants as refusal
 
 -- an opening that was refused
-pub unopened_count : (why : Refusal) (old new : ℕ) → CountsFailed why old new
-    → CountsEnd (Err (Refused (refusal_of_formatted why))) old new
-unopened_count why old new counts = search rules
-
 pub unopened : (honest : Type 0) (i n : ℕ) (old new : Device) (why : Refusal) → IsOpenRefusal why
     → (honest → IsNoOpening i n old.bytes why)
     → EndsKeeping honest i n old new (Err (Refused (refusal_of_formatted why)))
@@ -29,10 +24,15 @@ unopened honest i n old new refusal.WrongFile refused not_open =
 unopened honest i n old new why refused not_open = absurd refused
 
 -- a file that was opened is kept
-pub kept : (i n k : ℕ) (v : List ℕ) (spare : Bool) (old new : Device) → length old.bytes ≡ FILE_LEN
-    → Head old.bytes i n × Holds old.bytes k v → IsAtRest i n k v spare new → HasKept i n k v old new
-kept i n k v spare old new size holds rests =
-    record { was = record { size = size; head = holds.0; holds = holds.1 }; spare_open = spare; rests = rests }
+pub kept : {D : Type 0} (disk : Disk.Ghosts D) (i n k : ℕ) (v : List ℕ) (spare : Bool) (old mid new : D) → new ≡ mid
+    → length (disk.device old).bytes ≡ FILE_LEN
+    → (disk.is_honest mid → Head (disk.device old).bytes i n × Holds (disk.device old).bytes k v)
+    → (disk.is_honest mid → IsAtRest i n k v spare (disk.device mid))
+    → disk.is_honest new → HasKept i n k v (disk.device old) (disk.device new)
+kept disk i n k v spare old mid new is size holds rests honest =
+    let file = holds (rw is at honest) in
+    let was : IsFileOf i n k v (disk.device old).bytes = record { size = size; head = file.0; holds = file.1 } in
+    record { was = was; spare_open = spare; rests = rw is (rests (rw is at honest)) }
 
 kept_from : (i n k : ℕ) (v : List ℕ) (old mid new : Device) → IsUnchanged old mid
     → HasKept i n k v mid new → HasKept i n k v old new
@@ -55,14 +55,3 @@ keeping honest i n old mid new (Err (Refused refusal.AlreadyFormatted)) same for
 keeping honest i n old mid new (Err (Refused refusal.DeviceFailed)) same formatted ends = λ _. tt
 keeping honest i n old mid new (Err (Refused refusal.NoMemory)) same formatted ends = λ _. tt
 keeping honest i n old mid new end same formatted ends = absurd ends
-
--- a call after the reading leaves no more than the reading does
-pub looked_leaves : {D : Type 0} (disk : Disk.Ghosts D) (old mid new : D) → (disk.is_honest new → disk.is_honest mid)
-    → (disk.is_honest mid → IsUnchanged (disk.device old) (disk.device mid)) → LeavesNoMore disk old mid
-    → LeavesNoMore disk mid new → LeavesNoMore disk old new
-looked_leaves disk old mid new was same first second = λ honest.
-    then disk old mid new (MayLeave (disk.device old)) (MayLeave (disk.device mid)) (MayLeave (disk.device old))
-    (first (was honest)) (second honest) (λ b left. left) (unchanged_leaves (same (was honest)))
-
-pub store_keeps : (kept : Type 0) (end : End) → kept → StoreKeeps kept end
-store_keeps kept end is = search rules

@@ -4,8 +4,8 @@ use Rattle.std.specs.Io.KnownBytes.{Keeps}
 use Rattle.snap_disk.specs.declared.refusal.Refusal.TheVariants.{TooLong, Fenced, Exhausted, DeviceFailed}
 use Rattle.snap_disk.specs.{Device.Device, declared.refusal.Refusal.Refusal}
 use Rattle.snap_slot.specs.{Layout.Head, Layout.Holds, Findings.IsNoOpening}
-use Rattle.snap_segment.specs.{Refusals.IsStoreRefusal, Refusals.IsOpenRefusal, Open.CountsFailed}
-use Rattle.snap_file_commands.specs.{Commands.End, Commands.EndsStore, Commands.CountsEnd, Effects.StoreKeeps}
+use Rattle.snap_segment.specs.{Refusals.IsStoreRefusal, Refusals.IsOpenRefusal}
+use Rattle.snap_file_commands.specs.{Commands.End, Commands.EndsStore, Effects.StoreKeeps}
 use Rattle.snap_file_commands.specs.{Effects.PutKeeps, declared.fault.CommandFault.TheVariants.Refused}
 
 module _ (honest : Type 0) (i n : ℕ) (v : List ℕ) (old new : Device) (out out' : Option (List ℕ)) where
@@ -24,15 +24,6 @@ module _ (honest : Type 0) (i n : ℕ) (v : List ℕ) (old new : Device) (out ou
   refused_open Exhausted is not_open keeps = absurd is
   refused_open DeviceFailed is not_open keeps = ((λ _. tt), keeps)
   refused_open why is not_open keeps = (not_open, keeps)
-
--- the device's failure count, once an opening or a store was refused
-pub refused_count : (why : Refusal) (old new : ℕ) → CountsFailed why old new → CountsEnd (Err (Refused why)) old new
-refused_count why old new counts = search rules
-
--- the device after a refused store
-pub refused_keeps : (kept : Type 0) (why : Refusal) → ((why ≡ DeviceFailed → ⊥) → kept)
-    → StoreKeeps kept (Err (Refused why))
-refused_keeps kept why keeps = search rules
 
 -- a put keeps what its store keeps
 pub put_keeps : (honest same segment kept : Type 0) (i n : ℕ) (v : List ℕ) (old new : Device)

@@ -1,7 +1,7 @@
 -- Files that are sorted by the segments in their headers.
-use Rattle.std.proofs.Common.{◌≡◌, ◌≢◌, ◌⊎◌, ℕ, ◌+◌, ◌<◌, List, length, Option, Some, None, slice_set, slice_get}
+use Rattle.std.proofs.Common.{◌≡◌, ◌≢◌, ℕ, ◌+◌, ◌<◌, List, length, Option, Some, None, slice_set, slice_get}
 use Rattle.std.proofs.Common.{sum_by, replicate, inl, inr, sym, ◌∙◌, ap, arith, length-set}
-use Rattle.std.proofs.lemmas.{Bool.Decides.eqb_tells, Option.get_or_from_slice_get, Option.slice_get_within}
+use Rattle.std.proofs.lemmas.{Bool.cases_eq, Option.get_or_from_slice_get, Option.slice_get_within}
 use Rattle.std.proofs.lemmas.List.{get_or-replicate, length-replicate, Sums.sum_by-set, Folds.sum_by-replicate}
 use Rattle.snap_history.proofs.Lists.{get-set_same, get-set_other}
 use Rattle.snap_file_commands.specs.declared.segment_order.SegmentPlace.{SegmentPlace}
@@ -24,9 +24,6 @@ none_yet places count = record {
   back = λ i file sits. absurd (no_file count i file sits);
 }
 
-apart : (a b : ℕ) → (a ≡ b) ⊎ (a ≢ b)
-apart a b = elim (eqb_tells a b) [ inl same ↦ inl same.1 | inr other ↦ inr other.1 ]
-
 -- one more file, of a segment that had none
 module _ (places : List SegmentPlace) (count files : ℕ) (seats : List (Option ℕ)) (p : SegmentPlace)
     (says : Says places files p) (one : IsOneOf count p) (free : slice_get seats p.index ≡ Some None)
@@ -37,12 +34,11 @@ module _ (places : List SegmentPlace) (count files : ℕ) (seats : List (Option 
   full_after : sum_by file_count (slice_set seats p.index (Some files)) ≡ files + 1
   full_after =
       let e = sum_by-set file_count seats p.index (Some files) None inside in
-      let f = ap file_count (get_or_from_slice_get seats p.index None None free) in
-      omega (arith, e, f, seating.full)
+      omega (arith, e, ap file_count (get_or_from_slice_get seats p.index None None free), seating.full)
 
   each_after : (file : ℕ) (q : SegmentPlace) → file < files + 1 → Says places file q
       → slice_get (slice_set seats p.index (Some files)) q.index ≡ Some (Some file)
-  each_after file q below says_q = elim (apart file files) [
+  each_after file q below says_q = elim (cases_eq file files) [
     | inl same ↦
         let e : q ≡ p = cc in
         rw (e, same) (get-set_same seats p.index (Some files) inside)
@@ -54,7 +50,7 @@ module _ (places : List SegmentPlace) (count files : ℕ) (seats : List (Option 
 
   back_after : (i file : ℕ) → slice_get (slice_set seats p.index (Some files)) i ≡ Some (Some file)
       → (file < files + 1) × Says places file (record { index = i; count = count })
-  back_after i file sits = elim (apart i p.index) [
+  back_after i file sits = elim (cases_eq i p.index) [
     | inl same ↦
         let here = get-set_same seats p.index (Some files) inside in
         let is : file ≡ files = cc in

@@ -18,13 +18,7 @@ held i n i' n' k u b same_i same_n size holds =
 
 pub stored : {i n k : ℕ} {u v : List ℕ} {old new : Device} → IsFileOf i n k u old.bytes
     → IsSettled new × ((b : List ℕ) → MayLeave new b → IsFileOf i n (k + 1) v b) → IsStored i n k v old new
-stored {u = u} file last = record {
-  value = u;
-  head = file.head;
-  held = file.holds;
-  settled = last.0;
-  lasts = last.1;
-}
+stored {u = u} file last = record { value = u; head = file.head; held = file.holds; settled = last.0; lasts = last.1 }
 
 -- an opening and a store after it, in terms of the command
 pub put_leaves : {D : Type 0} (disk : Disk.Ghosts D) (honest : Type 0) (old : D) (mid new : SegmentState D)

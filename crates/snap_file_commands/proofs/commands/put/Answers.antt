@@ -1,13 +1,8 @@
-use Rattle.std.proofs.Common.{rules, ◌≡◌, [], take, ap, ◌∙◌, Err}
-use Rattle.std.proofs.KnownBytes.{Keeps-refl}
+use Rattle.std.proofs.{Common.rules, Common.take, Common.ap, Common.◌∙◌, Common.Err, KnownBytes.Keeps-refl}
 use Rattle.snap_stream.proofs.Known.{had}
-use Rattle.snap_file_commands.proofs.Refused.{put_keeps, refused_count, refused_keeps, refused_open}
-use Rattle.snap_file_commands.proofs.Stored.{held, put_leaves, store_ends_put}
-use Rattle.snap_file_commands.specs.{Effects.LeavesNoMore, declared.fault.CommandFault.TheVariants.Refused}
+use Rattle.snap_file_commands.proofs.{Refused.put_keeps, Refused.refused_open, Stored.held, Stored.put_leaves}
+use Rattle.snap_file_commands.{proofs.Stored.store_ends_put, specs.declared.fault.CommandFault.TheVariants.Refused}
 use Rattle.snap_file_commands.proofs.commands.put.Goals as goal
-
-pub returns-in-Err-open-clause-count : goal.returns-in-Err-open-clause-count
-returns-in-Err-open-clause-count g c = refused_count c.in-Err-open.why _ _ c.in-Err-open.ensures.count_err
 
 pub returns-in-Err-open-clause-ends : goal.returns-in-Err-open-clause-ends
 returns-in-Err-open-clause-ends g c =
@@ -22,27 +17,6 @@ returns-in-Err-open-clause-ends g c =
     (device c.in-Err-open.disk) out out (Err (Refused why)) (had _ _ v came.came (came.ended (search rules)))
     (refused_open honest c.args.index c.args.count v (device c.args.disk) (device c.in-Err-open.disk) out out why
     answer.refusals answer.refused (Keeps-refl out))
-
-pub returns-in-Err-open-clause-keeps : goal.returns-in-Err-open-clause-keeps
-returns-in-Err-open-clause-keeps g c =
-    let device = g.D.Disk.device in
-    let honest = g.D.Disk.is_honest c.in-Err-open.disk in
-    let out = g.W.Write.contents c.args.writer.now in
-    let answer = c.in-Err-open.ensures in
-    let why = c.in-Err-open.why in
-    let kept = LeavesNoMore g.D.Disk c.args.disk c.in-Err-open.disk in
-    put_keeps honest (c.in-Err-open.disk ≡ c.args.disk) kept kept c.args.index c.args.count [] (device c.args.disk)
-    (device c.in-Err-open.disk) out out (Err (Refused why)) (λ k. k)
-    (refused_open honest c.args.index c.args.count [] (device c.args.disk) (device c.in-Err-open.disk) out out why
-    answer.refusals answer.refused (Keeps-refl out)) (refused_keeps kept why (λ other. answer.any_time_err))
-
-pub returns-clause-honest : goal.returns-clause-honest
-returns-clause-honest g c = λ honest. c.in-Ok-open.ensures.honest_ok
-    (c.store-end.ensures.honest (rw c.into_device.ensures.device at honest))
-
-pub returns-clause-count : goal.returns-clause-count
-returns-clause-count g c = rw c.into_device.ensures.device
-    (rw c.in-Ok-open.ensures.count_ok at c.store-end.ensures.count)
 
 pub returns-clause-ends : goal.returns-clause-ends
 returns-clause-ends g c =
@@ -67,9 +41,6 @@ returns-clause-keeps g c =
     (c.store-end.ensures.ends device (λ honest. held c.args.index c.args.count
     segment.index segment.count segment.number segment.value device.bytes opened.opened.0 opened.opened.1
     opened.file_length (opened.holds honest))) c.store-end.ensures.keeps
-
-pub returns-clause-wrong_length : goal.returns-clause-wrong_length
-returns-clause-wrong_length g c = λ other. absurd (other c.in-Ok-open.ensures.file_length)
 
 pub returns-clause-any_time : goal.returns-clause-any_time
 returns-clause-any_time g c = λ honest.

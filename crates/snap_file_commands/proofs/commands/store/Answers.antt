@@ -1,23 +1,7 @@
-use Rattle.std.proofs.Common.{rules, arith, ap, refl, inl, inr, Err}
+use Rattle.std.proofs.Common.{rules, arith, ap, Err}
 use Rattle.std.proofs.{KnownBytes.Keeps-refl, lemmas.Result.err_from_is_err_and}
-use Rattle.snap_file_commands.proofs.Refused.{refused_count, refused_keeps, refused_store}
-use Rattle.snap_file_commands.proofs.Stored.{stored}
+use Rattle.snap_file_commands.proofs.{Refused.refused_store, Stored.stored}
 use Rattle.snap_file_commands.proofs.commands.store.Goals as goal
-
-pub returns-in_err-line-clause-ends : goal.returns-in_err-line-clause-ends
-returns-in_err-line-clause-ends g c = λ file holds.
-    let p = err_from_is_err_and c.from_residual.result c.from_residual.ensures.1 in
-    rw (p.1, p.2) ((λ honest. (holds honest).size), Keeps-refl _)
-
-pub returns-in_err-store-clause-count : goal.returns-in_err-store-clause-count
-returns-in_err-store-clause-count g c =
-    let p = err_from_is_err_and c.from_residual-in_err-store.result c.from_residual-in_err-store.ensures.1 in
-    rw (p.1, p.2) (refused_count _ _ _ c.in_err-store.ensures.count)
-
-pub returns-in_err-store-clause-keeps : goal.returns-in_err-store-clause-keeps
-returns-in_err-store-clause-keeps g c =
-    let p = err_from_is_err_and c.from_residual-in_err-store.result c.from_residual-in_err-store.ensures.1 in
-    rw (p.1, p.2) (refused_keeps _ _ (λ other. c.in_err-store.ensures.same _ refl other))
 
 pub returns-in_err-store-clause-ends : goal.returns-in_err-store-clause-ends
 returns-in_err-store-clause-ends g c = λ file holds.
@@ -35,30 +19,14 @@ returns-in_err-store-clause-ends g c = λ file holds.
 
 pub returns-in-Ok-clause-ends : goal.returns-in-Ok-clause-ends
 returns-in-Ok-clause-ends g c = λ file holds.
-    let answer = c.in_ok-store.ensures in (
-      c.args.segment.now.number,
-      search rules,
-      (λ honest. stored (holds (answer.honest honest)) (answer.last honest)),
-      rw (← c.number.ensures.number) (search rules),
-    )
+    let answer = c.in_ok-store.ensures in
+    let k = c.args.segment.now.number in
+    let same = c.number.ensures.number in
+    (k, search rules, (λ h. stored (holds (answer.honest h)) (answer.last h)), rw (← same) (search rules))
 
 pub returns-clause-ends : goal.returns-clause-ends
 returns-clause-ends g c = λ file holds.
-    let answer = c.in_ok-store.ensures in (
-      c.args.segment.now.number,
-      search rules,
-      (λ honest. stored (holds (answer.honest honest)) (answer.last honest)),
-      rw (← c.number.ensures.number) (search rules),
-    )
-
-pub returns-in_err-line-clause-any_time : goal.returns-in_err-line-clause-any_time
-returns-in_err-line-clause-any_time g c = inl (search rules)
-
-pub returns-in_err-store-clause-any_time : goal.returns-in_err-store-clause-any_time
-returns-in_err-store-clause-any_time g c = inr (λ honest. c.in_err-store.ensures.any_time honest c.requires.unfenced)
-
-pub returns-in-Ok-clause-any_time : goal.returns-in-Ok-clause-any_time
-returns-in-Ok-clause-any_time g c = inr (λ honest. c.in_ok-store.ensures.any_time honest c.requires.unfenced)
-
-pub returns-clause-any_time : goal.returns-clause-any_time
-returns-clause-any_time g c = inr (λ honest. c.in_ok-store.ensures.any_time honest c.requires.unfenced)
+    let answer = c.in_ok-store.ensures in
+    let k = c.args.segment.now.number in
+    let same = c.number.ensures.number in
+    (k, search rules, (λ h. stored (holds (answer.honest h)) (answer.last h)), rw (← same) (search rules))

@@ -1,5 +1,4 @@
-use Rattle.std.proofs.Common.{◌∷◌, [], ◌∙◌}
-use Rattle.std.proofs.lemmas.{Bool.Decides.Decides-eqb, Slice.Eq.ends_is}
+use Rattle.std.proofs.{Common.◌∷◌, Common.[], Common.◌∙◌, lemmas.Bool.Decides.Decides-eqb, lemmas.Slice.Eq.ends_is}
 use Rattle.snap_file_commands.proofs.segment_name.is_segment_name.Goals as goal
 
 pub returns : goal.returns

@@ -17,12 +17,7 @@ returns-in-Some-clause-fault c =
     let says = slice_get-get_or places second (record { index = 0; count = 0 }) c.loop-second-test.true in
     let one = c.requires second (record { index = 0; count = 0 }) c.loop-second-test.true in
     let seating = c.loop-second.invariant in
-    let sits = slice_get_read c.loop-second.seats.items _ _ c.index.result.now refl (omega (
-      arith,
-      one.0,
-      c.from-index.ensures,
-      c.loop-second.invariant.size,
-    )) c.index.ensures in
+    let sits = slice_get_read c.loop-second.seats.items _ _ c.index.result.now refl (omega arith) c.index.ensures in
     let first = seating.back c.from-index.result c.in-Some.first (sits ∙ ap Some c.in-Some.is) in
     (record { index = c.from-index.result; count = c.args.count }, p, first.1, says, first.0, c.from-index.ensures)
 
@@ -33,12 +28,7 @@ loop-second-preserved c =
     let p = get_or places second (record { index = 0; count = 0 }) in
     let says = slice_get-get_or places second (record { index = 0; count = 0 }) c.loop-second-test.true in
     let one = c.requires second (record { index = 0; count = 0 }) c.loop-second-test.true in
-    let free = slice_get_read c.loop-second.seats.items _ _ c.index.result.now refl (omega (
-      arith,
-      one.0,
-      c.from-index.ensures,
-      c.loop-second.invariant.size,
-    )) c.index.ensures in
+    let free = slice_get_read c.loop-second.seats.items _ _ c.index.result.now refl (omega arith) c.index.ensures in
     rw c.from-index.ensures (one_more places c.args.count second c.loop-second.seats.items p says one
     (rw c.from-index.ensures at (free ∙ ap Some c.in_default.is)) c.loop-second.invariant)
 

@@ -1,24 +1,15 @@
 use Rattle.std.proofs.Common.{◌≡◌, ◌++◌, ◌∙◌, List, [], ℕ, ap, ap₂}
 use Rattle.json.specs.Print.{print}
-use Rattle.snap_json.proofs.Growth.{wrote}
 use Rattle.snap_file_commands.specs.Document.{head_tokens}
 use Rattle.snap_file_commands.proofs.dump.text.head.Goals as goal
 
 pub returns : goal.returns
 returns c =
-    let old = c.new-writer.result.tokens in
-    let format = wrote old _ _ _ _ c.in_ok-begin_object.ensures.ok c.in_ok-key.ensures.ok in
-    let name = wrote old _ _ _ _ format c.in_ok-string.ensures.ok in
-    let version = wrote old _ _ _ _ name c.in_ok-key-2.ensures.ok in
-    let number = wrote old _ _ _ _ version c.in_ok-u64.ensures.ok in
-    let time = wrote old _ _ _ _ number c.in_ok-key-3.ensures.ok in
-    let told = wrote old _ _ _ _ time c.in_ok-string-2.ensures.ok in
-    let count = wrote old _ _ _ _ told c.in_ok-key-4.ensures.ok in
-    let counted = wrote old _ _ _ _ count c.in_ok-u64-2.ensures.ok in
-    let segments = wrote old _ _ _ _ counted c.in_ok-key-5.ensures.ok in
     let all : c.begin_array.new.self.tokens ≡ head_tokens c.args.time.now c.args.count =
-    wrote old _ _ _ _ segments c.in_ok-begin_array.ensures.ok
-    ∙ ap (λ l. l ++ head_tokens c.args.time.now c.args.count) c.new-writer.ensures.tokens in
+    rw (c.in_ok-begin_array.ensures.ok, c.in_ok-key-5.ensures.ok, c.in_ok-u64-2.ensures.ok)
+    (rw (c.in_ok-key-4.ensures.ok, c.in_ok-string-2.ensures.ok, c.in_ok-key-3.ensures.ok)
+    (rw (c.in_ok-u64.ensures.ok, c.in_ok-key-2.ensures.ok, c.in_ok-string.ensures.ok)
+    (rw (c.in_ok-key.ensures.ok, c.in_ok-begin_object.ensures.ok, c.new-writer.ensures.tokens)))) in
     let before : c.begin_array.new.self.before ≡ [] = c.begin_array.ensures.room.0
     ∙ c.key-5.ensures.room.0 ∙ c.u64-2.ensures.room.0 ∙ c.key-4.ensures.room.0 ∙ c.string-2.ensures.room.0
     ∙ c.key-3.ensures.room.0 ∙ c.u64.ensures.room.0 ∙ c.key-2.ensures.room.0 ∙ c.string.ensures.room.0
