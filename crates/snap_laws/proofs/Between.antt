@@ -1,7 +1,7 @@
 -- Commands between two openings, by their contracts.
-use Rattle.std.proofs.Common.{◌≡◌, ℕ, ◌+◌, false, inl, inr, List, [], ◌∷◌, Option, Some, Result, Ok, Err, IfOk, OnOk}
-use Rattle.std.proofs.Common.{⊎_elim, slice_get, slice_set, refl, sym, ◌∙◌}
-use Rattle.std.proofs.lemmas.{List.length-set, Option.slice_get_within, Option.same_Some, Bool.cases_eq}
+use Rattle.std.proofs.Common.{arith, ◌≡◌, ℕ, ◌+◌, false, inl, inr, List, [], ◌∷◌, Option, Some, Result, Ok, Err, IfOk}
+use Rattle.std.proofs.Common.{OnOk, ⊎_elim, slice_get, slice_set, refl, sym, ◌∙◌, length-set}
+use Rattle.std.proofs.lemmas.{Option.slice_get_within, Option.same_Some, Bool.cases_eq}
 use Rattle.snap_disk.specs.{Device.Device, Device.MayLeave, Time.LeavesOnly}
 use Rattle.snap_slot.specs.{Layout.IsFileOf, States.IsAtRest, States.IsEither}
 use Rattle.snap_slot.proofs.Rest.{at_rest_file, at_rest_leaves}
@@ -11,7 +11,7 @@ use Rattle.snap_writer.proofs.Crashes.{CountsNow}
 use Rattle.snap_restart.specs.Restarts.{Put, PutCutOff, Spared, Remade, Works, from_there}
 use Rattle.snap_order.specs.declared.{order.FileOrder.FileOrder, status.Status.Status}
 use Rattle.snap_file_commands.specs.Commands.{EndsOrder, EndsMaking, IsNewlyMade, IsStored}
-use Rattle.snap_file_commands.specs.Foundation.{IsBlank, IsDone, EndsFounding}
+use Rattle.snap_file_commands.specs.Foundation.{IsBlank, EndsFounding}
 use Rattle.snap_file_commands.specs.{declared.fault.CommandFault.CommandFault, Effects.LeavesNoMore}
 use Rattle.snap_file_commands.specs.{declared.migration.MigrationFault.MigrationFault, Migration.EndsMigration}
 use Rattle.snap_laws.specs.Between.{GoesOnWith, PutGoesOn, CutOffGoesOn, BeginsAgain, InitGoesOn}
@@ -22,15 +22,7 @@ module _ {D : Type 0} (disk : Disk.Ghosts D) where
   -- the other devices are the same
   works : (i : ℕ) (leaves : List ℕ → Type 0) (devices : List D) (old new : D) → slice_get devices i ≡ Some old
       → ((b : List ℕ) → MayLeave (disk.device new) b → leaves b) → Works disk i leaves devices (slice_set devices i new)
-  works i leaves devices old new at left =
-      let there = slice_get_within devices i old at in record {
-        there = there;
-        others = record {
-          size = sym (length-set devices i new);
-          each = λ j d e ed ee ne b may. let same : d ≡ e = cc (get-set_other devices i j new ne) in rw same may;
-        };
-        own = λ e b ee may. let same : new ≡ e = cc (get-set_same devices i new there) in left b (rw same may);
-      }
+  works i leaves devices old new at left = grind (arith, length-set, slice_get_within, get-set_same, get-set_other)
 
   stored_goes_on : (i n c : ℕ) (v : List ℕ) (old new : D) → IsStored i n c v (disk.device old) (disk.device new)
       → GoesOnWith disk n i ((record { segment = i; value = v } ∷ []) ∷ []) old new
@@ -50,13 +42,6 @@ module _ {D : Type 0} (disk : Disk.Ghosts D) where
       old.value old.spare_open (disk.device old.device) (rests (honest_then hon))).holds)
       (works old.index (IsEither old.index old.count old.number old.value v) devices old.device cut at
       (λ b left. (any_time hon).each b (might b left)))
-
-  pub put_goes_on : (o : FileOrder) (known out out' : Option (List ℕ)) (old new : D) (s : Status)
-      → EndsOrder o (disk.is_honest new) known (disk.device old) (disk.device new) out out' (Ok s)
-      → PutGoesOn disk o known old new
-  put_goes_on (order.Put file i n) known out out' old new s (v, had, stores) =
-      λ hon. (v, had, stored_goes_on i n stores.0 v old new (stores.2 hon))
-  put_goes_on o known out out' old new s ends = tt
 
   pub no_more_goes_on : CountsNow disk → (i n : ℕ) (old new : D) → disk.is_honest new
       → LeavesNoMore disk old new → GoesOnWith disk n i [] old new
@@ -78,23 +63,21 @@ module _ {D : Type 0} (disk : Disk.Ghosts D) where
       Remade start (from_there start i k v) moments _ devices (slice_set devices i new) i k v past
       (works i (IsFileOf i n k v) devices lost new at (at_rest_leaves i n k v false (disk.device new) made.1)) refl refl
 
-  pub init_goes_on : CountsNow disk → (i n : ℕ) (old new : D)
-      → IsDone (disk.is_honest new) i n (disk.device old) (disk.device new)
-      → ((IsBlank (disk.device old).bytes → ⊥) → LeavesNoMore disk old new) → InitGoesOn disk i n old new
-  init_goes_on counts_now i n old new (inl made) spared hon = inr (begins_again i n 0 [] old new (made hon).1)
-  init_goes_on counts_now i n old new (inr kept) spared hon = inl (
-      no_more_goes_on counts_now i n old new hon (spared (λ blank. blank.0 (kept.2 hon).was.head.gate)))
-
   pub put_end : (o : FileOrder) (known out out' : Option (List ℕ)) (old new : D) (r : Result Status CommandFault)
       → EndsOrder o (disk.is_honest new) known (disk.device old) (disk.device new) out out' r
       → IfOk r (λ _. PutGoesOn disk o known old new)
-  put_end o known out out' old new (Ok s) ends = put_goes_on o known out out' old new s ends
+  put_end (order.Put file i n) known out out' old new (Ok s) (v, had, stores) =
+      λ hon. (v, had, stored_goes_on i n stores.0 v old new (stores.2 hon))
+  put_end o known out out' old new (Ok s) ends = tt
   put_end o known out out' old new (Err why) ends = tt
 
   pub init_end : CountsNow disk → (i n : ℕ) (old new : D) (r : Result Status CommandFault)
       → EndsFounding (disk.is_honest new) i n (disk.device old) (disk.device new) r
       → ((IsBlank (disk.device old).bytes → ⊥) → LeavesNoMore disk old new) → IfOk r (λ _. InitGoesOn disk i n old new)
-  init_end counts_now i n old new (Ok s) ends spared = init_goes_on counts_now i n old new ends.1 spared
+  init_end counts_now i n old new (Ok s) (done, inl made) spared =
+      λ hon. inr (begins_again i n 0 [] old new (made hon).1)
+  init_end counts_now i n old new (Ok s) (done, inr kept) spared = λ hon. inl (
+      no_more_goes_on counts_now i n old new hon (spared (λ blank. blank.0 (kept.2 hon).was.head.gate)))
   init_end counts_now i n old new (Err why) ends spared = tt
 
   pub load_end : (i n k : ℕ) (v : List ℕ) (old new : D) (r : Result Status CommandFault)

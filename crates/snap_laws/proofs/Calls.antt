@@ -128,8 +128,8 @@ module _ (n : ℕ) (start : Start) (h : List Update) where
       (sym (append_assoc (frame x) (frames xs) more) ∙ heard) tails
   answers_stand (q ∷ qs) (r ∷ rs) (x ∷ xs) [] (y ∷ ys) us rest tail more late can spoken few fits
       told asked heard tails = absurd told
-  answers_stand (q ∷ qs) (r ∷ rs) (x ∷ xs) (p ∷ ps) (y ∷ ys) us rest tail more late can spoken few
-      fits told asked heard tails =
+  answers_stand (q ∷ qs) (r ∷ rs) (x ∷ xs) (p ∷ ps) (y ∷ ys) us rest tail more late can spoken few fits told asked heard
+      tails =
       let sendable = can 0 q (omega arith) in
       let first = first_same (payload q) p (frames (map payload qs)) (frames ps ++ (rest ++ late)) sendable.2 few.0
       (asked ∙ append_assoc (frame p) (frames ps) (rest ++ late)) in

@@ -59,19 +59,16 @@ module _ {D : Type 0} (disk : Disk.Ghosts D) (devices : List D) (writers : List 
         (answered_stands remaining contents b qs rs now answered (seen_then opened.plan s kept b.seen was))
 
   pub before_stands : (q : Request) (r : Reply) → Stands n start before q r → Stands n start (base ++ now) q r
-  before_stands q r stands = stands_on n start before (base ++ now) q r
-      (on.more ++ now, append_assoc before on.more now) stands
+  before_stands q r stands = grind (arith, stands_on, append_assoc)
 
   pub told_stands : {R W : Type 0} (remaining : R → Option (List ℕ)) (contents : W → Option (List ℕ)) (q : Request)
       (r : Reply) → WasTold remaining contents opened.plan s.views q r → Stands n start (base ++ now) q r
   told_stands remaining contents q r (b, same, was, inl replied) =
-      beside_at (λ x y. IsTold n start (base ++ now) x y) _ _ replied.place replied.payload
-      replied.reply (session_stands b same was replied.served)
+      beside_at (λ x y. IsTold n start (base ++ now) x y) _ _ _ _ _ (session_stands b same was replied.served)
       replied.payload_is replied.reply_is q r replied.number replied.asks replied.says
   told_stands remaining contents q r (b, same, was, inr heard) =
-      beside_at (λ x y. Stands n start (base ++ now) x y) heard.asked heard.answers heard.place q r
-      (client_stands b same was remaining contents heard.asked heard.answers heard.was_answered)
-      heard.asked_is heard.answer_is
+      beside_at (λ x y. Stands n start (base ++ now) x y) _ _ _ q r
+      (client_stands b same was remaining contents _ _ heard.was_answered) heard.asked_is heard.answer_is
 
 module _ {D R W : Type 0} (disk : Disk.Ghosts D) (remaining : R → Option (List ℕ))
     (contents : W → Option (List ℕ)) where
@@ -101,14 +98,10 @@ module _ {D R W : Type 0} (disk : Disk.Ghosts D) (remaining : R → Option (List
       let before = l.history ++ is.more in
       let h = before ++ update i v ∷ [] in
       let low : i < n = omega (arith, works.there, all_devices disk n start moments devices l) in
+      let value = value-push start before (update i v) in
       ⊎_elim
-      (λ t. rw (t.0, t.1) (
-        low,
-        refl,
-        (h, beginning-self h, sym is.number_is, sym (value-push start before (update i v))),
-      ))
-      (λ t. stands_on n start l.history h q r
-      (is.more ++ update i v ∷ [], append_assoc l.history is.more (update i v ∷ []))
+      (λ t. rw (t.0, t.1) (low, refl, (h, beginning-self h, sym is.number_is, sym value)))
+      (λ t. stands_on n start l.history h q r (_, append_assoc l.history is.more (update i v ∷ []))
       (stands_ever n start moments devices past q r t)) told
   stands_ever n start (_ ∷ _) _ (PutCutOff _ moments devices nexts i k u v past held works) q r told =
       let l = last disk n start moments devices past in

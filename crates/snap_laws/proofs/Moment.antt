@@ -10,8 +10,7 @@ use Rattle.snap_register.proofs.Updates.{updates_count}
 use Rattle.snap_writer.specs.{Writer.WriterState, Life.Place, Life.seen_at}
 use Rattle.snap_restart.specs.{LifeLaws.IsSeatOf, Crash.IsLifeFrom, Restarts.Crashed}
 use Rattle.snap_laws.specs.Moment.{ShowNothing, HasNone, AtOnceLaw, OverLaw}
-use mathlib.Core.Logic.{dite}
-use mathlib.Core.Option.{some}
+use mathlib.Core.{Logic.dite, Option.some}
 use native.Mathlib.Decide.{ℕ_discrete}
 use lib.ListN.{get_elem?}
 use Rattle.snap_disk.specs.declared.disk.Disk as Disk
@@ -132,10 +131,7 @@ module _ {D : Type 0} (disk : Disk.Ghosts D) where
       (places : List (Place D)) → length writers ≡ segments plan → length places ≡ length writers
       → ShowNothing disk writers places → (i : ℕ) (q : Place D) → slice_get places i ≡ Some q
       → IsLifeFrom disk writers i q × IsSeatOf m.state.views i q
-  seats_there plan ready m writers places all size nothing i q at =
-      let is = nothing i q at in
-      let low = slice_get_within places i q at in
-      (is.0, seat_there plan ready m i q (omega (arith, low, all, size)) is.1)
+  seats_there plan ready m writers places all size nothing i q at = grind (arith, seat_there, slice_get_within)
 
   pub crash_at_once : AtOnceLaw disk
   crash_at_once devices writers opened ready places files size nothing left =

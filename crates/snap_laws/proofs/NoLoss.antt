@@ -19,13 +19,8 @@ module _ {D : Type 0} (disk : Disk.Ghosts D) where
   loses_nothing a m z law is first second hon b left =
       let all = lived_on a m z first.0 second.0 first.1 second.1 in
       let stays = law is.0 is.1 is.2 a z (first.0 ++ second.0) is.3 all hon in
-      let k : Keeps is.1 is.2 a (first.0 ++ second.0) b = stays.any_time.each b left in (
-        k.number,
-        k.value,
-        same_file (sym is.3.index_is) (sym is.3.count_is) refl refl k.file,
-        k.no_less,
-        k.same_value,
-      )
+      let k : Keeps is.1 is.2 a (first.0 ++ second.0) b = stays.any_time.each b left in
+      (k.number, k.value, same_file (sym is.3.index_is) (sym is.3.count_is) refl refl k.file, k.no_less, k.same_value)
 
   -- the last writer of an opening is a writer, and stays one
   pub is_a_writer : (devices : List D) (writers mid : List (WriterState D)) (popped : Option (WriterState D))

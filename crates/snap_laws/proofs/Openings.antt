@@ -34,15 +34,8 @@ module _ {D : Type 0} (disk : Disk.Ghosts D) where
       (λ k x e. let s = unmap seen_of scanners k x e in rw (← s.2) (history.scanners_saw k s.0 s.1)) in
       cut plan (map resting writers) (map seen_of scanners) files (length-map writers resting)
       (λ i p e.
-      let w = unmap resting writers i p e in (
-        w.0,
-        w.0,
-        [],
-        w.1,
-        are i w.0 w.1,
-        refl,
-        inl (w.0, sees_itself w.0, beginning-self w.0.seat.seen, sym w.2),
-      ))
+      let w = unmap resting writers i p e in
+      (w.0, w.0, [], w.1, are i w.0 w.1, refl, inl (w.0, sees_itself w.0, beginning-self w.0.seat.seen, sym w.2)))
       (λ k x e.
       let s = unmap seen_of scanners k x e in
       (k, s.0, s.1, subst (λ (y : List Update). IsBeginning y s.0.seen) s.2 (beginning-self s.0.seen)))

@@ -21,9 +21,7 @@ second_is l m n o xs ys e = ap (λ (z : List ℕ). get_or z 1 0) e
 
 same_update : (i j k l : ℕ) (v w : List ℕ) → k < 2 ^ 64 → l < 2 ^ 64
     → payload (request.Update i k v) ≡ payload (request.Update j l w) → (i ≡ j) × (k ≡ l) × (v ≡ w)
-same_update i j k l v w k_fits l_fits e =
-    let same = same_number k l v w k_fits l_fits (ap (drop 2) e) in
-    (second_is _ i _ j _ _ e, same.0, same.1)
+same_update i j k l v w k_fits l_fits e = grind (arith, second_is, same_number)
 
 same_stored : (m n : ℕ) → m < 2 ^ 64 → n < 2 ^ 64 → says (Stored m) ≡ says (Stored n) → m ≡ n
 same_stored m n m_fits n_fits e = (same_number m n [] [] m_fits n_fits (ap (λ (z : List ℕ). drop 1 z ++ []) e)).0

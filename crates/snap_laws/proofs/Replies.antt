@@ -75,10 +75,7 @@ snapshot_part a b set values h is seen =
       s.begins,
       s.fresh,
       beginning-trans s.part b.seen h s.within seen,
-      record {
-        names = is.names;
-        each = λ p i at. (at_below set (segments b.plan) p i among at, s.each p i at);
-      },
+      record { names = is.names; each = λ p i at. (at_below set (segments b.plan) p i among at, s.each p i at) },
     )
 
 pub replied : (a b : Known) (q : Request) (r : Reply) (h : List Update) → Answers a q r b

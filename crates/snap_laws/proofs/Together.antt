@@ -2,10 +2,9 @@
 use Rattle.std.proofs.Common.{◌≡◌, ⊎_elim, ℕ, zero, suc, ◌+◌, inl, inr, List, [], ◌∷◌, ◌++◌, length, Option, Some}
 use Rattle.std.proofs.Common.{slice_get, refl, ap, sym, subst, ◌∙◌, arith, length-append}
 use Rattle.std.{specs.Option.option_to_list, proofs.lemmas.Option.same_Some}
-use Rattle.snap_history.specs.History.{Update, IsBeginning, number_after}
-use Rattle.snap_history.specs.{Limits.IsNumber, Limits.IsShort, declared.limits.TheConstants.LAST_NUMBER}
-use Rattle.snap_history.proofs.Beginnings.{beginning-self}
-use Rattle.snap_register.specs.{declared.plan.Plan.Plan, History.starts, Rule.segments}
+use Rattle.snap_history.specs.{History.Update, History.IsBeginning, Limits.IsNumber, Limits.IsShort}
+use Rattle.snap_history.{specs.declared.limits.TheConstants.LAST_NUMBER, proofs.Beginnings.beginning-self}
+use Rattle.snap_register.specs.{declared.plan.Plan.Plan, Rule.segments}
 use Rattle.snap_writer.specs.Writer.{WriterState, number_of}
 use Rattle.snap_writer.specs.Life.{Place, in_store, resting, seen_at, StoresFirst, IsIn, IsWriterOf}
 use Rattle.snap_writer.specs.{Judge.IsJudged, declared.judgement.Judgement.TheVariants.Go}
@@ -56,10 +55,7 @@ module _ {D : Type 0} (disk : Disk.Ghosts D) where
       first.stored,
       sees_itself disk first.stored,
       beginning-self first.stored.seat.seen,
-      λ t. resting (record {
-        segment = same_segment t;
-        seat = sym (first.stores.seat_is ∙ first.begins.seat_is) t;
-      }),
+      λ t. resting (record { segment = same_segment t; seat = sym (first.stores.seat_is ∙ first.begins.seat_is) t }),
     ))))
 
   module _ (plan : Plan) (p q : Place D) (first : IsLivedIn disk plan 2 [] 0 p) (second : IsLivedIn disk plan 2 [] 1 q)
@@ -75,15 +71,11 @@ module _ {D : Type 0} (disk : Disk.Ghosts D) where
 
     recovered_at : IsRecoveredAt disk plan (p ∷ q ∷ [])
     recovered_at files left =
-        cut_recovers disk plan [] (p ∷ q ∷ []) [] files
-        (omega arith) (of_both (λ i r. IsLivedIn disk plan 2 [] i r) first second)
-        (λ k seen e. absurd (cc e))
+        cut_recovers disk plan [] (p ∷ q ∷ []) [] files (omega arith)
+        (of_both (λ i r. IsLivedIn disk plan 2 [] i r) first second) (λ k seen e. absurd (cc e))
         (λ j seen e i r at. (
         let fresh = each_seen (λ (h : List Update). h ≡ []) (p ∷ q ∷ []) [] fresh_at
-        (λ k x there. absurd (cc there)) j seen e in
-        let one = ap (λ (h : List Update). number_after (starts plan) h i) fresh in
-        let two = ap (λ (h : List Update). number_after (starts plan) h i) (fresh_at i r at) in
-        omega (arith, one, two))) left
+        (λ k x there. absurd (cc there)) j seen e in rw (fresh, fresh_at i r at) (omega arith))) left
 
   -- both made an update, stored first and then shown
   module _ (first second first_new second_new : WriterState D) (v w : List ℕ) (two : AreTwo disk first second)
@@ -116,10 +108,7 @@ module _ {D : Type 0} (disk : Disk.Ghosts D) where
 pub two_popped : {A : Type 0} (all mid rest : List A) (r s : Option A) (x y : A) → length all ≡ 2
     → all ≡ mid ++ option_to_list r → r ≡ Some y → mid ≡ rest ++ option_to_list s → s ≡ Some x → all ≡ x ∷ y ∷ []
 two_popped all mid [] r s x y size one er two es = rw (one, er, two, es)
-two_popped all mid (z ∷ zs) r s x y size one er two es =
-    let ry = ap (λ (o : Option _). length (option_to_list o)) er in
-    let sx = ap (λ (o : Option _). length (option_to_list o)) es in
-    absurd (omega (arith, size, ry, sx, simp length-append at (ap length one), simp length-append at (ap length two)))
+two_popped all mid (z ∷ zs) r s x y size one er two es = grind (arith, length-append)
 
 pub below_last : (k : ℕ) → IsNumber k → (k ≡ LAST_NUMBER → ⊥) → IsNumber (k + 1)
 below_last k low other = omega arith

@@ -5,10 +5,9 @@ pub returns-clause-plug : goal.returns-clause-plug
 returns-clause-plug g c = λ devices writers start before earlier opened on s kept crashed files size each left. (
   on.any_moment s kept crashed files size each left,
   λ b t same was. session_stands g.D.Disk devices writers opened start before earlier on s kept b same was t,
-  λ b qs rs answered same was.
-      client_stands g.D.Disk devices writers opened start before earlier on s kept b same was
-      g.R.Read.remaining g.W.Write.contents qs rs answered,
-  λ q r stands. before_stands g.D.Disk devices writers opened start before earlier on s kept q r stands,
+  λ b qs rs answered same was. client_stands g.D.Disk devices writers opened start before earlier on s kept b same was
+      _ _ qs rs answered,
+  before_stands g.D.Disk devices writers opened start before earlier on s kept,
 )
 
 pub returns-clause-ever : goal.returns-clause-ever

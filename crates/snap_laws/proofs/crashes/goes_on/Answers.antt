@@ -3,5 +3,5 @@ use Rattle.snap_laws.proofs.crashes.goes_on.Goals as goal
 
 pub returns : goal.returns
 returns g c =
-    loses_nothing g.D.Disk c.args.writer.now c.update.new.self c.update-2.new.self c.life_laws.ensures.stays c.requires
-    c.update.ensures.updated.lived c.update-2.ensures.updated.lived
+    loses_nothing g.D.Disk _ _ _ c.life_laws.ensures.stays c.requires c.update.ensures.updated.lived
+    c.update-2.ensures.updated.lived

@@ -4,13 +4,11 @@ use Rattle.snap_laws.proofs.crashes.open_and_give_back.Goals as goal
 
 pub returns-in-Ok : goal.returns-in-Ok
 returns-in-Ok g c =
-    let ds = c.args.devices.items in
     let told = c.in-Ok.ensures in
-    rw c.close.ensures.devices (come_through g.D.Disk g.met.D.Disk.counts_now ds _ told.kept_ok
-    (backs_opened g.D.Disk ds c.in-Ok.store.writers.items told.opened))
+    rw c.close.ensures.devices (come_through g.D.Disk g.met.D.Disk.counts_now _ _ told.kept_ok
+    (backs_opened g.D.Disk _ _ told.opened))
 
 pub returns : goal.returns
 returns g c =
-    let ds = c.args.devices.items in
     let told = c.in-Err.ensures in
-    come_through g.D.Disk g.met.D.Disk.counts_now ds _ told.kept_err (backs_stopped g.D.Disk ds _ _ _ told.stopped)
+    come_through g.D.Disk g.met.D.Disk.counts_now _ _ told.kept_err (backs_stopped g.D.Disk _ _ _ _ told.stopped)

@@ -3,5 +3,5 @@ use Rattle.snap_laws.proofs.crashes.open_and_go_on.Goals as goal
 
 pub goes_on-requires : goal.goes_on-requires
 goes_on-requires g c =
-    is_a_writer g.D.Disk c.args.devices.items c.in-Some.writers.items _ c.pop.result c.in-Some-pop.writer
-    c.update.new.self c.in-Some.ensures.opened c.pop.ensures.items c.in-Some-pop.is c.update.ensures.updated.lived
+    is_a_writer g.D.Disk _ _ _ _ _ _ c.in-Some.ensures.opened c.pop.ensures.items c.in-Some-pop.is
+    c.update.ensures.updated.lived

@@ -5,9 +5,7 @@ pub returns-in-Ok : goal.returns-in-Ok
 returns-in-Ok g c =
     let told = c.close.ensures.crash in
     let opened = c.in-Ok.ensures in
-    let ds = c.args.devices.items in
-    let ws = c.in-Ok.store.writers.items in
     rw c.close.ensures.devices (record {
-      now = now g.D.Disk told.0 ws c.in-Ok.store.scanners.items ds opened.crash told.1 told.2;
-      start = keep_a_start g.D.Disk ds ws opened.opened opened.crash;
+      now = now g.D.Disk told.0 _ _ _ opened.crash told.1 told.2;
+      start = keep_a_start g.D.Disk _ _ opened.opened opened.crash;
     })
