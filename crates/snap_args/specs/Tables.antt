@@ -2,11 +2,11 @@
 use Rattle.std.specs.Prelude.{List, [], ◌∷◌, Some}
 use Rattle.clap.specs.Words.{App, Rule, Text, new_app, with_rule}
 use Rattle.snap_args.specs.Grammar.{choice_rule, flag_rule, number_rule, text_rule, texts_rule, word_rule}
-use Rattle.snap_args.specs.declared.grammar.{Word.Word, Kind.Kind}
-use Rattle.snap_args.specs.declared.grammar.Kind.TheVariants as kind
+use Rattle.snap_args.specs.declared.grammar.{Word.Word, ArgumentKind.ArgumentKind}
+use Rattle.snap_args.specs.declared.grammar.ArgumentKind.TheVariants as kind
 
 -- the rule of an argument of this kind and name
-abbrev pub rule_of_kind : Kind → Text → Rule
+abbrev pub rule_of_kind : ArgumentKind → Text → Rule
 rule_of_kind (kind.Own needed action) name =
     record (word_rule name) { required = needed; action = Some action }
 rule_of_kind kind.Flag name = flag_rule name

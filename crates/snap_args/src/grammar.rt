@@ -24,7 +24,7 @@ it isn't known how this was built                                               
 /// An argument of a command: its kind and name, the name of its value in the help, and its help.
 #[derive(Clone, Copy)]
 struct Word<'a> {
-    kind: Kind<'a>,
+    kind: ArgumentKind<'a>,
     name: &'a str,
     shown: &'a str,
     help: &'a str,
@@ -32,7 +32,7 @@ struct Word<'a> {
 
 /// The kind of an argument.
 #[derive(Clone, Copy)]
-enum Kind<'a> {
+enum ArgumentKind<'a> {
     /// A positional argument, such as a file's path.
     Own { is_needed: bool, action: ArgAction },
     /// An option without a value.
@@ -50,19 +50,19 @@ enum Kind<'a> {
 }
 
 /// A required positional argument.
-const NEEDED: Kind<'static> = Kind::Own {
+const NEEDED: ArgumentKind<'static> = ArgumentKind::Own {
     is_needed: true,
     action: ArgAction::Set,
 };
 
 /// A positional argument that is given once or more.
-const NEEDED_MANY: Kind<'static> = Kind::Own {
+const NEEDED_MANY: ArgumentKind<'static> = ArgumentKind::Own {
     is_needed: true,
     action: ArgAction::Append,
 };
 
 /// A positional argument that may be given any number of times, or not at all.
-const MANY: Kind<'static> = Kind::Own {
+const MANY: ArgumentKind<'static> = ArgumentKind::Own {
     is_needed: false,
     action: ArgAction::Append,
 };
@@ -157,23 +157,23 @@ fn arg_of<'a>(alloc: Global, word: &Word<'a>) -> Arg<'a>
 {
     let arg = Arg::new(alloc, word.name).help(word.help);
     match word.kind {
-        Kind::Own { is_needed, action } => {
+        ArgumentKind::Own { is_needed, action } => {
             return arg
                 .value_name(word.shown)
                 .required(is_needed)
                 .action(action);
         }
-        Kind::Flag => return arg.long(word.name).action(ArgAction::SetTrue),
+        ArgumentKind::Flag => return arg.long(word.name).action(ArgAction::SetTrue),
         _ => (),
     }
     let option = arg.long(word.name).value_name(word.shown);
     match word.kind {
-        Kind::Texts => option.action(ArgAction::Append),
-        Kind::Choice(default) => option.default_value(default),
-        Kind::Number(default) => option
+        ArgumentKind::Texts => option.action(ArgAction::Append),
+        ArgumentKind::Choice(default) => option.default_value(default),
+        ArgumentKind::Number(default) => option
             .default_value(default)
             .value_parser(value_parser!(u8)),
-        Kind::Parsed(parser) => option.value_parser(parser),
+        ArgumentKind::Parsed(parser) => option.value_parser(parser),
         _ => option,
     }
 }
@@ -190,13 +190,13 @@ fn place_words<'a>() -> [Word<'a>; 3]
             help: "The path of the segment's file",
         },
         Word {
-            kind: Kind::Number("0"),
+            kind: ArgumentKind::Number("0"),
             name: "index",
             shown: "I",
             help: "The segment's index, below N",
         },
         Word {
-            kind: Kind::Number("1"),
+            kind: ArgumentKind::Number("1"),
             name: "count",
             shown: "N",
             help: "How many segments there are, 1 to 16",
@@ -215,19 +215,19 @@ fn check_words<'a>() -> [Word<'a>; 4]
             help: "The path of the segment's file",
         },
         Word {
-            kind: Kind::Flag,
+            kind: ArgumentKind::Flag,
             name: "json",
             shown: "",
             help: "Print it as JSON, on one line",
         },
         Word {
-            kind: Kind::Text,
+            kind: ArgumentKind::Text,
             name: "slot",
             shown: "S",
             help: "The slot whose value is printed, 0 to 2",
         },
         Word {
-            kind: Kind::Flag,
+            kind: ArgumentKind::Flag,
             name: "value",
             shown: "",
             help: "Print the value in slot S, and nothing else",
@@ -252,13 +252,13 @@ fn migrate_words<'a>() -> [Word<'a>; 4]
             help: "The path of the new file",
         },
         Word {
-            kind: Kind::Number("0"),
+            kind: ArgumentKind::Number("0"),
             name: "index",
             shown: "I",
             help: "The segment's index, below N",
         },
         Word {
-            kind: Kind::Number("1"),
+            kind: ArgumentKind::Number("1"),
             name: "count",
             shown: "N",
             help: "How many segments there are, 1 to 16",
@@ -277,13 +277,13 @@ fn init_words<'a>() -> [Word<'a>; 3]
             help: "The path of the folder, which is made where it isn't there",
         },
         Word {
-            kind: Kind::Number("1"),
+            kind: ArgumentKind::Number("1"),
             name: "count",
             shown: "N",
             help: "How many segments there are to be, 1 to 16",
         },
         Word {
-            kind: Kind::Flag,
+            kind: ArgumentKind::Flag,
             name: "missing-empty",
             shown: "",
             help: "Make a missing file, empty, where another one holds a value",
@@ -302,7 +302,7 @@ fn doctor_words<'a>() -> [Word<'a>; 2]
             help: "The path of the folder",
         },
         Word {
-            kind: Kind::Flag,
+            kind: ArgumentKind::Flag,
             name: "measure",
             shown: "",
             help: "Store values in a file of its own there, and say how long that takes",
@@ -327,55 +327,55 @@ fn serve_words<'a>() -> [Word<'a>; 11]
             help: "The files, in order of segment: 1 to 16",
         },
         Word {
-            kind: Kind::Text,
+            kind: ArgumentKind::Text,
             name: "dir",
             shown: "DIR",
             help: "The folder of the files, in place of these",
         },
         Word {
-            kind: Kind::Texts,
+            kind: ArgumentKind::Texts,
             name: "listen",
             shown: "ADDR",
             help: "One more address to listen at; again and again for further ones, 16 in all",
         },
         Word {
-            kind: Kind::Choice("0600"),
+            kind: ArgumentKind::Choice("0600"),
             name: "socket-mode",
             shown: "MODE",
             help: "The mode of the file of a unix:PATH: users who may write it may connect",
         },
         Word {
-            kind: Kind::Text,
+            kind: ArgumentKind::Text,
             name: "http",
             shown: "ADDR",
             help: "Where to serve browsers and monitors, by HTTP: HOST:PORT; else nowhere",
         },
         Word {
-            kind: Kind::Number("4"),
+            kind: ArgumentKind::Number("4"),
             name: "scanners",
             shown: "S",
             help: "How many requests are answered at the same moment, 1 to 16",
         },
         Word {
-            kind: Kind::Parsed(value_parser!(u64)),
+            kind: ArgumentKind::Parsed(value_parser!(u64)),
             name: "connections",
             shown: "K",
             help: "End after this many connections",
         },
         Word {
-            kind: Kind::Parsed(value_parser!(u64)),
+            kind: ArgumentKind::Parsed(value_parser!(u64)),
             name: "clients-max",
             shown: "N",
             help: "The most connections that are open at once, 1 to 1000000",
         },
         Word {
-            kind: Kind::Parsed(value_parser!(u64)),
+            kind: ArgumentKind::Parsed(value_parser!(u64)),
             name: "idle",
             shown: "SECONDS",
             help: "Close a connection that was silent for this many seconds, 1 to 31536000",
         },
         Word {
-            kind: Kind::Choice("info"),
+            kind: ArgumentKind::Choice("info"),
             name: "log",
             shown: "LEVEL",
             help: "The lowest level of a line on standard error: error, warn, info or debug",
@@ -400,43 +400,43 @@ fn call_words<'a>() -> [Word<'a>; 9]
             help: "The request: put I, get I, update I NUMBER HEX, scan, part MASK, status or health",
         },
         Word {
-            kind: Kind::Number("1"),
+            kind: ArgumentKind::Number("1"),
             name: "tries",
             shown: "T",
             help: "The most connections that are made, 1 to 10",
         },
         Word {
-            kind: Kind::Parsed(value_parser!(u64)),
+            kind: ArgumentKind::Parsed(value_parser!(u64)),
             name: "wait",
             shown: "SECONDS",
             help: "Try again for this many seconds if there is no answer, 1 to 86400",
         },
         Word {
-            kind: Kind::Parsed(value_parser!(u64)),
+            kind: ArgumentKind::Parsed(value_parser!(u64)),
             name: "timeout",
             shown: "SECONDS",
             help: "End if there is no answer for this many seconds, 1 to 86400",
         },
         Word {
-            kind: Kind::Text,
+            kind: ArgumentKind::Text,
             name: "value",
             shown: "TEXT",
             help: "The value of a put, in place of standard input",
         },
         Word {
-            kind: Kind::Parsed(value_parser!(u64)),
+            kind: ArgumentKind::Parsed(value_parser!(u64)),
             name: "after",
             shown: "K",
             help: "Store number K + 1, without asking for the segment's number",
         },
         Word {
-            kind: Kind::Flag,
+            kind: ArgumentKind::Flag,
             name: "text",
             shown: "",
             help: "Print each value as text, if it is printable",
         },
         Word {
-            kind: Kind::Flag,
+            kind: ArgumentKind::Flag,
             name: "json",
             shown: "",
             help: "Print the answer as JSON, on one line",
@@ -461,13 +461,13 @@ fn watch_words<'a>() -> [Word<'a>; 4]
             help: "The segments to show, 0 to 15; all where none is given",
         },
         Word {
-            kind: Kind::Parsed(value_parser!(u64)),
+            kind: ArgumentKind::Parsed(value_parser!(u64)),
             name: "every",
             shown: "MILLISECONDS",
             help: "Milliseconds between two polls, 1 to 86400000; else 1000",
         },
         Word {
-            kind: Kind::Flag,
+            kind: ArgumentKind::Flag,
             name: "json",
             shown: "",
             help: "Print each change as a JSON object, on one line",
@@ -486,19 +486,19 @@ fn dump_words<'a>() -> [Word<'a>; 4]
             help: "Where the server listens, or the folder of the files",
         },
         Word {
-            kind: Kind::Number("1"),
+            kind: ArgumentKind::Number("1"),
             name: "tries",
             shown: "T",
             help: "The most connections that are made, 1 to 10",
         },
         Word {
-            kind: Kind::Parsed(value_parser!(u64)),
+            kind: ArgumentKind::Parsed(value_parser!(u64)),
             name: "wait",
             shown: "SECONDS",
             help: "Try again for this many seconds if there is no answer, 1 to 86400",
         },
         Word {
-            kind: Kind::Parsed(value_parser!(u64)),
+            kind: ArgumentKind::Parsed(value_parser!(u64)),
             name: "timeout",
             shown: "SECONDS",
             help: "End if there is no answer for this many seconds, 1 to 86400",
@@ -523,7 +523,7 @@ fn load_words<'a>() -> [Word<'a>; 3]
             help: "The path of the dump, or `-` for standard input",
         },
         Word {
-            kind: Kind::Parsed(value_parser!(u8)),
+            kind: ArgumentKind::Parsed(value_parser!(u8)),
             name: "count",
             shown: "M",
             help: "How many segments there are to be, 1 to 16, and as many as the dump has at least",

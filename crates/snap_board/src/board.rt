@@ -10,7 +10,7 @@ use crate::figures::figures_document;
 use crate::home::HOME;
 use crate::metrics::metrics_text;
 use crate::page::Page;
-use crate::reply::{Answer, Kind, fill, give_up};
+use crate::reply::{ContentKind, PageAnswer, fill, give_up};
 use crate::script::SCRIPT;
 use crate::style::STYLE;
 use bytes::Bytes;
@@ -63,7 +63,7 @@ impl<S: Service + Drop, X: FactSource + Drop> Board<S, X> {
     }
 
     /// Answers a request.
-    fn answer(&mut self, request: &Request<Bytes>) -> Result<Answer, AllocError>
+    fn answer(&mut self, request: &Request<Bytes>) -> Result<PageAnswer, AllocError>
         ensures answers { IfOk result (λ a.
             pages.Answers S.gives self.old.service request.now a.status a.content self.new.service) }
         ensures asks { pages.MayAskFor S.gives self.old.service request.now self.new.service }
@@ -71,29 +71,33 @@ impl<S: Service + Drop, X: FactSource + Drop> Board<S, X> {
     {
         let method = request.method().as_str();
         if method != "GET" && method != "HEAD" {
-            return Ok(Answer::fixed(StatusCode::METHOD_NOT_ALLOWED, Kind::Text, METHODS));
+            return Ok(PageAnswer::fixed(
+                StatusCode::METHOD_NOT_ALLOWED,
+                ContentKind::Text,
+                METHODS,
+            ));
         }
         match Page::of(request.uri().path()) {
             Some(page) => self.show(page),
-            None => Ok(Answer::fixed(StatusCode::NOT_FOUND, Kind::Text, PATHS)),
+            None => Ok(PageAnswer::fixed(StatusCode::NOT_FOUND, ContentKind::Text, PATHS)),
         }
     }
 
     /// Answers with a page.
-    fn show(&mut self, page: Page) -> Result<Answer, AllocError>
+    fn show(&mut self, page: Page) -> Result<PageAnswer, AllocError>
         ensures answers { IfOk result (λ a.
             pages.AnswersPage S.gives page self.old.service a.status a.content self.new.service) }
         ensures asks { pages.MayAsk S.gives (pages.asked_of page) self.old.service self.new.service }
         ensures same { self.new.surroundings ≡ self.old.surroundings }
     {
         match page {
-            Page::Home => Ok(Answer::fixed(StatusCode::OK, Kind::Html, HOME)),
-            Page::Style => Ok(Answer::fixed(StatusCode::OK, Kind::Css, STYLE)),
-            Page::Script => Ok(Answer::fixed(StatusCode::OK, Kind::Script, SCRIPT)),
-            Page::Live => Ok(Answer::fixed(StatusCode::OK, Kind::Text, WELL)),
+            Page::Home => Ok(PageAnswer::fixed(StatusCode::OK, ContentKind::Html, HOME)),
+            Page::Style => Ok(PageAnswer::fixed(StatusCode::OK, ContentKind::Css, STYLE)),
+            Page::Script => Ok(PageAnswer::fixed(StatusCode::OK, ContentKind::Script, SCRIPT)),
+            Page::Live => Ok(PageAnswer::fixed(StatusCode::OK, ContentKind::Text, WELL)),
             Page::History => {
                 let text = self.surroundings.history().document(self.alloc)?;
-                Answer::made(StatusCode::OK, Kind::Json, text)
+                PageAnswer::made(StatusCode::OK, ContentKind::Json, text)
             }
             Page::Scan => self.show_scan(),
             Page::Metrics | Page::Health | Page::Ready | Page::Status | Page::Stats => {
@@ -103,7 +107,7 @@ impl<S: Service + Drop, X: FactSource + Drop> Board<S, X> {
     }
 
     /// Answers with a scan.
-    fn show_scan(&mut self) -> Result<Answer, AllocError>
+    fn show_scan(&mut self) -> Result<PageAnswer, AllocError>
         ensures answers { IfOk result (λ a.
             pages.AnswersPage S.gives Page.Scan self.old.service a.status a.content self.new.service) }
         ensures asks { pages.MayAsk S.gives (Some requests.Scan) self.old.service self.new.service }
@@ -112,14 +116,14 @@ impl<S: Service + Drop, X: FactSource + Drop> Board<S, X> {
         match self.service.answer(&snap_frame::Request::Scan, 0) {
             Some(Reply::Snapshot(values)) => {
                 let text = scan_document(self.alloc, &values)?;
-                Answer::made(StatusCode::OK, Kind::Json, text)
+                PageAnswer::made(StatusCode::OK, ContentKind::Json, text)
             }
             reply => refuse(self.alloc, &reply),
         }
     }
 
     /// Answers with a page that needs the segments' statuses.
-    fn show_statuses(&mut self, page: Page) -> Result<Answer, AllocError>
+    fn show_statuses(&mut self, page: Page) -> Result<PageAnswer, AllocError>
         requires { pages.asked_of page ≡ Some requests.Status }
         ensures answers { IfOk result (λ a.
             pages.AnswersPage S.gives page self.old.service a.status a.content self.new.service) }
@@ -133,19 +137,19 @@ impl<S: Service + Drop, X: FactSource + Drop> Board<S, X> {
     }
 
     /// Answers with a page, from these statuses.
-    fn tell(&self, page: Page, statuses: &[SegmentStatus]) -> Result<Answer, AllocError>
+    fn tell(&self, page: Page, statuses: &[SegmentStatus]) -> Result<PageAnswer, AllocError>
         requires { pages.asked_of page ≡ Some requests.Status }
         ensures { IfOk result (λ a. pages.ShowsStatuses page statuses.now a.status a.content) }
     {
         match page {
             Page::Health => {
                 let text = health_document(self.alloc, statuses)?;
-                Answer::made(health_status(statuses), Kind::Json, text)
+                PageAnswer::made(health_status(statuses), ContentKind::Json, text)
             }
             Page::Ready => Ok(tell_readiness(statuses)),
             Page::Status => {
                 let text = status_document(self.alloc, statuses)?;
-                Answer::made(StatusCode::OK, Kind::Json, text)
+                PageAnswer::made(StatusCode::OK, ContentKind::Json, text)
             }
             Page::Metrics | Page::Stats => self.tell_metrics(page, statuses),
             _ => unreachable!(),
@@ -153,17 +157,17 @@ impl<S: Service + Drop, X: FactSource + Drop> Board<S, X> {
     }
 
     /// Answers with the metrics: as a JSON document for `/stats`, else for Prometheus.
-    fn tell_metrics(&self, page: Page, statuses: &[SegmentStatus]) -> Result<Answer, AllocError>
+    fn tell_metrics(&self, page: Page, statuses: &[SegmentStatus]) -> Result<PageAnswer, AllocError>
         ensures { IfOk result (λ a. a.status ≡ 200) }
     {
         let reading = self.surroundings.reading(self.alloc)?;
         let facts = ServerFacts::of(&reading, &self.surroundings, statuses);
         if let Page::Stats = page {
             let text = figures_document(self.alloc, &facts)?;
-            return Answer::made(StatusCode::OK, Kind::Json, text);
+            return PageAnswer::made(StatusCode::OK, ContentKind::Json, text);
         }
         let text = metrics_text(self.alloc, &facts, &self.surroundings.usage())?;
-        Answer::made(StatusCode::OK, Kind::Metrics, text.into_bytes())
+        PageAnswer::made(StatusCode::OK, ContentKind::Metrics, text.into_bytes())
     }
 
     /// Adds the date of the answer, if the clock can be read and memory for it doesn't run out.
@@ -202,13 +206,17 @@ fn is_any_fenced(statuses: &[SegmentStatus]) -> bool
 }
 
 /// Answers whether any segment takes updates: the status is 503 if all are fenced.
-fn tell_readiness(statuses: &[SegmentStatus]) -> Answer
+fn tell_readiness(statuses: &[SegmentStatus]) -> PageAnswer
     ensures { result.status ≡ (if list_all (λ s. s.is_fenced) statuses.now then 503 else 200) }
 {
     if are_all_fenced(statuses) {
-        Answer::fixed(StatusCode::SERVICE_UNAVAILABLE, Kind::Text, ALL_FENCED)
+        PageAnswer::fixed(
+            StatusCode::SERVICE_UNAVAILABLE,
+            ContentKind::Text,
+            ALL_FENCED,
+        )
     } else {
-        Answer::fixed(StatusCode::OK, Kind::Text, WELL)
+        PageAnswer::fixed(StatusCode::OK, ContentKind::Text, WELL)
     }
 }
 
@@ -220,16 +228,20 @@ fn are_all_fenced(statuses: &[SegmentStatus]) -> bool
 }
 
 /// Answers with the service's refusal, or that it gave no reply.
-fn refuse(alloc: Global, reply: &Option<Reply>) -> Result<Answer, AllocError>
+fn refuse(alloc: Global, reply: &Option<Reply>) -> Result<PageAnswer, AllocError>
     ensures { IfOk result (λ a. a.status ≡ 503) }
 {
     let Some(Reply::Refused { why, .. }) = reply else {
-        return Ok(Answer::fixed(StatusCode::SERVICE_UNAVAILABLE, Kind::Text, NO_ANSWER));
+        return Ok(PageAnswer::fixed(
+            StatusCode::SERVICE_UNAVAILABLE,
+            ContentKind::Text,
+            NO_ANSWER,
+        ));
     };
     let line = format!(in alloc; "{why}\n")?;
-    Answer::made(
+    PageAnswer::made(
         StatusCode::SERVICE_UNAVAILABLE,
-        Kind::Text,
+        ContentKind::Text,
         line.into_bytes(),
     )
 }

@@ -14,7 +14,7 @@ const POLICY: &str =
 
 /// The kind of a content.
 #[derive(Clone, Copy, Debug, PartialEq, Eq)]
-pub(crate) enum Kind {
+pub(crate) enum ContentKind {
     Html,
     Css,
     Script,
@@ -23,15 +23,15 @@ pub(crate) enum Kind {
     Metrics,
 }
 
-impl Kind {
+impl ContentKind {
     fn value(self) -> HeaderValue {
         match self {
-            Kind::Html => HeaderValue::from_static("text/html; charset=utf-8"),
-            Kind::Css => HeaderValue::from_static("text/css; charset=utf-8"),
-            Kind::Script => HeaderValue::from_static("text/javascript; charset=utf-8"),
-            Kind::Json => HeaderValue::from_static("application/json"),
-            Kind::Text => HeaderValue::from_static("text/plain; charset=utf-8"),
-            Kind::Metrics => {
+            ContentKind::Html => HeaderValue::from_static("text/html; charset=utf-8"),
+            ContentKind::Css => HeaderValue::from_static("text/css; charset=utf-8"),
+            ContentKind::Script => HeaderValue::from_static("text/javascript; charset=utf-8"),
+            ContentKind::Json => HeaderValue::from_static("application/json"),
+            ContentKind::Text => HeaderValue::from_static("text/plain; charset=utf-8"),
+            ContentKind::Metrics => {
                 HeaderValue::from_static("text/plain; version=0.0.4; charset=utf-8")
             }
         }
@@ -40,18 +40,18 @@ impl Kind {
 
 /// The answer to a request.
 #[derive(Drop)]
-pub(crate) struct Answer {
+pub(crate) struct PageAnswer {
     pub status: StatusCode,
-    pub kind: Kind,
+    pub kind: ContentKind,
     pub content: Bytes,
 }
 
-impl Answer {
+impl PageAnswer {
     /// An answer with a constant content.
-    pub(crate) fn fixed(status: StatusCode, kind: Kind, content: &'static [u8]) -> Answer
+    pub(crate) fn fixed(status: StatusCode, kind: ContentKind, content: &'static [u8]) -> PageAnswer
         ensures { result.status ≡ status }
     {
-        Answer {
+        PageAnswer {
             status,
             kind,
             content: Bytes::from_static(content),
@@ -59,11 +59,15 @@ impl Answer {
     }
 
     /// An answer with a text that was made for it.
-    pub(crate) fn made(status: StatusCode, kind: Kind, text: Vec<u8>) -> Result<Answer, AllocError>
+    pub(crate) fn made(
+        status: StatusCode,
+        kind: ContentKind,
+        text: Vec<u8>,
+    ) -> Result<PageAnswer, AllocError>
         ensures { IfOk result (λ answer. (answer.status ≡ status) × (answer.content ≡ text.items)) }
     {
         let content = Bytes::from_vec(text)?;
-        Ok(Answer {
+        Ok(PageAnswer {
             status,
             kind,
             content,
@@ -72,7 +76,7 @@ impl Answer {
 }
 
 /// Fills a response with an answer. The headers forbid browsers to cache it or to guess another kind.
-pub(crate) fn fill(response: &mut Response, answer: Answer) -> Result<(), AllocError>
+pub(crate) fn fill(response: &mut Response, answer: PageAnswer) -> Result<(), AllocError>
     requires { response.old.body.items ≡ [] }
     ensures { OnOk result (HasContent answer.status answer.content response.new) }
 {
@@ -92,11 +96,11 @@ pub(crate) fn fill(response: &mut Response, answer: Answer) -> Result<(), AllocE
 }
 
 /// Adds the headers that the page for people has alone, or an answer to a refused method.
-fn add_own_headers(response: &mut Response, answer: &Answer) -> Result<(), AllocError>
+fn add_own_headers(response: &mut Response, answer: &PageAnswer) -> Result<(), AllocError>
     ensures status { response.new.status ≡ response.old.status }
     ensures body { response.new.body ≡ response.old.body }
 {
-    if let Kind::Html = answer.kind {
+    if let ContentKind::Html = answer.kind {
         response.add_header(
             header::CONTENT_SECURITY_POLICY,
             HeaderValue::from_static(POLICY),

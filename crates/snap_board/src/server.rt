@@ -14,7 +14,7 @@ mod stop;
 use connections::Connections;
 pub use connections::MAX_CONNECTIONS;
 use http_server::Service;
-use listener::Listener;
+use listener::HttpListener;
 use mio::net::TcpListener;
 use mio::{Events, Poll, Token};
 use std::alloc::Global;
@@ -59,7 +59,7 @@ pub struct HttpServer {
     poll: Poll,
     /// The events of the last wait. Allocated at the start, so that a wait allocates nothing.
     events: Events,
-    listener: Listener,
+    listener: HttpListener,
     connections: Connections,
     stopping: StopReceiver,
     /// The time of the last wait.
@@ -72,7 +72,7 @@ pub struct HttpServer {
 fn take_events<S: Service>(
     events: &Events,
     poll: &Poll,
-    listener: &mut Listener,
+    listener: &mut HttpListener,
     connections: &mut Connections,
     service: &mut S,
     now: Instant,
@@ -99,7 +99,7 @@ impl HttpServer {
         let poll = Poll::new(rt)?;
         let events = Events::with_capacity(alloc, MAX_EVENTS)?;
         let (stopping, stop) = stop_pair(poll.registry(), alloc, WAKER)?;
-        let listener = Listener::new(poll.registry(), LISTENER, listener)?;
+        let listener = HttpListener::new(poll.registry(), LISTENER, listener)?;
         let keys = RandomState::new(rt)?;
         let now = Instant::now(rt)?;
         let server = HttpServer {

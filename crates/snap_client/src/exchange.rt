@@ -7,7 +7,7 @@ ghost use Rattle.snap_frame.specs.Stream.{empty, IsBytes};
 
 use crate::fault::ClientFault;
 use bytes::BytesMut;
-use snap_frame::{Failure, Reply, ReplyFault, ReplyFeed, Request, write_request};
+use snap_frame::{FrameFault, Reply, ReplyFault, ReplyFeed, Request, write_request};
 use std::io::{Read, Write};
 
 /// The most bytes of one read. The buffer is on the stack, so a short reply takes no heap for it.
@@ -57,8 +57,8 @@ fn hear<R: Read>(reader: &mut R, feed: &mut ReplyFeed) -> Result<Reply, ClientFa
             Ok(Some(reply)) => return Ok(reply),
             Ok(None) => {}
             Err(ReplyFault::BadReply) => return Err(ClientFault::BadReply),
-            Err(ReplyFault::Failed(Failure::TooLarge)) => return Err(ClientFault::BadReply),
-            Err(ReplyFault::Failed(Failure::NoMemory)) => return Err(ClientFault::NoMemory),
+            Err(ReplyFault::Failed(FrameFault::TooLarge)) => return Err(ClientFault::BadReply),
+            Err(ReplyFault::Failed(FrameFault::NoMemory)) => return Err(ClientFault::NoMemory),
         }
     }
 }

@@ -12,10 +12,10 @@ use std::fmt::InlineText;
 const LINE_LEN: usize = 80;
 
 /// A line in a fixed buffer.
-pub(crate) type Line = InlineText<LINE_LEN>;
+pub(crate) type LineText = InlineText<LINE_LEN>;
 
 /// The text followed by a part.
-fn append(text: Line, part: &str) -> Line
+fn append(text: LineText, part: &str) -> LineText
     requires { length (inline_text text) + length part.now < LINE_LEN }
     ensures text { inline_text result ≡ inline_text text ++ part.now }
     ensures len { length (inline_text result) ≡ length (inline_text text) + length part.now }
@@ -24,7 +24,7 @@ fn append(text: Line, part: &str) -> Line
 }
 
 /// The text followed by a number.
-fn append_number(text: Line, number: u64) -> Line
+fn append_number(text: LineText, number: u64) -> LineText
     requires { length (inline_text text) + 20 < LINE_LEN }
     ensures text { inline_text result ≡ inline_text text ++ decimal number }
     ensures len { length (inline_text result) ≤ length (inline_text text) + 20 }
@@ -33,16 +33,16 @@ fn append_number(text: Line, number: u64) -> Line
 }
 
 /// The line of a stored number.
-pub(crate) fn stored_line(number: u64) -> Line
+pub(crate) fn stored_line(number: u64) -> LineText
     ensures { inline_text result ≡ stored_line number }
 {
-    let text = append(Line::new(), "stored ");
+    let text = append(LineText::new(), "stored ");
     let text = append_number(text, number);
     append(text, "\n")
 }
 
 /// The line of a server's refusal, with its detail.
-pub(crate) fn detailed_line(why: Refusal, detail: u64) -> Line {
+pub(crate) fn detailed_line(why: Refusal, detail: u64) -> LineText {
     let (code, name) = (why.code(), why.name());
-    Line::of(&format_args!("snapd: refused {code} {name} {detail}\n"))
+    LineText::of(&format_args!("snapd: refused {code} {name} {detail}\n"))
 }

@@ -7,7 +7,7 @@ use Rattle.snap_disk.specs.Device.{Device, IsSettled, MayLeave, part}
 use Rattle.snap_disk.specs.declared.refusal.Refusal.{Refusal}
 use Rattle.snap_slot.specs.declared.layout.TheConstants.{BLOCK_LEN, FILE_LEN, OPEN_GATE, SLOT_COUNT}
 use Rattle.snap_slot.specs.Layout.{body_at, gate_block, Head, Holds, IsUnformatted, IsFormatted, IsFileOf, IsOpenSlot}
-use Rattle.snap_slot.specs.{Slot.IsFlawed, declared.slot.Flaw.Flaw, States.IsAtRest, States.IsEither}
+use Rattle.snap_slot.specs.{Slot.IsFlawed, declared.slot.SlotFault.SlotFault, States.IsAtRest, States.IsEither}
 use Rattle.snap_slot.specs.{Findings.AreFindings, Findings.IsNoOpening, declared.findings.Findings.Findings}
 use Rattle.snap_history.specs.declared.limits.TheConstants.{MAX_VALUE_LEN, LAST_NUMBER}
 use Rattle.snap_segment.specs.Creation.{IsFresh, new_file}
@@ -146,7 +146,7 @@ abbrev pub HasBody : (s : ℕ) (v body : List ℕ) → Type 0
 HasBody s v body = (k : ℕ) × IsOpenSlot SLOT_COUNT s (gate_block OPEN_GATE) body k v
 
 -- it has none: with an open gate slot s is bad for this reason
-abbrev pub HasBadBody : (s : ℕ) (body : List ℕ) → Flaw → Type 0
+abbrev pub HasBadBody : (s : ℕ) (body : List ℕ) → SlotFault → Type 0
 HasBadBody s body flaw = IsFlawed SLOT_COUNT s (gate_block OPEN_GATE) body flaw
 
 -- the printed value is that in the slot's body, whatever its gate is

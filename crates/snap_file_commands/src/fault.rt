@@ -5,7 +5,7 @@ ghost use Rattle.snap_file_commands.specs.Commands.{status_at, status_of};
 use crate::second_line::line_behind;
 use snap_disk::Refusal;
 use snap_order::{Exit, FileOrder, Status};
-use snap_slot::Flaw;
+use snap_slot::SlotFault;
 use snap_stream::{SystemReason, complain, complain_of_refusal, complain_twice};
 use std::alloc::{AllocError, Global};
 use std::io::{self, Write};
@@ -25,10 +25,17 @@ pub enum CommandFault {
     Output(io::Error),
     /// The value is stored, and only the line that says so failed.
     #[error("stored {number}, but standard output: {error}")]
-    Unsaid { number: u64, error: io::Error },
+    Unsaid {
+        number: u64,
+        error: io::Error,
+    },
     /// The slot that was asked for holds no value.
     #[error("{file}: slot {slot} holds no value, bad {flaw}: try another slot")]
-    NoValue { file: String, slot: u8, flaw: Flaw },
+    NoValue {
+        file: String,
+        slot: u8,
+        flaw: SlotFault,
+    },
 }
 
 impl From<Refusal> for CommandFault {

@@ -12,7 +12,7 @@ use crate::CommandFault;
 use snap_disk::{Disk, Refusal};
 use snap_order::Status;
 use snap_slot::{
-    BLOCK_LEN, FILE_LEN, Flaw, OPEN_GATE, SLOT_COUNT, Slot, VALUE_AT, body_at, read_slot,
+    BLOCK_LEN, FILE_LEN, OPEN_GATE, SLOT_COUNT, Slot, SlotFault, VALUE_AT, body_at, read_slot,
 };
 use snap_stream::write_whole;
 use std::alloc::Global;
@@ -73,7 +73,7 @@ fn read_body<D: Disk>(disk: &mut D, slot: u8, body: &mut [u8]) -> Result<(), Ref
 }
 
 /// The value in the body block of this slot, or why there is none, by the reader of slots, with an open gate.
-fn value_in(slot: u8, body: &[u8]) -> Result<&[u8], Flaw>
+fn value_in(slot: u8, body: &[u8]) -> Result<&[u8], SlotFault>
     requires slot { slot < SLOT_COUNT }
     requires size { length body.now ≡ BLOCK_LEN }
     ensures value { IfOk result (λ value. HasBody slot value.now body.now) }
@@ -83,7 +83,7 @@ fn value_in(slot: u8, body: &[u8]) -> Result<&[u8], Flaw>
     match read_slot(SLOT_COUNT, slot, &gate, body) {
         Slot::Open { length, .. } => Ok(value_of(body, length)),
         Slot::Bad(flaw) => Err(flaw),
-        Slot::Closed => Err(Flaw::Gate),
+        Slot::Closed => Err(SlotFault::Gate),
     }
 }
 

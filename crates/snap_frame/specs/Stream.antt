@@ -9,7 +9,7 @@ use Rattle.std.specs.Prelude.{Ok, Err}
 use Rattle.std.specs.Int.{w32, to_be_bytes}
 use Rattle.snap_disk.specs.declared.refusal.Refusal.{Refusal}
 use Rattle.snap_frame.specs.Messages.{max_payload, frame, Asks, Malformed, Says, SaysNothing}
-use Rattle.snap_frame.specs.declared.frame_buffer.Failure.{Failure, TheVariants.NoMemory, TheVariants.TooLarge}
+use Rattle.snap_frame.specs.declared.frame_buffer.FrameFault.{FrameFault, TheVariants.NoMemory, TheVariants.TooLarge}
 use Rattle.snap_frame.specs.declared.reply_feed.ReplyFault.{ReplyFault, TheVariants.BadReply, TheVariants.Failed}
 use Rattle.snap_frame.specs.declared.request.Request.{Request}
 use Rattle.snap_frame.specs.declared.reply.Reply.{Reply}
@@ -18,14 +18,14 @@ use Rattle.snap_disk.specs.declared.refusal.Refusal.TheVariants as refusals
 -- the bytes that arrived and weren't taken off, and why the feed has failed
 pub record Held : Type 0 where
   pub bytes : List ℕ
-  pub failure : Option Failure
+  pub failure : Option FrameFault
 
 -- nothing is held, and it hasn't failed
 abbrev pub empty : Held
 empty = record { bytes = []; failure = None }
 
 -- the refusal of a failure
-abbrev pub refusal_of : Failure → Refusal
+abbrev pub refusal_of : FrameFault → Refusal
 refusal_of NoMemory = refusals.NoMemory
 refusal_of TooLarge = refusals.TooLarge
 
@@ -68,20 +68,20 @@ abbrev pub IsBytes : List ℕ → Type 0
 IsBytes xs = (i : ℕ) → get_or xs i 0 < 256
 
 -- the result of taking the first frame's payload, and the bytes that are left
-abbrev pub Found : List ℕ → Result (Option Filled) Failure → List ℕ → Type 0
+abbrev pub Found : List ℕ → Result (Option Filled) FrameFault → List ℕ → Type 0
 Found held (Ok (Some payload)) new = HasFrame held payload.items new
 Found held (Ok None) new = IsPartial held × (new ≡ held)
 Found held (Err NoMemory) new = (x : List ℕ) × (rest : List ℕ) × HasFrame held x rest
 Found held (Err TooLarge) new = HasLongLength held × (new ≡ held)
 
 -- it fails because memory ran out, with a whole frame first, or because of a length above the limit
-abbrev pub Fails : List ℕ → Failure → Held → Type 0
+abbrev pub Fails : List ℕ → FrameFault → Held → Type 0
 Fails held NoMemory new = (x : List ℕ) × (rest : List ℕ) × HasFrame held x rest × (new.failure ≡ Some NoMemory)
 Fails held TooLarge new =
     HasLongLength held × (new ≡ record { bytes = held; failure = Some TooLarge })
 
 -- the result of taking the first frame off, and the state that is left
-abbrev pub TakesOff : List ℕ → Result (Option Filled) Failure → Held → Type 0
+abbrev pub TakesOff : List ℕ → Result (Option Filled) FrameFault → Held → Type 0
 TakesOff held (Ok (Some payload)) new = HasFrame held payload.items new.bytes × (new.failure ≡ None)
 TakesOff held (Ok None) new = IsPartial held × (new ≡ record { bytes = held; failure = None })
 TakesOff held (Err failure) new = Fails held failure new
@@ -91,7 +91,7 @@ abbrev pub IsNextRequest : List ℕ → Result (Option Request) Refusal → Held
 IsNextRequest held (Ok (Some r)) new = (x : List ℕ) × HasFrame held x new.bytes × Asks x r × (new.failure ≡ None)
 IsNextRequest held (Ok None) new = IsPartial held × (new ≡ record { bytes = held; failure = None })
 IsNextRequest held (Err why) new = ((why ≡ refusals.Malformed) × (x : List ℕ) × HasFrame held x new.bytes × Malformed x
-    × (new.failure ≡ None)) ⊎ ((failure : Failure) × (why ≡ refusal_of failure) × Fails held failure new)
+    × (new.failure ≡ None)) ⊎ ((failure : FrameFault) × (why ≡ refusal_of failure) × Fails held failure new)
 
 -- The result of a reply feed's `next` over the bytes held, and the state that is left.
 abbrev pub IsNextReply : List ℕ → Result (Option Reply) ReplyFault → Held → Type 0

@@ -2,7 +2,7 @@
 ghost use Rattle.std.specs.Prelude.{◌≡◌, ◌+◌, ◌<◌, ◌≤◌, ◌^◌, ℕ, List, ◌∷◌, ◌++◌, length, drop};
 ghost use Rattle.std.specs.Int.{w32, w64, to_be_bytes};
 
-use crate::list::Entry;
+use crate::list::ListEntry;
 use crate::numbers::{first_u32, first_u64};
 use bytes::{Bytes, BytesMut};
 use snap_history::{LAST_NUMBER, MAX_VALUE_LEN};
@@ -31,7 +31,7 @@ fn value_head(bytes: &[u8]) -> (u64, u32)
     (first_u64(bytes), first_u32(&bytes[8..]))
 }
 
-impl Entry for SegmentValue {
+impl ListEntry for SegmentValue {
     ghost use Rattle.snap_frame.specs.Messages.{value_bytes, IsValue};
 
     ghost bytes = { value_bytes };
@@ -84,7 +84,7 @@ fn status_fields(bytes: &[u8]) -> (u64, u8)
     (first_u64(bytes), bytes[8])
 }
 
-impl Entry for SegmentStatus {
+impl ListEntry for SegmentStatus {
     ghost use Rattle.snap_frame.specs.Messages.{status_bytes, IsStatus};
 
     ghost bytes = { status_bytes };

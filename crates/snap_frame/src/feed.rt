@@ -5,7 +5,7 @@ ghost use Rattle.snap_frame.specs.Messages.{Malformed};
 ghost use Rattle.snap_frame.specs.Stream.{Held, empty, IsNextRequest, refusal_of, HasFrame, HasLongLength, IsPartial};
 ghost use Rattle.snap_frame.specs.Stream.{NoFrameBeginsAnother};
 
-use crate::frame_buffer::{Failure, FrameBuffer};
+use crate::frame_buffer::{FrameBuffer, FrameFault};
 use crate::request::{Request, read_request};
 use snap_disk::Refusal;
 use std::alloc::{AllocError, Global};
@@ -98,11 +98,11 @@ impl Feed {
 }
 
 /// The refusal of a failure.
-fn refusal(failure: Failure) -> Refusal
+fn refusal(failure: FrameFault) -> Refusal
     ensures { result ≡ refusal_of failure }
 {
     match failure {
-        Failure::NoMemory => Refusal::NoMemory,
-        Failure::TooLarge => Refusal::TooLarge,
+        FrameFault::NoMemory => Refusal::NoMemory,
+        FrameFault::TooLarge => Refusal::TooLarge,
     }
 }

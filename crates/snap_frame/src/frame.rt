@@ -10,7 +10,7 @@ use std::alloc::AllocError;
 pub const MAX_PAYLOAD: usize = 66_000;
 
 /// The bytes of a payload's length before it.
-const HEAD_LEN: usize = 4;
+pub(crate) const HEAD_LEN: usize = 4;
 
 /// Appends the length of a payload to the buffer, and reserves room for the payload, so that no later step can fail. If
 /// memory runs out the buffer's bytes are unchanged. No memory is asked for if there is room for all of it.

@@ -12,7 +12,7 @@ use tokio_util::codec::{Decoder, LengthDelimitedCodec};
 
 /// Why a feed takes no more bytes.
 #[derive(Clone, Copy, Debug, PartialEq, Eq, Drop)]
-pub enum Failure {
+pub enum FrameFault {
     /// Memory ran out while a frame was taken off.
     NoMemory,
     /// A length above [`MAX_PAYLOAD`] came first.
@@ -24,7 +24,7 @@ pub enum Failure {
 pub(crate) struct FrameBuffer {
     codec: LengthDelimitedCodec,
     bytes: BytesMut,
-    failure: Option<Failure>,
+    failure: Option<FrameFault>,
 }
 
 impl Model for FrameBuffer {
@@ -53,11 +53,11 @@ impl FrameBuffer {
     }
 
     /// Appends a piece to what is held. If memory runs out nothing changes.
-    pub fn push(&mut self, piece: &[u8]) -> Result<(), Failure>
+    pub fn push(&mut self, piece: &[u8]) -> Result<(), FrameFault>
         ensures ok { OnOk result ((self.old.failure ≡ None)
             × (self.new ≡ record { bytes = self.old.bytes ++ piece.now; failure = None })) }
         ensures err { OnErr result (self.new ≡ self.old) }
-        ensures memory { self.old.failure ≡ None → IfErr result (λ f. f ≡ Failure.NoMemory) }
+        ensures memory { self.old.failure ≡ None → IfErr result (λ f. f ≡ FrameFault.NoMemory) }
         ensures failed { IfSome self.old.failure (λ f. result ≡ Err f) }
     {
         if let Some(failure) = self.failure {
@@ -65,12 +65,12 @@ impl FrameBuffer {
         }
         match self.bytes.extend_from_slice(piece) {
             Ok(()) => Ok(()),
-            Err(_) => Err(Failure::NoMemory),
+            Err(_) => Err(FrameFault::NoMemory),
         }
     }
 
     /// Takes the first whole frame off, and returns its payload.
-    pub fn next(&mut self) -> Result<Option<BytesMut>, Failure>
+    pub fn next(&mut self) -> Result<Option<BytesMut>, FrameFault>
         ensures failed { IfSome self.old.failure (λ f. (result ≡ Err f) × (self.new ≡ self.old)) }
         ensures next { self.old.failure ≡ None → TakesOff self.old.bytes result self.new }
     {
@@ -88,9 +88,9 @@ impl FrameBuffer {
 
     /// From now on every call returns `NoMemory`.
     pub fn fail(&mut self)
-        ensures { self.new.failure ≡ Some Failure.NoMemory }
+        ensures { self.new.failure ≡ Some FrameFault.NoMemory }
     {
-        self.failure = Some(Failure::NoMemory);
+        self.failure = Some(FrameFault::NoMemory);
     }
 
     /// Whether it hasn't failed and no byte is held.
@@ -115,7 +115,7 @@ fn all_bytes(bytes: &BytesMut) -> usize
 fn next_payload(
     codec: &mut LengthDelimitedCodec,
     bytes: &mut BytesMut,
-) -> Result<Option<BytesMut>, Failure>
+) -> Result<Option<BytesMut>, FrameFault>
     requires { Ready codec.old }
     ensures found { Found (pending codec.old bytes.old.items) result (pending codec.new bytes.new.items) }
     ensures ready { OnOk result (Ready codec.new) }
@@ -126,8 +126,8 @@ fn next_payload(
     match decoded {
         Ok(payload) => Ok(payload),
         Err(error) => match error.kind() {
-            io::ErrorKind::OutOfMemory => Err(Failure::NoMemory),
-            _ => Err(Failure::TooLarge),
+            io::ErrorKind::OutOfMemory => Err(FrameFault::NoMemory),
+            _ => Err(FrameFault::TooLarge),
         },
     }
 }

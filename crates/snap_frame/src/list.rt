@@ -10,10 +10,10 @@ use snap_history::MAX_COUNT;
 use std::alloc::{AllocError, Global};
 
 /// The bytes of a list's payload before its entries: the kind and the count.
-const LIST_HEAD_LEN: usize = 2;
+pub(crate) const LIST_HEAD_LEN: usize = 2;
 
 /// An entry of a list.
-pub(crate) trait Entry {
+pub(crate) trait ListEntry {
     /// Its bytes in the frame.
     ghost bytes: { Self → List ℕ };
 
@@ -75,7 +75,7 @@ fn split_list(mut payload: BytesMut) -> Result<Option<(u8, Bytes)>, AllocError>
 }
 
 /// Reads `count` entries, or returns `None` if the bytes aren't exactly that many entries.
-fn read_entries<E: Entry + Drop>(
+fn read_entries<E: ListEntry + Drop>(
     alloc: Global,
     count: u8,
     mut rest: Bytes,
@@ -100,7 +100,9 @@ fn read_entries<E: Entry + Drop>(
 }
 
 /// Reads the entries of a list's payload, or returns `None` if it isn't a list of them.
-pub(crate) fn read_list<E: Entry + Drop>(payload: BytesMut) -> Result<Option<Vec<E>>, AllocError>
+pub(crate) fn read_list<E: ListEntry + Drop>(
+    payload: BytesMut,
+) -> Result<Option<Vec<E>>, AllocError>
     requires apart { Separate E.bytes E.may_stand }
     ensures some { IfOk result (λ o. IfSome o (λ es. AreEntries E.may_stand es.items × (payload.items
         ≡ slice_index payload.items 0 ∷ length es.items ∷ flat_map E.bytes es.items))) }
@@ -115,7 +117,7 @@ pub(crate) fn read_list<E: Entry + Drop>(payload: BytesMut) -> Result<Option<Vec
 }
 
 /// How many bytes all entries have together.
-fn entries_len<E: Entry>(entries: &[E]) -> usize
+pub(crate) fn entries_len<E: ListEntry>(entries: &[E]) -> usize
     requires few { length entries.now ≤ MAX_COUNT }
     requires each { All E.may_stand entries.now }
     ensures len { result ≡ length (flat_map E.bytes entries.now) }
@@ -129,7 +131,7 @@ fn entries_len<E: Entry>(entries: &[E]) -> usize
 }
 
 /// Writes the entries. The buffer has room for them.
-fn put_entries<E: Entry>(entries: &[E], out: &mut BytesMut)
+fn put_entries<E: ListEntry>(entries: &[E], out: &mut BytesMut)
     requires each { All E.may_stand entries.now }
     requires room { length (flat_map E.bytes entries.now) ≤ out.old.spare }
     ensures { out.new.items ≡ out.old.items ++ flat_map E.bytes entries.now }
@@ -140,7 +142,7 @@ fn put_entries<E: Entry>(entries: &[E], out: &mut BytesMut)
 }
 
 /// Appends the frame of a list of this kind, as [`write_reply`](crate::write_reply) appends one.
-pub(crate) fn append_list<E: Entry>(
+pub(crate) fn append_list<E: ListEntry>(
     kind: u8,
     entries: &[E],
     out: &mut BytesMut,

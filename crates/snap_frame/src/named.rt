@@ -4,7 +4,7 @@ ghost use Rattle.std.specs.Prelude.{IfOk, IfSome, IfNone, IsTrue};
 ghost use Rattle.snap_frame.specs.Messages.{named_bytes, IsNamedValue, Ascend, AreEntries};
 
 use crate::entries::{VALUE_HEAD_LEN, put_value};
-use crate::list::{Entry, read_list};
+use crate::list::{ListEntry, read_list};
 use bytes::{Bytes, BytesMut};
 use snap_history::MAX_COUNT;
 use snap_scan::SegmentValue;
@@ -24,7 +24,7 @@ pub struct NamedValue {
 /// The bytes of an entry before its value: the segment, and the head of a snapshot's entry.
 const NAMED_HEAD_LEN: usize = 1 + VALUE_HEAD_LEN;
 
-impl Entry for NamedValue {
+impl ListEntry for NamedValue {
     ghost use Rattle.snap_frame.specs.Messages.{named_bytes, IsNamedValue};
 
     ghost bytes = { named_bytes };

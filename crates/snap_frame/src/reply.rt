@@ -5,8 +5,8 @@ ghost use Rattle.std.specs.Int.{w64, to_be_bytes};
 ghost use Rattle.snap_frame.specs.Messages.{max_payload, frame, says, Says, SaysNothing, IsInLimits};
 
 use crate::entries::SegmentStatus;
-use crate::frame::start_frame;
-use crate::list::{append_list, read_list};
+use crate::frame::{HEAD_LEN, start_frame};
+use crate::list::{LIST_HEAD_LEN, append_list, entries_len, read_list};
 use crate::named::{NamedValue, read_named};
 use crate::numbers::first_u64;
 use bytes::BytesMut;
@@ -178,4 +178,19 @@ fn append_reply(reply: &Reply, out: &mut BytesMut) -> Result<(), AllocError>
         }
     }
     Ok(())
+}
+
+/// The length of a reply's frame in bytes.
+pub fn reply_frame_len(reply: &Reply) -> usize
+    requires { IsInLimits reply.now }
+    ensures { result ≡ length (frame (says reply.now)) }
+{
+    let payload_len = match reply {
+        Reply::Stored(_) => STORED_LEN,
+        Reply::Snapshot(values) => LIST_HEAD_LEN + entries_len(values),
+        Reply::Status(statuses) => LIST_HEAD_LEN + entries_len(statuses),
+        Reply::Part(values) => LIST_HEAD_LEN + entries_len(values),
+        Reply::Refused { .. } => REFUSED_LEN,
+    };
+    HEAD_LEN + payload_len
 }

@@ -4,7 +4,7 @@ ghost use Rattle.std.specs.Prelude.{IfErr};
 ghost use Rattle.snap_frame.specs.Messages.{SaysNothing};
 ghost use Rattle.snap_frame.specs.Stream.{Held, empty, IsNextReply, HasFrame, HasLongLength, IsPartial};
 
-use crate::frame_buffer::{Failure, FrameBuffer};
+use crate::frame_buffer::{FrameBuffer, FrameFault};
 use crate::reply::{Reply, read_reply};
 use std::alloc::{AllocError, Global};
 use std::marker::Model;
@@ -15,7 +15,7 @@ pub enum ReplyFault {
     /// A frame's payload is no reply.
     BadReply,
     /// The feed has failed, and returns this from then on.
-    Failed(Failure),
+    Failed(FrameFault),
 }
 
 /// Takes the pieces of a stream as they arrive, and returns the replies of its frames.
@@ -48,11 +48,11 @@ impl ReplyFeed {
     ///
     /// `NoMemory` if memory runs out: nothing changes, and the piece may be pushed again. A feed
     /// that has failed returns its failure.
-    pub fn push(&mut self, piece: &[u8]) -> Result<(), Failure>
+    pub fn push(&mut self, piece: &[u8]) -> Result<(), FrameFault>
         ensures ok { OnOk result ((self.old.failure ≡ None)
             × (self.new ≡ record { bytes = self.old.bytes ++ piece.now; failure = None })) }
         ensures err { OnErr result (self.new ≡ self.old) }
-        ensures memory { self.old.failure ≡ None → IfErr result (λ f. f ≡ Failure.NoMemory) }
+        ensures memory { self.old.failure ≡ None → IfErr result (λ f. f ≡ FrameFault.NoMemory) }
         ensures failed { IfSome self.old.failure (λ f. result ≡ Err f) }
     {
         self.frames.push(piece)
@@ -71,10 +71,10 @@ impl ReplyFeed {
         ensures none { self.old.failure ≡ None → (result ≡ Ok None ↔ IsPartial self.old.bytes) }
         // A failure as `TooLarge` exactly if they begin with such a length.
         ensures too_large { self.old.failure ≡ None
-            → (result ≡ Err (ReplyFault.Failed Failure.TooLarge) ↔ HasLongLength self.old.bytes) }
+            → (result ≡ Err (ReplyFault.Failed FrameFault.TooLarge) ↔ HasLongLength self.old.bytes) }
         // A frame that is no reply is refused, unless memory runs out.
         ensures bad { (x rest : List ℕ) → self.old.failure ≡ None → HasFrame self.old.bytes x rest → SaysNothing x
-            → (result ≡ Err ReplyFault.BadReply) ⊎ (result ≡ Err (ReplyFault.Failed Failure.NoMemory)) }
+            → (result ≡ Err ReplyFault.BadReply) ⊎ (result ≡ Err (ReplyFault.Failed FrameFault.NoMemory)) }
     {
         match self.frames.next() {
             Ok(None) => Ok(None),
@@ -83,7 +83,7 @@ impl ReplyFeed {
                 Ok(None) => Err(ReplyFault::BadReply),
                 Err(AllocError) => {
                     self.frames.fail();
-                    Err(ReplyFault::Failed(Failure::NoMemory))
+                    Err(ReplyFault::Failed(FrameFault::NoMemory))
                 }
             },
             Err(failure) => Err(ReplyFault::Failed(failure)),

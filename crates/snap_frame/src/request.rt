@@ -4,7 +4,7 @@ ghost use Rattle.std.specs.Prelude.{IfOk, IfErr, IfSome, IfNone};
 ghost use Rattle.std.specs.Int.{w16, w64, to_be_bytes};
 ghost use Rattle.snap_frame.specs.Messages.{max_payload, Asks, IsAskable, Malformed, payload, frame};
 
-use crate::frame::{MAX_PAYLOAD, start_frame};
+use crate::frame::{HEAD_LEN, MAX_PAYLOAD, start_frame};
 use crate::numbers::{first_u16, first_u64};
 use bytes::{Bytes, BytesMut};
 use snap_disk::Refusal;
@@ -150,4 +150,16 @@ fn append_request(request: &Request, out: &mut BytesMut) -> Result<(), AllocErro
         }
     }
     Ok(())
+}
+
+/// The length of a request's frame in bytes.
+pub fn request_frame_len(request: &Request) -> usize
+    ensures { result ≡ length (frame (payload request.now)) }
+{
+    let payload_len = match request {
+        Request::Update { value, .. } => UPDATE_HEAD_LEN + value.len(),
+        Request::Scan | Request::Status => 1,
+        Request::Part(_) => PART_LEN,
+    };
+    HEAD_LEN + payload_len
 }

@@ -4,7 +4,7 @@
 
 use crate::document::line_of;
 use json::Writer;
-use snap_slot::{Findings, Flaw, Header, Slot};
+use snap_slot::{Findings, Header, Slot, SlotFault};
 use std::alloc::{AllocError, Global};
 
 /// The document of a file: its header, and if that is open its slots and the number that a restart would recover.
@@ -63,10 +63,10 @@ fn put_slot(writer: &mut Writer, index: u64, slot: &Slot) -> Result<(), AllocErr
             writer.string("bad")?;
             writer.key("flaw")?;
             writer.string(match flaw {
-                Flaw::Gate => "gate",
-                Flaw::Length => "length",
-                Flaw::Zeros => "zeros",
-                Flaw::Number => "number",
+                SlotFault::Gate => "gate",
+                SlotFault::Length => "length",
+                SlotFault::Zeros => "zeros",
+                SlotFault::Number => "number",
             })?;
         }
     }

@@ -6,9 +6,9 @@ use Rattle.snap_disk.specs.declared.refusal.Refusal.{Refusal}
 use Rattle.snap_history.specs.History.{Update, Start}
 use Rattle.snap_register.specs.Seat.{Known}
 use Rattle.snap_frame.specs.declared.reply.Reply.TheVariants.{Stored, Snapshot, Part, Refused}
-use Rattle.snap_frame.specs.declared.frame_buffer.Failure.TheVariants.{TooLarge, NoMemory}
+use Rattle.snap_frame.specs.declared.frame_buffer.FrameFault.TheVariants.{TooLarge, NoMemory}
 use Rattle.snap_frame.specs.Messages.{max_payload, payload, frame, says, Says}
-use Rattle.snap_frame.specs.declared.{request.Request.Request, reply.Reply.Reply, frame_buffer.Failure.Failure}
+use Rattle.snap_frame.specs.declared.{request.Request.Request, reply.Reply.Reply, frame_buffer.FrameFault.FrameFault}
 use Rattle.snap_frame.proofs.{Exact.same_frame, Lengths.says_fits}
 use Rattle.snap_session.specs.Talk.{Answer, Run, Moves, Phase, frames, refused_too_large}
 use Rattle.snap_service.specs.Answers.{Answers}
@@ -67,7 +67,7 @@ run_fits a b (x ∷ xs) (y ∷ ys) run =
 run_fits a b xs ys run = absurd run
 
 -- the bytes after all replies
-pub tail_is : (o : Option Failure) (taken : List ℕ) (ps rs us : List (List ℕ)) (rest held tail : List ℕ)
+pub tail_is : (o : Option FrameFault) (taken : List ℕ) (ps rs us : List (List ℕ)) (rest held tail : List ℕ)
     → Phase None o taken ps rs us rest held tail → (tail ≡ []) ⊎ (tail ≡ frame refused_too_large)
 tail_is None taken ps rs us rest held tail p = inl p.1
 tail_is (Some TooLarge) taken ps rs us rest held tail p = inr p.1

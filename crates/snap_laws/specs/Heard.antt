@@ -56,7 +56,7 @@ scanner_after seen = record {
   pins = 0 ∷ [];
   records = 0 ∷ [];
   left = 2 ^ 50;
-  sights = [];
+  look_records = [];
   phase = Shown;
 }
 

@@ -4,7 +4,7 @@ ghost use Rattle.log.specs.Level.{allows};
 
 use crate::Destination;
 use crate::line::line_of;
-use crate::message::Message;
+use crate::message::MessageText;
 use crate::stamp::{beginning, stamp};
 use crossbeam_channel::{Receiver, Sender, unbounded};
 use log::kv::Source;
@@ -21,7 +21,7 @@ const MAX_WAITING: usize = 4_096;
 
 /// A line on its way to the writing thread.
 #[derive(Drop)]
-pub(crate) struct Line {
+pub(crate) struct QueuedLine {
     /// The whole line, with its line feed.
     pub(crate) text: String,
     /// How many lines had been lost before this one was sent.
@@ -36,7 +36,7 @@ pub struct Lines<'a, R: Wait + Clock> {
     alloc: Global,
     level: LevelFilter,
     destination: Destination,
-    to: Sender<Line>,
+    to: Sender<QueuedLine>,
     lost: Arc<AtomicU64, Global>,
 }
 
@@ -45,7 +45,7 @@ pub struct Lines<'a, R: Wait + Clock> {
 pub struct Waiting {
     pub(crate) alloc: Global,
     pub(crate) destination: Destination,
-    pub(crate) lines: Receiver<Line>,
+    pub(crate) lines: Receiver<QueuedLine>,
     pub(crate) lost: Arc<AtomicU64, Global>,
 }
 
@@ -94,7 +94,7 @@ impl<'a, R: Wait + Clock> Lines<'a, R> {
             return false;
         };
         let lost = self.lost();
-        self.to.send(self.rt, Line { text, lost }).is_ok()
+        self.to.send(self.rt, QueuedLine { text, lost }).is_ok()
     }
 
     /// The line of a record.
@@ -103,7 +103,7 @@ impl<'a, R: Wait + Clock> Lines<'a, R> {
         record: &Record<'_, D, K, S>,
     ) -> Result<String, AllocError> {
         let stamp = stamp(self.rt, self.destination);
-        let text = format!(in self.alloc; "{}", Message(record))?;
+        let text = format!(in self.alloc; "{}", MessageText(record))?;
         line_of(
             self.alloc,
             beginning(self.destination, record.level(), stamp.as_str()),

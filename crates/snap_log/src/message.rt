@@ -6,9 +6,9 @@ use std::fmt::{self, Display, Formatter};
 
 /// Shows the spans of a record, its message and its pairs: `request{id=7}: closed after=3`.
 #[derive_where(Clone, Copy)]
-pub(crate) struct Message<'a, 'r, D, K, S>(pub(crate) &'a Record<'r, D, K, S>);
+pub(crate) struct MessageText<'a, 'r, D, K, S>(pub(crate) &'a Record<'r, D, K, S>);
 
-impl<'a, 'r, D: Display, K: Source, S: Spans> Display for Message<'a, 'r, D, K, S> {
+impl<'a, 'r, D: Display, K: Source, S: Spans> Display for MessageText<'a, 'r, D, K, S> {
     fn fmt<W: fmt::Write>(&self, f: &mut Formatter<W>) -> fmt::Result {
         self.0.spans().visit(f)?;
         f.write(self.0.args())?;

@@ -12,7 +12,7 @@ use std::sync::atomic::Ordering;
 
 /// The state of the writing thread.
 #[derive(Drop)]
-struct Progress {
+struct WritingState {
     /// How many lost lines have been reported.
     told: u64,
     /// Whether the last line may have been written in part, without its line feed.
@@ -25,7 +25,7 @@ struct Progress {
 /// `WARN log: lines lost: 12`. It is written at every level of the log; if memory runs out for it, it is written later.
 /// A line that can't be written whole is lost too, and the next one begins on a line of its own.
 pub fn write_lines<R: Wait + Clock, E: Write>(rt: &R, waiting: &Waiting, errors: &mut E) {
-    let mut progress = Progress {
+    let mut progress = WritingState {
         told: 0,
         is_torn: false,
     };
@@ -51,7 +51,7 @@ fn tell_lost<R: Clock, E: Write>(
     rt: &R,
     waiting: &Waiting,
     lost: u64,
-    progress: &mut Progress,
+    progress: &mut WritingState,
     errors: &mut E,
 ) {
     if lost <= progress.told {

@@ -54,7 +54,7 @@ first_within h c [] b = beginning-self c
 first_within h c (x ∷ xs) b = b
 
 begins_fresh : (a b : Known) (xs : List (List Update)) (part : List Update) → 0 < length xs
-    → b.sights ≡ a.sights ++ xs → IsBeginning (first_of a.seen xs) part → BeginsFresh a b part
+    → b.look_records ≡ a.look_records ++ xs → IsBeginning (first_of a.seen xs) part → BeginsFresh a b part
 begins_fresh a b [] part l is begins = absurd (omega arith)
 begins_fresh a b (x ∷ xs) part l is begins = grind arith
 
@@ -93,14 +93,14 @@ pub record Gathers (a b : Known) (set : ℕ) (told numbers : List ℕ) : Type 0 
   pub some : 0 < size set
   pub wide : length numbers ≡ 16
   pub grows : Grows a b
-  pub sights : List (List Update)
-  pub sights_are : b.sights ≡ a.sights ++ sights
-  pub all_told : length sights ≡ length told
-  pub opens : IsBeginning a.seen (first_of a.seen sights)
-  pub within : IsBeginning (first_of a.seen sights) b.seen
+  pub look_records : List (List Update)
+  pub sights_are : b.look_records ≡ a.look_records ++ look_records
+  pub all_told : length look_records ≡ length told
+  pub opens : IsBeginning a.seen (first_of a.seen look_records)
+  pub within : IsBeginning (first_of a.seen look_records) b.seen
   pub latest : List (List ℕ)
   pub long : length latest ≡ size set
-  pub collects : HasToldFrom set (starts a.plan) b.seen (length (first_of a.seen sights)) told latest
+  pub collects : HasToldFrom set (starts a.plan) b.seen (length (first_of a.seen look_records)) told latest
   pub last_looks : (p j k : ℕ) → IsAt set p j → slice_get latest p ≡ Some (k ∷ [])
       → (looked b j ≡ Some k) × (slice_index numbers j ≡ k)
   pub left : b.left + length told ≡ a.left
@@ -129,8 +129,8 @@ Gathers-none a set numbers among short some wide = record {
   some = some;
   wide = wide;
   grows = grows_self a;
-  sights = [];
-  sights_are = sym (append-nil a.sights);
+  look_records = [];
+  sights_are = sym (append-nil a.look_records);
   all_told = refl;
   opens = beginning-self a.seen;
   within = beginning-self a.seen;
@@ -147,18 +147,18 @@ Gathers-none a set numbers among short some wide = record {
 module _ (a b c : Known) (set : ℕ) (told numbers : List ℕ) (j k : ℕ)
     (g : Gathers a b set told numbers) (place : ℕ) (at : IsAt set place j)
     (turn : IsTurn (size set) told place) (later : Grows b c) (found : k ≡ number_in c c.seen j) where
-  abbrev sights : List (List Update)
-  sights = g.sights ++ c.seen ∷ []
+  abbrev look_records : List (List Update)
+  look_records = g.look_records ++ c.seen ∷ []
 
   abbrev first : List Update
-  first = first_of a.seen sights
+  first = first_of a.seen look_records
 
   abbrev number : Numbers
   number = number_at set (starts a.plan) c.seen
 
   seen_within : IsBeginning first c.seen
-  seen_within = first_within a.seen c.seen g.sights
-      (beginning-trans (first_of a.seen g.sights) b.seen c.seen g.within later.later)
+  seen_within = first_within a.seen c.seen g.look_records
+      (beginning-trans (first_of a.seen g.look_records) b.seen c.seen g.within later.later)
 
   number_same : (t p : ℕ) → t ≤ length b.seen → number t p ≡ number_at set (starts a.plan) b.seen t p
   number_same t p l = grind (arith, take-beginning)
@@ -179,7 +179,7 @@ module _ (a b c : Known) (set : ℕ) (told numbers : List ℕ) (j k : ℕ)
       (begins-length b.seen c.seen later.later) turn.0)
 
   module _ (bound : length told < most_looks (size set)) (looks : Looks b c j k)
-      (sighted : c.sights ≡ b.sights ++ c.seen ∷ []) (left : c.left + 1 ≡ b.left) (below : IsBelow c) where
+      (sighted : c.look_records ≡ b.look_records ++ c.seen ∷ []) (left : c.left + 1 ≡ b.left) (below : IsBelow c) where
     last_looks : (q i v : ℕ) → IsAt set q i → slice_get (slice_set g.latest place (k ∷ [])) q ≡ Some (v ∷ [])
         → (looked c i ≡ Some v) × (slice_index (slice_set numbers j k) i ≡ v)
     last_looks q i v here e = elim (cases_eq q place) [
@@ -203,11 +203,11 @@ module _ (a b c : Known) (set : ℕ) (told numbers : List ℕ) (j k : ℕ)
       some = g.some;
       wide = length-set numbers j k ∙ g.wide;
       grows = grows_more a b c g.grows later;
-      sights = sights;
+      look_records = look_records;
       sights_are = sighted ∙ ap (λ (l : List (List Update)). l ++ c.seen ∷ []) g.sights_are
-          ∙ append_assoc a.sights g.sights (c.seen ∷ []);
-      all_told = omega (arith, length_push g.sights c.seen, g.all_told, length_push told k);
-      opens = first_opens a.seen c.seen g.sights g.opens
+          ∙ append_assoc a.look_records g.look_records (c.seen ∷ []);
+      all_told = omega (arith, length_push g.look_records c.seen, g.all_told, length_push told k);
+      opens = first_opens a.seen c.seen g.look_records g.opens
           (beginning-trans a.seen b.seen c.seen g.grows.later later.later);
       within = seen_within;
       latest = slice_set g.latest place (k ∷ []);
@@ -223,7 +223,7 @@ module _ (a b c : Known) (set : ℕ) (told numbers : List ℕ) (j k : ℕ)
 -- once the numbers decide the scan
 module _ (a b : Known) (set : ℕ) (told numbers : List ℕ) (g : Gathers a b set told numbers) where
   abbrev first_seen : List Update
-  first_seen = first_of a.seen g.sights
+  first_seen = first_of a.seen g.look_records
 
   abbrev seen_at : Numbers
   seen_at = number_at set (starts a.plan) b.seen

@@ -13,7 +13,7 @@ use Rattle.snap_scan.specs.Looks.{most_looks}
 pub record BeginsFresh (before after : Known) (part : List Update) : Type 0 where
   pub first : List Update
   pub later : List (List Update)
-  pub looks : after.sights ≡ before.sights ++ first ∷ later
+  pub looks : after.look_records ≡ before.look_records ++ first ∷ later
   pub begins : IsBeginning first part
 
 -- the set of all segments

@@ -163,7 +163,7 @@ impl Scanner {
         ensures number { result.0 ≡ number_in self.new self.new.seen j }
         ensures value { take result.1 value.new ≡ value_in self.new self.new.seen j }
         ensures size { result.1 ≤ MAX_VALUE_LEN }
-        ensures sights { self.new.sights ≡ self.old.sights ++ self.new.seen ∷ [] }
+        ensures look_records { self.new.look_records ≡ self.old.look_records ++ self.new.seen ∷ [] }
         ensures left { self.new.left + 1 ≡ self.old.left }
     {
         let number = self.seat.look(j);

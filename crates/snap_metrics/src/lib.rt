@@ -10,23 +10,20 @@
 mod counter;
 mod counting_service;
 mod devices;
-mod frame_len;
 mod histogram;
-mod list;
 mod looks;
 mod metrics;
 mod request_counts;
 mod segment;
 mod senders;
 mod snapshot;
-mod stage;
 mod timed_disk;
+mod timed_store;
 mod worker;
 
 pub use counter::Counter;
 pub use counting_service::CountingService;
 pub use devices::time_all;
-pub use frame_len::{reply_frame_len, request_frame_len};
 pub use histogram::{Histogram, nanoseconds_of, place_of};
 pub use looks::Looking;
 pub use metrics::Metrics;

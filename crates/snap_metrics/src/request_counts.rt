@@ -4,10 +4,9 @@ ghost use Rattle.snap_disk.specs.Refusal.{code_of};
 ghost use Rattle.snap_metrics.specs.Numbers.{raised_at, raised_each};
 ghost use Rattle.snap_frame.specs.Messages.{IsInLimits};
 
-use crate::frame_len::{reply_frame_len, request_frame_len};
 use crate::snapshot::{REFUSALS, RequestCounts};
 use snap_disk::Refusal;
-use snap_frame::{Reply, Request};
+use snap_frame::{Reply, Request, reply_frame_len, request_frame_len};
 
 /// Counts one refusal.
 fn count_refusal(refusals: &mut [u64; REFUSALS], why: Refusal)
@@ -63,8 +62,10 @@ impl RequestCounts {
             count_refusal(&mut self.refusals, *why);
         }
         self.looks = self.looks.saturating_add(looks);
-        self.bytes_in = self.bytes_in.saturating_add(request_frame_len(request));
-        self.bytes_out = self.bytes_out.saturating_add(reply_frame_len(reply));
+        self.bytes_in = self
+            .bytes_in
+            .saturating_add(request_frame_len(request) as u64);
+        self.bytes_out = self.bytes_out.saturating_add(reply_frame_len(reply) as u64);
     }
 
     /// Adds `other` to these counts.

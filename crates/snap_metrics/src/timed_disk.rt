@@ -2,7 +2,7 @@
 ghost use Rattle.std.specs.Prelude.{◌≡◌};
 
 use crate::segment::SegmentMetrics;
-use crate::stage::Stage;
+use crate::timed_store::TimedStore;
 use snap_disk::{DeviceFault, Disk};
 use std::marker::Model;
 use std::rt::Clock;
@@ -19,7 +19,7 @@ pub struct TimedDisk<'a, D: Disk + Drop, R: Clock + Copy> {
     disk: D,
     clock: R,
     metrics: &'a SegmentMetrics,
-    stage: Stage,
+    stage: TimedStore,
 }
 
 impl<'a, D: Disk + Drop, R: Clock + Copy> Model for TimedDisk<'a, D, R> {
@@ -37,7 +37,7 @@ impl<'a, D: Disk + Drop, R: Clock + Copy> TimedDisk<'a, D, R> {
             disk,
             clock,
             metrics,
-            stage: Stage::Resting,
+            stage: TimedStore::Resting,
         }
     }
 
@@ -80,7 +80,7 @@ impl<D: Disk + Drop, R: Clock + Copy> Disk for TimedDisk<'_, D, R> {
         self.stage = self.stage.at_write(&self.clock);
         let written = self.disk.write_at(at, bytes);
         if written.is_err() {
-            self.stage = Stage::Resting;
+            self.stage = TimedStore::Resting;
         }
         written
     }
@@ -90,7 +90,7 @@ impl<D: Disk + Drop, R: Clock + Copy> Disk for TimedDisk<'_, D, R> {
         let synced = self.disk.sync();
         self.stage = match synced {
             Ok(()) => self.stage.after_sync(&self.clock, from, self.metrics),
-            Err(DeviceFault) => Stage::Resting,
+            Err(DeviceFault) => TimedStore::Resting,
         };
         synced
     }

@@ -7,7 +7,7 @@ use Rattle.snap_register.specs.Words.{AreBlocks, piece, size_at, block_at}
 use Rattle.snap_register.specs.{declared.access.Access.Access, Registers.Mine, Held.held, Steps.draft_of}
 use Rattle.std.specs.Prelude.{IsTrue}
 use Rattle.snap_register.specs.{Steps.HasDrafted, Steps.HasCopied, Steps.IsAligned, Steps.view_of}
-use Rattle.snap_register.specs.declared.access.draft.End.{End}
+use Rattle.snap_register.specs.declared.access.draft.DraftEnd.{DraftEnd}
 use Rattle.snap_register.proofs.{Blocks.blocks_push, Blocks.piece_length, Lines.prefix_trans, Aligned.two_more}
 use mathlib.Core.List.{IsPrefix}
 
@@ -58,7 +58,7 @@ drafted_none a w at = (
 )
 
 -- k blocks of an update's view were appended to a draft that ended at place `at`
-pub record HasAppended (a b : Access) (at : ℕ) (to : End) (k : ℕ) (f : Start) : Type 0 where
+pub record HasAppended (a b : Access) (at : ℕ) (to : DraftEnd) (k : ℕ) (f : Start) : Type 0 where
   pub same : HasDrafted a b (draft_of b)
   pub to_is : to.at ≡ length (draft_of b)
   pub small : to.at ≤ 512 + k * 512
@@ -67,7 +67,7 @@ pub record HasAppended (a b : Access) (at : ℕ) (to : End) (k : ℕ) (f : Start
   pub aligned : IsTrue to.is_aligned → IsAligned (view_of b) k
 
 -- one block more was appended
-pub block_copied : (a m n : Access) (at k j from : ℕ) (to next : End) (f : Start) → HasAppended a m at to k f
+pub block_copied : (a m n : Access) (at k j from : ℕ) (to next : DraftEnd) (f : Start) → HasAppended a m at to k f
     → HasCopied m n j from (next.at - to.at) → (next.at ≡ to.at + size_at (held (view_of m) j) from)
     × (next.at ≤ to.at + 512) → block_at (held (view_of m) j) from ≡ f k
     → (IsTrue next.is_aligned → IsAligned (view_of n) (k + 1)) → HasAppended a n at next (k + 1) f

@@ -5,10 +5,10 @@ use Rattle.std.proofs.Common.{le_refl, cond}
 use Rattle.std.proofs.lemmas.{List.set-get_or, List.length-set, Nat.div-mul-add, Bool.Decides.nat_tests}
 use Rattle.atomic_table.specs.Table.{State, Me, step, stepped, Allows}
 use Rattle.atomic_table.{specs.Table.Act.keeps, proofs.Lists.at_set}
-use Rattle.snap_register.specs.History.{entry, sight, only, count, start_at, record_words}
+use Rattle.snap_register.specs.History.{entry, look_record, only, count, start_at, record_words}
 use Rattle.snap_register.specs.Rule.{segments, buffers, width, given, cell, Has, IsLegal, total, on, far}
 use Rattle.snap_register.specs.Rule.{beyond, other, Holds, Register, Pinned, Knows, Kept, Learns, pinning, giving}
-use Rattle.snap_register.specs.Rule.{heard, read, revisited, HoldsRecords}
+use Rattle.snap_register.specs.Rule.{caught_up, read, revisited, HoldsRecords}
 use Rattle.snap_register.proofs.Lines.{prefix_self, prefix_trans, count_prefix, record_prefix, legal_prefix}
 use Rattle.snap_register.proofs.Places.{Apart, word_apart, given_apart, given_same, given_behind, cell_behind}
 use Rattle.snap_register.proofs.Places.{given_cell, given_inside}
@@ -206,9 +206,9 @@ module _ (S : Type 0) where
   told_all v w k id at = grind (arith, nat_tests)
 
   pub hears : (p : Plan) (slots id : ℕ) (m : M) (j : ℕ) → m.0.spent ≡ false
-      → Allows (Kept p) slots id m j (λ n. n) (heard (step slots j 0 0 maybe.none) m)
+      → Allows (Kept p) slots id m j (λ n. n) (caught_up (step slots j 0 0 maybe.none) m)
   hears p slots id m j here =
-      allowed p slots id m j (λ n. n) (heard (step slots j 0 0 maybe.none) m) here (λ s k at.
+      allowed p slots id m j (λ n. n) (caught_up (step slots j 0 0 maybe.none) m) here (λ s k at.
       let v : SeatView = m.0 in
       let known = k.each_seat id v at in
       let w : SeatView = record v { seen = k.history; received = []; seen_end = v.high } in (
@@ -261,7 +261,7 @@ module _ (S : Type 0) where
         seen_end = v.high;
         left = v.left - 1;
         records = set v.records j (count j h);
-        sights = v.sights ++ sight h ∷ [];
+        look_records = v.look_records ++ look_record h ∷ [];
       } in
       let there : Pinned v.plan h s.words j d.current (get_or w.records j 0) =
       rw (get_or-set_same v.records j (count j h) 0 wide_records) (record {
@@ -322,7 +322,7 @@ module _ (S : Type 0) where
         left = v.left - 1;
         pins = set v.pins j (get_or s.words j 0 / 2 ^ 56 + 1);
         records = set v.records j (count j h);
-        sights = v.sights ++ sight h ∷ [];
+        look_records = v.look_records ++ look_record h ∷ [];
       } in
       let pin : get_or w.pins j 0 ≡ d.current + 1 =
       get_or-set_same v.pins j (get_or s.words j 0 / 2 ^ 56 + 1) 0 wide_pins ∙ ap (λ (z : ℕ). z + 1) found in

@@ -11,7 +11,7 @@ use Rattle.snap_history.specs.Limits.{IsNumber}
 use Rattle.snap_register.specs.History.{entry, only, count, number}
 use Rattle.snap_register.specs.Rule.{segments, buffers, width, given, cell, Follows, IsLegal, IsWriter, total}
 use Rattle.snap_register.specs.Rule.{on, beyond, other, pins_of, Register, Writes, Knows, Kept, checked, reused}
-use Rattle.snap_register.specs.Rule.{redrafted, without_last, next_other, moved_pool, published, kept, old_record}
+use Rattle.snap_register.specs.Rule.{redrafted, without_last, next_other, moved_pool, published, retained, old_record}
 use Rattle.snap_register.specs.Rule.{old_words, HoldsRecords}
 use Rattle.snap_register.proofs.Lines.{prefix_self, prefix_trans, only_push_other, count_push_same, count_push_other}
 use Rattle.snap_register.proofs.Lines.{record_last, record_prefix, none_between, legal_push, legal_prefix}
@@ -213,9 +213,9 @@ module _ (S : Type 0) where
       → i < segments m.0.plan → m.0.pool.free_buffer < buffers m.0.plan → 0 < old_record m.0
       → length m.0.pool.draft ≤ q + 1 → q < width m.0.plan → q < length (old_words m.0)
       → c ≡ cell m.0.plan i m.0.pool.free_buffer q
-      → Allows (Kept p) slots id m c (λ n. n) (kept (step slots c 0 0 maybe.none) m)
+      → Allows (Kept p) slots id m c (λ n. n) (retained (step slots c 0 0 maybe.none) m)
   keeps_record table slots id m i q c here role inside free any behind lq lw place =
-      allowed S table slots id m c (λ n. n) (kept (step slots c 0 0 maybe.none) m) here (λ s k at.
+      allowed S table slots id m c (λ n. n) (retained (step slots c 0 0 maybe.none) m) here (λ s k at.
       let v : SeatView = m.0 in
       let d : BufferPool = v.pool in
       let n : ℕ = length d.draft in

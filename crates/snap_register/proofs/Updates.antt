@@ -94,7 +94,7 @@ meets_is z z' v w h same is later own = rw is (record {
   grows = grows_is z z' v (record v { seen = h }) same refl refl refl later own refl;
   looks = λ i. refl;
   left = refl;
-  sights = refl;
+  look_records = refl;
 })
 
 pub below_is : (z : TableId) (v : SeatView) → rule.IsBelow v.plan v.seen → IsBelow (known z v)

@@ -1,6 +1,6 @@
 -- The records in the buffers that a seat pins.
 use Rattle.std.specs.Prelude.{◌≡◌, ◌≢◌, ℕ, ◌+◌, ◌<◌, ◌≤◌, ◌++◌, List, [], ◌∷◌, slice_index, length}
-use Rattle.snap_register.specs.History.{entry, sight, only, start_at, record_words, memory, number, count}
+use Rattle.snap_register.specs.History.{entry, look_record, only, start_at, record_words, memory, number, count}
 use Rattle.snap_register.specs.Words.{block_at, size_at, value_at, behind, IsBlock}
 use Rattle.snap_register.specs.Rule.{segments, width, IsBelow}
 use Rattle.snap_register.specs.declared.plan.{Entry.Entry, Plan.Plan, SeatView.SeatView}
@@ -65,5 +65,5 @@ HasLookedFrom v w = w ≡ record v {
   left = w.left;
   pins = w.pins;
   records = w.records;
-  sights = v.sights ++ sight w.seen ∷ [];
+  look_records = v.look_records ++ look_record w.seen ∷ [];
 }

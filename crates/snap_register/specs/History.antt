@@ -1,14 +1,14 @@
 -- A history of updates, and each segment's line in it.
 use Rattle.std.specs.Prelude.{ℕ, ◌+◌, ◌==◌, cond, List, [], ◌∷◌, length, map, slice_index_or}
-use Rattle.snap_register.specs.declared.plan.{Entry.Entry, Sight.Sight, Start.Start, Plan.Plan}
+use Rattle.snap_register.specs.declared.plan.{Entry.Entry, LookRecord.LookRecord, Start.Start, Plan.Plan}
 use Rattle.snap_register.specs.Words.{value_at}
 use Rattle.snap_history.specs.History as history
 
 abbrev pub entry : ℕ → List ℕ → Entry
 entry i ws = record { segment = i; words = ws }
 
-abbrev pub sight : List Entry → Sight
-sight h = record { seen = h }
+abbrev pub look_record : List Entry → LookRecord
+look_record h = record { seen = h }
 
 -- the entries of segment i, in order
 abbrev pub only : ℕ → List Entry → List Entry

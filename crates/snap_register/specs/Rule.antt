@@ -4,7 +4,7 @@ use Rattle.std.specs.Prelude.{◌≡◌, ℕ, ◌+◌, ◌-◌, ◌*◌, ◌/◌
 use Rattle.std.specs.Prelude.{slice_index, slice_set, take, true, false}
 use Rattle.atomic_table.specs.Table.{State, Me, Step}
 use Rattle.snap_history.specs.Limits.{IsNumber}
-use Rattle.snap_register.specs.History.{entry, sight, only, count, number, record_words, memory}
+use Rattle.snap_register.specs.History.{entry, look_record, only, count, number, record_words, memory}
 use Rattle.snap_register.specs.Words.{value_at, piece, IsRecord}
 use Rattle.snap_register.specs.declared.plan.{Entry.Entry, Plan.Plan, BufferPool.BufferPool, SeatView.SeatView}
 use Rattle.snap_register.specs.declared.plan.UpdatePhase.TheVariants.{Shown, Storing, Stored}
@@ -212,7 +212,7 @@ spent = record {
   left = 0;
   pins = [];
   records = [];
-  sights = [];
+  look_records = [];
   phase = Shown;
 }
 
@@ -289,7 +289,7 @@ module _ {S : Type 0} where
         left = m.0.left - 1;
         pins = slice_set m.0.pins st.word (found / 2 ^ 56 + 1);
         records = slice_set m.0.records st.word (count st.word m'.0.seen);
-        sights = m.0.sights ++ sight m'.0.seen ∷ [];
+        look_records = m.0.look_records ++ look_record m'.0.seen ∷ [];
       })
 
   -- a load of a current word: a look, if it is the buffer that the seat pins
@@ -302,7 +302,7 @@ module _ {S : Type 0} where
         seen_end = m.0.high;
         left = m.0.left - 1;
         records = slice_set m.0.records st.word (count st.word m'.0.seen);
-        sights = m.0.sights ++ sight m'.0.seen ∷ [];
+        look_records = m.0.look_records ++ look_record m'.0.seen ∷ [];
       }))
       × ((slice_index m.0.pins st.word ≡ found / 2 ^ 56 + 1 → ⊥) → m' ≡ m)
 
@@ -312,8 +312,8 @@ module _ {S : Type 0} where
       → m' ≡ (record m.0 { pins = slice_set m.0.pins i 0 }, m.1)
 
   -- a load of a current word, without a pin
-  abbrev pub heard : Step S → Me S SeatView → ℕ → Me S SeatView → Type 0
-  heard st m found m' = Learns m.0 m'.0 × (m'.1 ≡ m.1)
+  abbrev pub caught_up : Step S → Me S SeatView → ℕ → Me S SeatView → Type 0
+  caught_up st m found m' = Learns m.0 m'.0 × (m'.1 ≡ m.1)
       × (m'.0 ≡ record m.0 { seen = m'.0.seen; received = []; seen_end = m.0.high })
 
   -- a load of a current word, by which the seat notes that a store begins
@@ -356,8 +356,8 @@ module _ {S : Type 0} where
       × WasAt m.0 (length m.0.pool.draft) found
 
   -- a load of a word of the free buffer, up to which the draft takes on what is left of the old record
-  abbrev pub kept : Step S → Me S SeatView → ℕ → Me S SeatView → Type 0
-  kept st m found m' = (q : ℕ) → q < width m.0.plan → st.word ≡ cell m.0.plan m.0.low m.0.pool.free_buffer q
+  abbrev pub retained : Step S → Me S SeatView → ℕ → Me S SeatView → Type 0
+  retained st m found m' = (q : ℕ) → q < width m.0.plan → st.word ≡ cell m.0.plan m.0.low m.0.pool.free_buffer q
       → m' ≡ (
         record m.0 {
           pool = record m.0.pool {

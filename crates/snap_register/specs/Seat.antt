@@ -24,7 +24,7 @@ pub record Known : Type 0 where
   pub pins : List ℕ
   pub records : List ℕ
   pub left : ℕ
-  pub sights : List (List Update)
+  pub look_records : List (List Update)
   pub phase : UpdatePhase
 
 abbrev pub known : RegistersId → SeatView → Known
@@ -37,7 +37,7 @@ known z v = record {
   pins = v.pins;
   records = v.records;
   left = v.left;
-  sights = map (λ s. updates s.seen) v.sights;
+  look_records = map (λ s. updates s.seen) v.look_records;
   phase = v.phase;
 }
 
@@ -80,7 +80,7 @@ pub record Meets (a b : Known) : Type 0 where
   pub grows : Grows a b
   pub looks : (i : ℕ) → looked b i ≡ looked a i
   pub left : b.left ≡ a.left
-  pub sights : b.sights ≡ a.sights
+  pub look_records : b.look_records ≡ a.look_records
 
 -- the last look of segment j found this number; those of other segments stay
 pub record Looks (a b : Known) (j number : ℕ) : Type 0 where
@@ -151,7 +151,7 @@ pub record Shows (a b : Known) (value : List ℕ) : Type 0 where
   pub high : b.high ≡ a.high
   pub looks : (i : ℕ) → looked b i ≡ looked a i
   pub left : b.left ≡ a.left
-  pub sights : b.sights ≡ a.sights
+  pub look_records : b.look_records ≡ a.look_records
   pub between : List Update
   pub seen : b.seen ≡ (a.seen ++ between) ++ record { segment = own_of a; value = value } ∷ []
   pub others : updates_of (own_of a) between ≡ 0

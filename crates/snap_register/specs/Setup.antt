@@ -52,7 +52,7 @@ first_view p = record {
   left = seats p * p.looks;
   pins = replicate (segments p) 0;
   records = replicate (segments p) 0;
-  sights = [];
+  look_records = [];
   phase = Shown;
 }
 

@@ -36,14 +36,14 @@
 //! | `GiveBack` | any | adds 1 to a given-back count | the pin is returned | `looks::give_back` |
 //! | `Check` | writer | loads the given-back count of a former buffer | it is free, or held | `publications::check` |
 //! | `Reuse`, `Redraft` | writer | replaces the free buffer's next word | a word more of the draft | `draft_word` |
-//! | `Keep` | writer | loads a word of the free buffer | its former record's words up to it | `draft::keep` |
-//! | `Begin`, `End` | writer | loads a current word | that its store begins, or has ended | `publications` |
+//! | `Retain` | writer | loads a word of the free buffer | its former record's words up to it | `draft::keep` |
+//! | `BeginStore`, `EndStore` | writer | loads a current word | that its store begins, or has ended | `publications` |
 //! | `Publish` | writer | swaps the free buffer in | the history to its update; the old pins | `publications::swap` |
-//! | `Hear`, joins, splits | any two | joins two seats' views, loads a word | the whole history | `meetings::meet` |
+//! | `CatchUp`, joins, splits | any two | joins two seats' views, loads a word | the whole history | `meetings::meet` |
 //!
 //! The result of a step is a function of the view (`pinning`, `revisited`, `read`, `giving`, `checked`, `reused`,
-//! `redrafted`, `kept`, `begun`, `ended`, `published`, `heard`), named in setup.rt. proofs/Keeps.antt and the files
-//! beside it prove that each step keeps the rule. An opening makes the table, with all knowledge in one view, and
+//! `redrafted`, `retained`, `begun`, `ended`, `published`, `caught_up`), named in setup.rt. proofs/Keeps.antt and the
+//! files beside it prove that each step keeps the rule. An opening makes the table, with all knowledge in one view, and
 //! splits off a seat for each writer and scanner (tables.rt).
 #![tactic(auto)]
 
@@ -57,7 +57,7 @@ mod tables;
 mod view;
 mod words;
 
-pub use plan::{BufferPool, Entry, Opening, Plan, SeatView, Sight, Start, UpdatePhase};
+pub use plan::{BufferPool, Entry, LookRecord, Opening, Plan, SeatView, Start, UpdatePhase};
 pub use registers::Registers;
 pub use seats::{Looker, ReadSeat, WriteSeat};
 pub use setup::{OneHistory, Setup, TableSeat, WordTable};

@@ -27,7 +27,7 @@ pub struct Entry {
 }
 
 /// The updates that a seat had seen at one of its looks.
-pub struct Sight {
+pub struct LookRecord {
     pub seen: [Entry; 0],
 }
 
@@ -92,6 +92,6 @@ pub struct SeatView {
     /// For each register which record the pinned buffer holds.
     pub records: [u64; 0],
     /// The updates it had seen at each of its looks, in order.
-    pub sights: [Sight; 0],
+    pub look_records: [LookRecord; 0],
     pub phase: UpdatePhase,
 }

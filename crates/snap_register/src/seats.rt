@@ -48,7 +48,8 @@ pub trait Looker {
         ensures below { IsBelow (known self.new) }
         ensures number { result ≡ number_in (known self.new) (known self.new).seen j }
         ensures looked { Looks (known self.old) (known self.new) j result }
-        ensures sights { (known self.new).sights ≡ (known self.old).sights ++ (known self.new).seen ∷ [] }
+        ensures look_records { (known self.new).look_records
+            ≡ (known self.old).look_records ++ (known self.new).seen ∷ [] }
         ensures left { (known self.new).left + 1 ≡ (known self.old).left };
 
     /// Copies the value of `j` that the last look found to the front of `out`. Returns its length.

@@ -1,6 +1,6 @@
 //! The table of the registers' words, its rule (specs/Rule.antt), and the result of each step on it.
-ghost use Rattle.snap_register.specs.Rule.{Kept, pinning, revisited, giving, heard, read, checked, reused, kept};
-ghost use Rattle.snap_register.specs.Rule.{redrafted};
+ghost use Rattle.snap_register.specs.Rule.{Kept, pinning, revisited, giving, caught_up, read, checked, reused};
+ghost use Rattle.snap_register.specs.Rule.{retained, redrafted};
 ghost use Rattle.snap_register.specs.Rule.{published, begun, ended, messenger, reader, without_reader, first_role};
 ghost use Rattle.snap_register.specs.Rule.{without_first_role, with_received, with_seen_of, spent};
 
@@ -54,23 +54,23 @@ impl Play<(), SeatView> for GiveBack {
 }
 
 // A load of a current word.
-pub(crate) struct Hear;
+pub(crate) struct CatchUp;
 
-impl Play<(), SeatView> for Hear {
-    ghost then = { heard };
+impl Play<(), SeatView> for CatchUp {
+    ghost then = { caught_up };
 }
 
 // A load of a current word before a store.
-pub(crate) struct Begin;
+pub(crate) struct BeginStore;
 
-impl Play<(), SeatView> for Begin {
+impl Play<(), SeatView> for BeginStore {
     ghost then = { begun };
 }
 
 // A load of a current word after a store.
-pub(crate) struct End;
+pub(crate) struct EndStore;
 
-impl Play<(), SeatView> for End {
+impl Play<(), SeatView> for EndStore {
     ghost then = { ended };
 }
 
@@ -96,10 +96,10 @@ impl Play<(), SeatView> for Reuse {
 }
 
 // A load of a word of the free buffer, whose old record stays as far as that.
-pub(crate) struct Keep;
+pub(crate) struct Retain;
 
-impl Play<(), SeatView> for Keep {
-    ghost then = { kept };
+impl Play<(), SeatView> for Retain {
+    ghost then = { retained };
 }
 
 // A store in place of the last drafted word of the free buffer.

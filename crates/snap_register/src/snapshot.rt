@@ -10,13 +10,13 @@ use std::marker::Model;
 
 /// A number and a value.
 #[derive(Drop)]
-pub(crate) struct Held {
+pub(crate) struct NumberedValue {
     pub(crate) number: u64,
     pub(crate) length: usize,
     pub(crate) bytes: [u8; MAX_VALUE_LEN],
 }
 
-impl Model for Held {
+impl Model for NumberedValue {
     ghost use Rattle.std.specs.Prelude.{◌≤◌, ℕ, List, take};
     ghost use Rattle.snap_history.specs.declared.limits.TheConstants.{MAX_VALUE_LEN};
 
@@ -27,7 +27,7 @@ impl Model for Held {
     ghost invariant = { λ h. h.length ≤ MAX_VALUE_LEN };
 }
 
-impl Held {
+impl NumberedValue {
     fn value(&self) -> &[u8]
         ensures value { result.now ≡ self.now.1 }
         ensures size { IsShort result.now }
@@ -57,7 +57,7 @@ impl Held {
 /// Room for the number and the value of each segment.
 #[derive(Drop)]
 pub struct SnapshotBuf {
-    pub(crate) segments: Vec<Held>,
+    pub(crate) segments: Vec<NumberedValue>,
 }
 
 impl Model for SnapshotBuf {
@@ -78,7 +78,7 @@ impl SnapshotBuf {
     {
         let mut segments = Vec::new(alloc);
         for _ in 0..n {
-            segments.push(Held {
+            segments.push(NumberedValue {
                 number: 0,
                 length: 0,
                 bytes: [0; MAX_VALUE_LEN],

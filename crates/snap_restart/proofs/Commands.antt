@@ -141,7 +141,7 @@ begun_on d v = in_store (record {
     pins = [];
     records = [];
     left = 0;
-    sights = [];
+    look_records = [];
     phase = Storing;
   };
 }) v d

@@ -27,7 +27,7 @@ impl fmt::Display for Report {
 
     fn fmt<W: fmt::Write>(&self, f: &mut fmt::Formatter<W>) -> fmt::Result {
         for (index, segment) in self.segments.iter().enumerate() {
-            let found = Line {
+            let found = SegmentLine {
                 index,
                 segment: *segment,
             };
@@ -39,12 +39,12 @@ impl fmt::Display for Report {
 
 /// The line of one segment.
 #[derive(Drop)]
-struct Line {
+struct SegmentLine {
     index: usize,
     segment: Recovered,
 }
 
-impl fmt::Display for Line {
+impl fmt::Display for SegmentLine {
     ghost output = { λ found. Some (recovered_text found.index found.segment) };
 
     fn fmt<W: fmt::Write>(&self, f: &mut fmt::Formatter<W>) -> fmt::Result {

@@ -1,30 +1,30 @@
 -- Joining the steps of a session.
 use Rattle.std.proofs.Common.{◌≡◌, ◌+◌, ℕ, List, [], ◌++◌, length, length-append, arith, Option, Some, None, refl}
 use Rattle.std.proofs.Common.{◌∙◌, ap, append-nil, append_assoc}
-use Rattle.snap_frame.specs.declared.frame_buffer.Failure.TheVariants.{TooLarge, NoMemory}
-use Rattle.snap_frame.specs.declared.{request.Request.Request, reply.Reply.Reply, frame_buffer.Failure.Failure}
+use Rattle.snap_frame.specs.declared.frame_buffer.FrameFault.TheVariants.{TooLarge, NoMemory}
+use Rattle.snap_frame.specs.declared.{request.Request.Request, reply.Reply.Reply, frame_buffer.FrameFault.FrameFault}
 use Rattle.snap_session.specs.Talk.{Talk, Goes, GoesBy, Stays, Moves, Run, Phase, frames, came}
 use Rattle.snap_session.proofs.Runs.{frames-append, Joins, run_on, stays_joins, loosen as loosen_run}
 
 -- the phase doesn't depend on the bytes taken in, the payloads and the replies
-phase_any : (o : Option Failure) (taken more : List ℕ) (ps qs rs ss us : List (List ℕ)) (rest held tail : List ℕ)
+phase_any : (o : Option FrameFault) (taken more : List ℕ) (ps qs rs ss us : List (List ℕ)) (rest held tail : List ℕ)
     → Phase None o taken ps rs us rest held tail → Phase None o more qs ss us rest held tail
 phase_any None taken more ps qs rs ss us rest held tail p = p
 phase_any (Some TooLarge) taken more ps qs rs ss us rest held tail p = p
 phase_any (Some NoMemory) taken more ps qs rs ss us rest held tail p = p
 
 -- a session that is over stays over
-phase_over : (o : Option Failure) (w : Failure) (taken : List ℕ) (ps rs us : List (List ℕ))
+phase_over : (o : Option FrameFault) (w : FrameFault) (taken : List ℕ) (ps rs us : List (List ℕ))
     (rest held kept tail : List ℕ) → Phase o (Some w) taken ps rs us rest held tail
     → Phase o (Some w) taken ps rs us rest kept tail
 phase_over None TooLarge taken ps rs us rest held kept tail p = p
 phase_over None NoMemory taken ps rs us rest held kept tail p = p
 phase_over (Some a) w taken ps rs us rest held kept tail p = p
 
-abbrev WasGoing : Option Failure → List (List ℕ) → List ℕ → List ℕ → List ℕ → Type 0
+abbrev WasGoing : Option FrameFault → List (List ℕ) → List ℕ → List ℕ → List ℕ → Type 0
 WasGoing o us tail held rest = (o ≡ None) × (us ≡ []) × (tail ≡ []) × (held ≡ rest)
 
-was_going : (o : Option Failure) (taken : List ℕ) (ps rs us : List (List ℕ)) (rest held tail : List ℕ)
+was_going : (o : Option FrameFault) (taken : List ℕ) (ps rs us : List (List ℕ)) (rest held tail : List ℕ)
     → Phase o None taken ps rs us rest held tail → WasGoing o us tail held rest
 was_going None taken ps rs us rest held tail p = (refl, p.0, p.1, p.2)
 was_going (Some a) taken ps rs us rest held tail p = let wrong : None ≡ Some a = p.0 in absurd cc
@@ -74,7 +74,7 @@ module _ {S : Type 0} (between : S → S → Type 0) (joins : Joins between)
         omega (arith, length-append one.payloads two.payloads),
       )
 
-  goes_over : (w : Failure) → t1.over ≡ Some w → (one : Goes between gives s t t0 a g t1)
+  goes_over : (w : FrameFault) → t1.over ≡ Some w → (one : Goes between gives s t t0 a g t1)
       → (two : Goes between gives t u t1 b h t2)
       → GoesBy (length one.payloads + length two.payloads) between gives s u t0 (a ++ b) (g ++ h) t2
   goes_over w over one two =
@@ -98,7 +98,7 @@ module _ {S : Type 0} (between : S → S → Type 0) (joins : Joins between)
         omega arith,
       )
 
-  goes_by : (o : Option Failure) → t1.over ≡ o → (one : Goes between gives s t t0 a g t1)
+  goes_by : (o : Option FrameFault) → t1.over ≡ o → (one : Goes between gives s t t0 a g t1)
       → (two : Goes between gives t u t1 b h t2)
       → GoesBy (length one.payloads + length two.payloads) between gives s u t0 (a ++ b) (g ++ h) t2
   goes_by None is one two = goes_going is one two

@@ -2,7 +2,8 @@
 use Rattle.std.proofs.Common.{◌≡◌, ℕ, ◌+◌, ◌<◌, ◌≤◌, List, length, Option, Some, None, Bool, true, false}
 use Rattle.std.proofs.Common.{is_some, inl, inr, refl, sym, ◌∙◌, ap, arith, length-append}
 use Rattle.std.proofs.lemmas.List.{get_or-append-add}
-use Rattle.snap_frame.specs.{Messages.frame, Stream.HasFrame, Stream.IsBytes, declared.frame_buffer.Failure.Failure}
+use Rattle.snap_frame.specs.{Messages.frame, Stream.HasFrame, Stream.IsBytes}
+use Rattle.snap_frame.specs.declared.frame_buffer.FrameFault.{FrameFault}
 use Rattle.snap_session.specs.Talk.{Talk, HasTaken, longest_frame, HoldsFrameAnd}
 use Rattle.snap_session.specs.Turns.{Sends}
 
@@ -27,10 +28,10 @@ holds_taken more old piece new short few (inl is) going =
     omega (arith, short, few, ap (λ (z : Talk). length z.held) is, length-append old.held piece)
 holds_taken more old piece new short few (inr none) going = grind arith
 
-still_is : (o : Option Failure) → is_some o ≡ false → o ≡ None
+still_is : (o : Option FrameFault) → is_some o ≡ false → o ≡ None
 still_is None is = refl
 still_is (Some f) is = let wrong : true ≡ false = is in absurd cc
 
 -- the session isn't over
-pub still_going : (o : Option Failure) (is : Bool) → is ≡ is_some o → is ≡ false → o ≡ None
+pub still_going : (o : Option FrameFault) (is : Bool) → is ≡ is_some o → is ≡ false → o ≡ None
 still_going o is told so = still_is o (sym told ∙ so)

@@ -3,21 +3,21 @@ use Rattle.std.proofs.Common.{◌≡◌, inl, inr, ℕ, ◌≤◌, List, [], ◌
 use Rattle.std.proofs.Common.{false, refl, sym, ◌∙◌, ap, arith, append-nil, append_assoc, length-append}
 use Rattle.snap_frame.specs.Messages.{max_payload, frame, payload, says, IsAskable, IsInLimits}
 use Rattle.snap_frame.specs.Stream.{HasFrame, HasLongLength}
-use Rattle.snap_frame.specs.declared.frame_buffer.Failure.TheVariants.{TooLarge, NoMemory}
-use Rattle.snap_frame.specs.declared.{request.Request.Request, reply.Reply.Reply, frame_buffer.Failure.Failure}
+use Rattle.snap_frame.specs.declared.frame_buffer.FrameFault.TheVariants.{TooLarge, NoMemory}
+use Rattle.snap_frame.specs.declared.{request.Request.Request, reply.Reply.Reply, frame_buffer.FrameFault.FrameFault}
 use Rattle.snap_session.specs.Talk.{refused_too_large, Talk, Goes, GoesBy, Stays, Answer, Phase, HasTaken, Owes}
 use Rattle.snap_session.specs.Talk.{frames, came, asked_bytes}
 
 abbrev pub owed_of : Talk → List ℕ
 owed_of t = t.owed
 
-abbrev pub over_of : Talk → Option Failure
+abbrev pub over_of : Talk → Option FrameFault
 over_of t = t.over
 
 abbrev pub asked_of : Talk → Option Request
 asked_of t = t.asked
 
-phase_same : (a : Option Failure) (rest held : List ℕ) → held ≡ rest → Phase a a [] [] [] [] rest held []
+phase_same : (a : Option FrameFault) (rest held : List ℕ) → held ≡ rest → Phase a a [] [] [] [] rest held []
 phase_same None rest held same = (refl, refl, same)
 phase_same (Some w) rest held same = (refl, refl, refl, refl, refl, refl)
 

@@ -6,7 +6,7 @@ use Rattle.std.specs.{Bool.◌==◌, Io.KnownBytes.Appends, Io.KnownBytes.Consum
 use Rattle.std.proofs.KnownBytes.{Appends-nil, Appends-trans, Consumes-nil, Consumes-trans}
 use Rattle.std.proofs.lemmas.{List.take-append-drop, Bool.Decides.nat_tests}
 use Rattle.snap_frame.specs.declared.{request.Request.Request, reply.Reply.Reply}
-use Rattle.snap_session.specs.declared.turns.Sent.TheVariants.{All, Blocked, Failed}
+use Rattle.snap_session.specs.declared.turns.SendOutcome.TheVariants.{All, Blocked, Failed}
 use Rattle.snap_session.specs.Talk.{Talk, Goes, Stays, HasTaken, came, start, most_owed, HoldsFrameAnd}
 use Rattle.snap_session.specs.Turns.{Turns, Sends, Serves, EndsAt}
 use Rattle.snap_session.proofs.Steps.{rests, takes, sends}

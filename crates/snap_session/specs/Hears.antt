@@ -4,7 +4,7 @@ use Rattle.snap_frame.specs.Stream.{IsPartial, HasFrame, HasLongLength}
 use Rattle.snap_session.specs.declared.session.Heard.TheVariants.{Nothing, Asked, Malformed, TooLarge, NoMemory}
 use Rattle.snap_session.specs.{declared.session.Heard.Heard, Talk.Talk, Talk.longest_frame}
 use Rattle.snap_frame.specs.Messages as messages
-use Rattle.snap_frame.specs.declared.frame_buffer.Failure.TheVariants as failures
+use Rattle.snap_frame.specs.declared.frame_buffer.FrameFault.TheVariants as failures
 
 abbrev pub Hears : Talk → Heard → Talk → Type 0
 Hears old Nothing new = IsPartial old.held × (new ≡ old) × (length old.held < longest_frame)

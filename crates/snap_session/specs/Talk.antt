@@ -1,9 +1,9 @@
 -- The bytes and the requests of a session.
 use Rattle.std.specs.Prelude.{◌≡◌, ℕ, ◌+◌, ◌≤◌, ◌⊎◌, List, [], ◌∷◌, ◌++◌, length, Option, Some, None, Bool, true, false}
 use Rattle.snap_frame.specs.Messages.{max_payload, payload, frame, Asks, Malformed, Says, says}
-use Rattle.snap_frame.specs.declared.frame_buffer.Failure.TheVariants.{TooLarge, NoMemory}
+use Rattle.snap_frame.specs.declared.frame_buffer.FrameFault.TheVariants.{TooLarge, NoMemory}
 use Rattle.snap_frame.specs.{declared.request.Request.Request, Stream.HasLongLength, declared.reply.Reply.Reply}
-use Rattle.snap_frame.specs.{declared.reply.Reply.TheVariants.Refused, declared.frame_buffer.Failure.Failure}
+use Rattle.snap_frame.specs.{declared.reply.Reply.TheVariants.Refused, declared.frame_buffer.FrameFault.FrameFault}
 use Rattle.snap_session.specs.declared.session.TheConstants.{MAX_OWED}
 use Rattle.snap_disk.specs.declared.refusal.Refusal.TheVariants as refusals
 
@@ -13,7 +13,7 @@ pub record Talk : Type 0 where
   pub asked : Option Request
   pub held : List ℕ
   pub owed : List ℕ
-  pub over : Option Failure
+  pub over : Option FrameFault
 
 abbrev pub start : Talk
 start = record { asked = None; held = []; owed = []; over = None }
@@ -66,7 +66,7 @@ Moves gives old new = (xs : List (List ℕ)) × (ys : List (List ℕ)) × Run St
 
 -- How a session may continue: the bytes that are left of those that arrived, and the bytes that are owed after all
 -- replies. Once it is over nothing more is taken in or answered.
-abbrev pub Phase : Option Failure → Option Failure → List ℕ → List (List ℕ) → List (List ℕ)
+abbrev pub Phase : Option FrameFault → Option FrameFault → List ℕ → List (List ℕ) → List (List ℕ)
     → List (List ℕ) → List ℕ → List ℕ → List ℕ → Type 0
 Phase None None taken payloads replies unsaid rest held tail = (unsaid ≡ []) × (tail ≡ []) × (held ≡ rest)
 Phase None (Some TooLarge) taken payloads replies unsaid rest held tail =

@@ -6,7 +6,7 @@ use Rattle.snap_session.specs.declared.turns.Polled.TheVariants.{Again, NeedsInp
 use Rattle.snap_session.specs.Talk.{Talk, Goes, GoesBy, Stays, HasTaken, start, most_answers}
 use Rattle.snap_session.specs.declared.turns.{End.End, Polled.Polled}
 use Rattle.snap_session.specs.declared.turns.End.TheVariants as ends
-use Rattle.snap_frame.specs.declared.frame_buffer.Failure.TheVariants as failures
+use Rattle.snap_frame.specs.declared.frame_buffer.FrameFault.TheVariants as failures
 
 -- A session's state before and after some turns: the bytes that were read were taken in, and those that were given out
 -- were written.

@@ -13,7 +13,7 @@ ghost use Rattle.snap_session.specs.{Waits.WaitsFor, Asked.AreAsked, Hears.Hears
 use crate::service::Service;
 use bytes::BytesMut;
 use snap_disk::Refusal;
-use snap_frame::{Failure, Feed, MAX_PAYLOAD, Reply, Request, write_reply};
+use snap_frame::{Feed, FrameFault, MAX_PAYLOAD, Reply, Request, write_reply};
 use std::alloc::Global;
 use std::marker::Model;
 
@@ -55,7 +55,7 @@ pub struct Session {
     /// The request that was handed over and isn't answered.
     asked: Option<Request>,
     owed: BytesMut,
-    over: Option<Failure>,
+    over: Option<FrameFault>,
 }
 
 impl Model for Session {
@@ -100,7 +100,7 @@ impl Session {
     }
 
     /// Why it takes no more bytes, or `None` while it does.
-    pub fn over(&self) -> Option<Failure>
+    pub fn over(&self) -> Option<FrameFault>
         ensures { result ≡ self.now.over }
     {
         self.over
@@ -129,7 +129,7 @@ impl Session {
         ensures { HasTaken self.old piece.now self.new }
     {
         if self.feed.push(piece).is_err() {
-            self.over = Some(Failure::NoMemory);
+            self.over = Some(FrameFault::NoMemory);
         }
     }
 
@@ -140,7 +140,7 @@ impl Session {
         ensures bounded { length self.new.owed ≤ length self.old.owed + longest_frame }
     {
         if write_reply(reply, &mut self.owed).is_err() {
-            self.over = Some(Failure::NoMemory);
+            self.over = Some(FrameFault::NoMemory);
             return false;
         }
         true
@@ -156,11 +156,11 @@ impl Session {
             Ok(Some(request)) => Heard::Asked(request),
             Err(Refusal::Malformed) => Heard::Malformed,
             Err(Refusal::TooLarge) => {
-                self.over = Some(Failure::TooLarge);
+                self.over = Some(FrameFault::TooLarge);
                 Heard::TooLarge
             }
             Err(_) => {
-                self.over = Some(Failure::NoMemory);
+                self.over = Some(FrameFault::NoMemory);
                 Heard::NoMemory
             }
         }

@@ -6,7 +6,7 @@ ghost use Rattle.snap_session.specs.Turns.{Turns, Sends, StandsAt, Serves, Takes
 
 use crate::service::Service;
 use crate::session::{Session, WaitingFor};
-use snap_frame::Failure;
+use snap_frame::FrameFault;
 use std::alloc::Global;
 use std::io;
 use std::io::{Read, Write};
@@ -51,26 +51,26 @@ pub enum Polled {
 }
 
 /// The result of writing the pending output.
-enum Sent {
+enum SendOutcome {
     All,
     Blocked,
     Failed,
 }
 
 /// Writes the pending output, as far as the writer takes it.
-fn send_owed<W: Write>(session: &mut Session, writer: &mut W) -> Sent
+fn send_owed<W: Write>(session: &mut Session, writer: &mut W) -> SendOutcome
     ensures sends { Sends session.old session.new (W.contents writer.old) (W.contents writer.new) }
-    ensures all { result ≡ Sent.All ↔ session.new.owed ≡ [] }
+    ensures all { result ≡ SendOutcome.All ↔ session.new.owed ≡ [] }
 {
     while !session.owed().is_empty() {
         match writer.write(session.owed()) {
-            Ok(0) => return Sent::Failed,
+            Ok(0) => return SendOutcome::Failed,
             Ok(n) => session.sent(n),
-            Err(error) if error.kind() == io::ErrorKind::WouldBlock => return Sent::Blocked,
-            Err(_) => return Sent::Failed,
+            Err(error) if error.kind() == io::ErrorKind::WouldBlock => return SendOutcome::Blocked,
+            Err(_) => return SendOutcome::Failed,
         }
     }
-    Sent::All
+    SendOutcome::All
 }
 
 /// Takes one turn of at most 16 rounds. Each round writes the pending output, answers the frames
@@ -116,14 +116,14 @@ pub fn proceed<R: Read, W: Write, S: Service>(
 {
     for _ in 0..MAX_ROUNDS {
         match send_owed(session, writer) {
-            Sent::All => {}
-            Sent::Blocked => return Polled::NeedsRoom,
-            Sent::Failed => return Polled::Over(End::WriteFailed),
+            SendOutcome::All => {}
+            SendOutcome::Blocked => return Polled::NeedsRoom,
+            SendOutcome::Failed => return Polled::Over(End::WriteFailed),
         }
         match session.over() {
             None => {}
-            Some(Failure::TooLarge) => return Polled::Over(End::TooLarge),
-            Some(Failure::NoMemory) => return Polled::Over(End::NoMemory),
+            Some(FrameFault::TooLarge) => return Polled::Over(End::TooLarge),
+            Some(FrameFault::NoMemory) => return Polled::Over(End::NoMemory),
         }
         match session.answer(service, key) {
             WaitingFor::Bytes => {}

@@ -20,8 +20,8 @@ use Rattle.std.specs.{declared.alloc.AllocError.AllocError, Global.Vec}
 use Rattle.std.proofs.{lemmas.List.map-set, lemmas.Bool.cases_eq, Math.Logic.∥∥₁_map}
 use Rattle.snap_history.proofs.{Lists.get-set_other}
 use Rattle.snap_world.specs.{inside.Steps.phases_of_actors, declared.writer.WriterPhase.WriterPhase}
-use Rattle.snap_world.specs.{declared.writer.Writer.Writer, declared.actors.Actors.Actors}
-use Rattle.snap_world.specs.{declared.scanner.Scanner.Scanner, declared.node.Node.Node}
+use Rattle.snap_world.specs.{declared.writer.WriterActor.WriterActor, declared.actors.Actors.Actors}
+use Rattle.snap_world.specs.{declared.scanner.ScannerActor.ScannerActor, declared.node.WorldNode.WorldNode}
 use Rattle.snap_world.specs.{declared.node.NodePhase.TheVariants.Up, declared.event.Event.TheVariants.Serve}
 use Rattle.snap_world.specs.{declared.event.Event.Event, declared.event.Reply.TheVariants.NotNow}
 use Rattle.snap_world.specs.{declared.event.Reply.Reply, declared.drive.Drive.Drive, Phases.Phases}
@@ -88,21 +88,21 @@ module _ (n : ℕ) (h : List Update) (ss : List WriterState) (ps : List WriterPh
 pub same_phases : (p q : WorldPhases) → q.node ≡ p.node → q.actors ≡ p.actors → q.calls ≡ p.calls → q ≡ p
 same_phases p q node actors calls = search rules
 
-pub is_up : (w : Node) (x : State) → w.phase ≡ Up → NodeStands w x → IsUp w.actors w.drives.items x
+pub is_up : (w : WorldNode) (x : State) → w.phase ≡ Up → NodeStands w x → IsUp w.actors w.drives.items x
 is_up w x up stands = subst (IsNodeAt w.actors w.drives.items x) up stands.at
 
-pub actors_of : (w : Node) → w.phase ≡ Up → NodeStand w → Stand w.actors
+pub actors_of : (w : WorldNode) → w.phase ≡ Up → NodeStand w → Stand w.actors
 actors_of w up t = ∥∥₁_map t (λ q. (q.0, (is_up w q.0 up q.1).actors_stand))
 
 -- an event of an actor, as one of the node, also if memory may have run out
-pub acts : (w : Node) (actors : Actors) (event act : Event) (reply : Reply) → event ≡ act → w.phase ≡ Up
+pub acts : (w : WorldNode) (actors : Actors) (event act : Event) (reply : Reply) → event ≡ act → w.phase ≡ Up
     → IsActorsStep w.actors act reply actors → IsNodeStep w event reply (record w { actors = actors })
 acts w actors event act reply is up s = subst (λ e. IsNodeStep w e reply
     (record w { actors = actors })) (sym is) (subst (λ z. IsNodeStep (record w { phase = z }) act reply
     (record w { phase = z; actors = actors })) (sym up) (s.each w.drives))
 
-pub acts_or_fails : (w : Node) (actors : Actors) (event act : Event) (result : Result Reply AllocError) → event ≡ act
-    → w.phase ≡ Up → IfOk result (λ reply. IsActorsStep w.actors act reply actors)
+pub acts_or_fails : (w : WorldNode) (actors : Actors) (event act : Event) (result : Result Reply AllocError)
+    → event ≡ act → w.phase ≡ Up → IfOk result (λ reply. IsActorsStep w.actors act reply actors)
     → IfOk result (λ reply. IsNodeStep w event reply (record w { actors = actors }))
 acts_or_fails w actors event act (Ok reply) is up s = acts w actors event act reply is up s
 acts_or_fails w actors event act (Err error) is up s = tt
@@ -112,7 +112,8 @@ abbrev pub up_at : Vec Drive → Phases → WorldPhases
 up_at ds p = record { node = Up; actors = p; calls = map store_left ds.items }
 
 -- an event that came, by what it does from each state
-pub steps : (w v : Node) (event : Event) (reply : Reply) → (reply ≡ NotNow → ⊥) → v.actors.segments ≡ w.actors.segments
+pub steps : (w v : WorldNode) (event : Event) (reply : Reply) → (reply ≡ NotNow → ⊥)
+    → v.actors.segments ≡ w.actors.segments
     → ((x : State) → NodeStands w x → MayCome x (phases_of_node w) event × PhasesMove w.actors.segments x
     (phases_of_node w) event reply (phases_of_node v) × GatesTold event reply (phases_of_node v) (devices_of_node v)
     × ((y : State) × Step w.actors.segments x event reply y × DevicesMove w.actors.segments x (phases_of_node w)
@@ -145,7 +146,7 @@ came w v event reply ne keeps segments step may phases = record {
 
 -- an actor moves, and no device
 module _ (w : Actors) (ds : List Drive) (x : State) (up : IsUp w ds x) (i : ℕ) where
-  pub writer_goes : (a : Writer) (old s : WriterState) → i < w.segments → slice_get x.writers i ≡ Some old
+  pub writer_goes : (a : WriterActor) (old s : WriterState) → i < w.segments → slice_get x.writers i ≡ Some old
       → s.view ≡ old.view → WriterStands w.segments x.history up.actors_stand.since i a s
       → ((d : Drive) → slice_get ds i ≡ Some d → DriveStands w.segments x.history i a.phase s.pending d)
       → IsUp (with_actors_writer w i a) ds (with_writer x i s)
@@ -156,12 +157,13 @@ module _ (w : Actors) (ds : List Drive) (x : State) (up : IsUp w ds x) (i : ℕ)
         (phases_of_actors w).writers ds up.drives_stand i s a.phase drive);
   }
 
-  pub scanner_goes : (a : Scanner) (s : ScannerState) → i < length w.scanners.items → ScannerStands w.segments x.history
+  pub scanner_goes : (a : ScannerActor) (s : ScannerState) → i < length w.scanners.items
+      → ScannerStands w.segments x.history
       up.actors_stand.since i a s → IsUp (with_actors_scanner w i a) ds (with_scanner x i s)
   scanner_goes a s l here = search (rules, scanner_moves)
 
 -- an event that may not come
-pub refuses : (w : Node) (event : Event) → ((x : State) → NodeStands w x → MayCome x (phases_of_node w) event → ⊥)
+pub refuses : (w : WorldNode) (event : Event) → ((x : State) → NodeStands w x → MayCome x (phases_of_node w) event → ⊥)
     → IsNodeStep w event NotNow w
 refuses w event not = record {
   segments = refl;
@@ -185,5 +187,5 @@ refuses w event not = record {
         → DevicesMove n x p ds event NotNow y ds
     no_change n x p ds event y = refl
 
--- what `Node::step` passes on
+-- what `WorldNode::step` passes on
 pub ruleset node_acts = (actors_of, acts, acts_or_fails)

@@ -22,11 +22,11 @@ use Rattle.std.proofs.Common.{refl, ap, sym, ◌∙◌, subst, arith, ◌⊎◌,
 use Rattle.std.proofs.lemmas.Option.{get_or_from_slice_get, slice_get_within, same_Some}
 use Rattle.snap_scan.proofs.{Sets.some}
 use Rattle.snap_scan.specs.{declared.set.SegmentSet.SegmentSet}
-use Rattle.snap_world.specs.{NodePhases.WorldPhases, NodePhases.LooksOn, declared.scanner.Scanner.Scanner}
+use Rattle.snap_world.specs.{NodePhases.WorldPhases, NodePhases.LooksOn, declared.scanner.ScannerActor.ScannerActor}
 use Rattle.snap_world.specs.{declared.scanner.ScannerPhase.ScannerPhase, declared.scanner.Asked.TheVariants.All}
 use Rattle.snap_world.specs.{declared.scanner.Asked.TheVariants.Only, declared.scanner.Asked.Asked}
 use Rattle.snap_world.specs.{declared.collector.Collector.Collector, declared.writer.WriterPhase.WriterPhase}
-use Rattle.snap_world.specs.{declared.writer.Writer.Writer, declared.register.Register.Register}
+use Rattle.snap_world.specs.{declared.writer.WriterActor.WriterActor, declared.register.Register.Register}
 use Rattle.snap_world.specs.{declared.drive.Drive.Drive, declared.actors.Actors.Actors}
 use Rattle.snap_world.specs.{declared.event.Event.TheVariants.Answer, declared.event.Event.TheVariants.Look}
 use Rattle.snap_world.specs.{declared.event.Reply.Reply, inside.NodeStands.IsUp, inside.Drives.DriveStands}
@@ -58,7 +58,7 @@ entries h set memory p seen = same (named set) (λ place j at.
       same [] alike = refl
       same (j ∷ js) alike = cc (alike 0 j refl, same js (λ place. alike (suc place)))
 
-module _ (w : Actors) (i : ℕ) (a : Scanner) where
+module _ (w : Actors) (i : ℕ) (a : ScannerActor) where
   moves : (p : ScannerPhase) → a.phase ≡ p → (ds : Vec Drive)
       → up_at ds (phases_of_actors (with_actors_scanner w i a)) ≡ up_at ds (scanner_to (phases_of_actors w) i p)
   moves p e ds = ap (up_at ds) (scanner_moved w i a ∙ ap (scanner_to (phases_of_actors w) i) e)
@@ -142,7 +142,7 @@ module _ {n set k : ℕ} {x : State} {s t : ScanState} {c : Collector} (look : I
       → phases r ≡ next → Ends c p r q → LooksOn set (s.told ++ k ∷ []) now next (phases q)
   looks_on phases p r q now next kept moved ends = grind (arith, ends_in, undecided, decided, look.after)
 
-module _ (w : Actors) (i : ℕ) (is : WriterIs (phases_of_actors w) i writer.Scanning) (old : Writer)
+module _ (w : Actors) (i : ℕ) (is : WriterIs (phases_of_actors w) i writer.Scanning) (old : WriterActor)
     (read : old ≡ get_or w.writers.items i old) where
   module _ (x : State) (stands : ActorsStand w x) where
     -- the set of the embedded scan, and the writer's part
@@ -161,7 +161,7 @@ module _ (w : Actors) (i : ℕ) (is : WriterIs (phases_of_actors w) i writer.Sca
   module _ (k : ℕ) (c : Collector) (look : IsLookOf w.registers.items old.collector k c)
       (q : WriterPhase) (ends : Ends c writer.Scanning writer.Storing q) where
     -- the writer in its phase after the look
-    abbrev writer_in : WriterPhase → Writer
+    abbrev writer_in : WriterPhase → WriterActor
     writer_in p = record old { phase = p; collector = c }
 
     module _ (x : State) (stands : ActorsStand w x) where
@@ -214,7 +214,7 @@ OfScan n P Closed = Unit {0}
 OfScan n P (Opened asked s) = P (set_of n asked) s.told
 
 module _ (w : Actors) (i : ℕ) (is : ScannerIs (phases_of_actors w) i scanner.Scanning)
-    (old : Scanner) (read : old ≡ get_or w.scanners.items i old) where
+    (old : ScannerActor) (read : old ≡ get_or w.scanners.items i old) where
   -- the set of the scan
   abbrev set : ℕ
   set = set_of w.segments old.asked
@@ -230,7 +230,7 @@ module _ (w : Actors) (i : ℕ) (is : ScannerIs (phases_of_actors w) i scanner.S
   module _ (k : ℕ) (c : Collector) (look : IsLookOf w.registers.items old.collector k c)
       (q : ScannerPhase) (ends : Ends c scanner.Scanning scanner.Ready q) where
     -- the scanner in its phase after the look
-    abbrev scanner_in : ScannerPhase → Scanner
+    abbrev scanner_in : ScannerPhase → ScannerActor
     scanner_in p = record old { phase = p; collector = c }
 
     module _ (x : State) (stands : ActorsStand w x) where

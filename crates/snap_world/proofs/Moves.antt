@@ -20,8 +20,8 @@ use Rattle.std.proofs.{lemmas.Option.slice_get_read, lemmas.Option.same_Some, le
 use Rattle.std.proofs.{lemmas.List.length_push}
 use Rattle.std.specs.{Vec.with_item}
 use Rattle.snap_world.specs.{inside.Steps.phases_of_actors, declared.scanner.ScannerPhase.ScannerPhase}
-use Rattle.snap_world.specs.{declared.scanner.Scanner.Scanner, declared.writer.WriterPhase.WriterPhase}
-use Rattle.snap_world.specs.{declared.writer.Writer.Writer, declared.collector.Collector.Collector}
+use Rattle.snap_world.specs.{declared.scanner.ScannerActor.ScannerActor, declared.writer.WriterPhase.WriterPhase}
+use Rattle.snap_world.specs.{declared.writer.WriterActor.WriterActor, declared.collector.Collector.Collector}
 use Rattle.snap_world.specs.{declared.register.Register.Register, declared.actors.Actors.Actors, Phases.WriterIs}
 use Rattle.snap_world.specs.{Phases.ScannerIs}
 use Rattle.snap_world.proofs.{Looks.number_now, Looks.first_look, Elements.each-set}
@@ -38,7 +38,7 @@ Gathers-none n set h c some among set_is told next long =
     let first = first_look set c.scan.next some next_is in (search (rules, Collects-none))
 
 -- the part of a writer in phase p, and of a scanner
-pub record WriterFound (n : ℕ) (h : List Update) (g i : ℕ) (parts : List WriterState) (a : Writer)
+pub record WriterFound (n : ℕ) (h : List Update) (g i : ℕ) (parts : List WriterState) (a : WriterActor)
     (p : WriterPhase) : Type 0 where
   pub state : WriterState
   pub there : slice_get parts i ≡ Some state
@@ -46,7 +46,7 @@ pub record WriterFound (n : ℕ) (h : List Update) (g i : ℕ) (parts : List Wri
   pub fenced : state.fenced ≡ is_fenced p
   pub phase : IsAtPhase n h g i a state p
 
-pub record ScannerFound (n : ℕ) (h : List Update) (g i : ℕ) (parts : List ScannerState) (a : Scanner)
+pub record ScannerFound (n : ℕ) (h : List Update) (g i : ℕ) (parts : List ScannerState) (a : ScannerActor)
     (p : ScannerPhase) : Type 0 where
   pub state : ScannerState
   pub there : slice_get parts i ≡ Some state
@@ -59,14 +59,14 @@ module _ (w : Actors) (x : State) (stands : ActorsStand w x) where
   within i is = search (rules, writer_there)
 
   -- the writer or the scanner that was read, which is in phase p, with the part that it represents
-  pub the_writer : (i : ℕ) {p : WriterPhase} → WriterIs (phases_of_actors w) i p → (a : Writer)
+  pub the_writer : (i : ℕ) {p : WriterPhase} → WriterIs (phases_of_actors w) i p → (a : WriterActor)
       → a ≡ get_or w.writers.items i a → WriterFound w.segments x.history stands.since i x.writers a p
   the_writer i is a read =
       let here = writer_read w i is a read in
       let s = partner (WriterStands w.segments x.history stands.since) w.writers.items x.writers
       i a stands.writers here.0 in search rules
 
-  pub the_scanner : (i : ℕ) {p : ScannerPhase} → ScannerIs (phases_of_actors w) i p → (a : Scanner)
+  pub the_scanner : (i : ℕ) {p : ScannerPhase} → ScannerIs (phases_of_actors w) i p → (a : ScannerActor)
       → a ≡ get_or w.scanners.items i a → ScannerFound w.segments x.history stands.since i x.scanners a p
   the_scanner i is a read =
       let here = scanner_read w i is a read in
@@ -79,7 +79,7 @@ module _ (w : Actors) (x : State) (stands : ActorsStand w x) where
   the_register i r l e = stands.registers.each i r (slice_get_read w.registers.items w.segments i r (search rules) l e)
 
   -- a writer whose view stayed
-  pub writer_moves : (i : ℕ) (a : Writer) (old s : WriterState) → i < w.segments → slice_get x.writers i ≡ Some old
+  pub writer_moves : (i : ℕ) (a : WriterActor) (old s : WriterState) → i < w.segments → slice_get x.writers i ≡ Some old
       → s.view ≡ old.view → WriterStands w.segments x.history stands.since i a s
       → ActorsStand (with_actors_writer w i a) (with_writer x i s)
   writer_moves i a old s l there same here =
@@ -93,7 +93,8 @@ module _ (w : Actors) (x : State) (stands : ActorsStand w x) where
             regs.views;
       } in search (rules, Pairs-set, now)
 
-  pub scanner_moves : (i : ℕ) (a : Scanner) (s : ScannerState) → i < length w.scanners.items → ScannerStands w.segments
+  pub scanner_moves : (i : ℕ) (a : ScannerActor) (s : ScannerState) → i < length w.scanners.items
+      → ScannerStands w.segments
       x.history stands.since i a s → ActorsStand (with_actors_scanner w i a) (with_scanner x i s)
   scanner_moves i a s l here = search (rules, Pairs-set)
 
@@ -123,7 +124,7 @@ module _ (h : List Update) (u : Update) where
     Gathers-grow : (set : ℕ) (s : ScanState) (c : Collector) → Gathers n set h s c → Gathers n set (h ++ u ∷ []) s c
     Gathers-grow set s c g = search (rules, later, Gathered-grow)
 
-    module _ (since i : ℕ) (w : Writer) (s : WriterState) (ne : u.segment ≢ i) where
+    module _ (since i : ℕ) (w : WriterActor) (s : WriterState) (ne : u.segment ≢ i) where
       HasBegun-grow : HasBegun n h since i w.value w.collector s
           → HasBegun n (h ++ u ∷ []) since i w.value w.collector s
       HasBegun-grow g =
@@ -137,7 +138,7 @@ module _ (h : List Update) (u : Update) where
       WriterStands-grow : WriterStands n h since i w s → WriterStands n (h ++ u ∷ []) since i w s
       WriterStands-grow g = record { size = g.size; fenced = g.fenced; phase = phase-grow w.phase g.phase }
 
-    module _ (since i : ℕ) (c : Scanner) (s : ScannerState) where
+    module _ (since i : ℕ) (c : ScannerActor) (s : ScannerState) where
       scanner_phase-grow : (p : ScannerPhase) → IsScannerAt n h since c s p → IsScannerAt n (h ++ u ∷ []) since c s p
       scanner_phase-grow scanner.Idle g = g
       scanner_phase-grow scanner.Scanning g = (g.0, g.1, g.2, Gathers-grow (set_of n c.asked) g.0 c.collector g.3, g.4)
@@ -182,7 +183,8 @@ module _ (w : Actors) (x : State) (stands : ActorsStand w x) (i : ℕ) (v : List
   abbrev pub grown : List Update
   grown = x.history ++ record { segment = i; value = v } ∷ []
 
-  pub world_shows : (r : Register) (a : Writer) (s : WriterState) → i < w.segments → RegisterStands w.segments grown i r
+  pub world_shows : (r : Register) (a : WriterActor) (s : WriterState) → i < w.segments
+      → RegisterStands w.segments grown i r
       → ViewStands w.segments grown stands.since i r s.view → WriterStands w.segments grown stands.since i a s
       → ActorsStand (record w {
         registers = with_item w.registers i r;
@@ -224,7 +226,7 @@ pub whole : (n : ℕ) (h : List Update) (memory : List (List ℕ)) (p : ℕ) →
 whole n h memory p most long seen = record { size = long; values = λ i l. seen i i (all_at n most i l) }
 
 -- the moment of the answer is after the writer's update before, and the writer has had no update since
-pub own_moment : (n : ℕ) (h : List Update) (since i : ℕ) (a : Writer) (s : WriterState)
+pub own_moment : (n : ℕ) (h : List Update) (since i : ℕ) (a : WriterActor) (s : WriterState)
     (begun : HasBegun n h since i a.value a.collector s) (p : ℕ) → s.scan.start ≤ p → p ≤ s.scan.last
     → number_at h p i ≡ number_after from_nothing h i
 own_moment n h since i a s begun p lo hi =

@@ -4,9 +4,10 @@ use Rattle.snap_world.specs.Machine.{State, WriterState, ScannerState, Closed, r
 use Rattle.snap_world.specs.inside.Fresh.{Each, IsFreshRegister, IsFreshWriter, IsFreshScanner}
 use Rattle.std.proofs.Common.{rules, ◌≡◌, ℕ, ◌<◌, ◌≤◌, length, Some, None, slice_get, ap, sym, ◌∙◌, arith}
 use Rattle.snap_history.proofs.{Lists.get-replicate}
-use Rattle.snap_world.specs.{Start.start_state, Start.start_phases, declared.scanner.Scanner.Scanner}
+use Rattle.snap_world.specs.{Start.start_state, Start.start_phases, declared.scanner.ScannerActor.ScannerActor}
 use Rattle.snap_world.specs.{declared.register.Register.Register, declared.actors.Actors.Actors}
-use Rattle.snap_world.specs.{declared.writer.Writer.Writer, inside.NodeStands.IsSized, inside.NodeStands.ActorsRest}
+use Rattle.snap_world.specs.{declared.writer.WriterActor.WriterActor, inside.NodeStands.IsSized}
+use Rattle.snap_world.specs.{inside.NodeStands.ActorsRest}
 use Rattle.snap_world.specs.{inside.Gathers.RegisterStands, inside.Steps.phases_of_actors, inside.Stands.ActorsStand}
 use Rattle.snap_world.proofs.{Elements.all_same, Looks.number_now}
 use Rattle.std.proofs.{lemmas.List.length-replicate}
@@ -54,6 +55,7 @@ starts w count least most nr nw ns regs writers scanners = search (rules, idle_s
 
 -- if all actors are idle
 pub phases_idle : (w : Actors) (segments count : ℕ) → length w.writers.items ≡ segments
-    → length w.scanners.items ≡ count → Each (λ (a : Writer). a.phase ≡ writer.Idle) w.writers.items
-    → Each (λ (c : Scanner). c.phase ≡ scanner.Idle) w.scanners.items → phases_of_actors w ≡ start_phases segments count
+    → length w.scanners.items ≡ count → Each (λ (a : WriterActor). a.phase ≡ writer.Idle) w.writers.items
+    → Each (λ (c : ScannerActor). c.phase ≡ scanner.Idle) w.scanners.items
+    → phases_of_actors w ≡ start_phases segments count
 phases_idle w segments count nw ns writers scanners = search (rules, all_same)

@@ -18,8 +18,8 @@ use Rattle.std.proofs.Common.{rules, ◌≡◌, ℕ, ◌+◌, ◌<◌, ◌≤◌
 use Rattle.std.proofs.Common.{sym, ◌∙◌, subst, arith, get_or, slice_set, refl}
 use Rattle.snap_history.specs.History.{Update, from_nothing, number_after, value_after}
 use Rattle.snap_world.specs.{inside.Fresh.IsHalted, inside.Fresh.IsScannerHalted, inside.Steps.phases_of_actors}
-use Rattle.snap_world.specs.{declared.writer.WriterPhase.WriterPhase, declared.writer.Writer.Writer}
-use Rattle.snap_world.specs.{declared.actors.Actors.Actors, declared.node.Node.Node}
+use Rattle.snap_world.specs.{declared.writer.WriterPhase.WriterPhase, declared.writer.WriterActor.WriterActor}
+use Rattle.snap_world.specs.{declared.actors.Actors.Actors, declared.node.WorldNode.WorldNode}
 use Rattle.snap_world.specs.{declared.node.OpeningCall.OpeningCall, declared.node.NodePhase.NodePhase}
 use Rattle.snap_world.specs.{declared.drive.Drive.Drive, declared.event.Event.Event}
 use Rattle.snap_world.specs.{declared.event.Event.TheVariants.RestartCall, declared.event.Event.TheVariants.RestartFail}
@@ -40,7 +40,8 @@ use Rattle.snap_world.specs.declared.node.OpeningCall.TheVariants as opening
 use Rattle.snap_world.specs.declared.writer.WriterPhase.TheVariants as writer
 use Rattle.snap_world.specs.declared.event.Kind.TheVariants as kind
 
-module _ (n : ℕ) (h : List Update) (g i : ℕ) (a : Writer) (s : WriterState) (d : Device) (persist : PersistState) where
+module _ (n : ℕ) (h : List Update) (g i : ℕ) (a : WriterActor) (s : WriterState) (d : Device)
+    (persist : PersistState) where
   abbrev k : ℕ
   k = number_after from_nothing h i
 
@@ -76,7 +77,7 @@ up_leaves actors ds x up i d s ed es =
     let stand = up.actors_stand in
     let a = element actors.writers.items i (omega (arith, stand.writers.size, slice_get_within x.writers i s es)) in
     let here : WriterStands actors.segments x.history stand.since i a.0 s = stand.writers.each i a.0 s a.1 es in
-    let phase = map_at (λ (v : Writer). v.phase) actors.writers.items i a.0 a.1 in
+    let phase = map_at (λ (v : WriterActor). v.phase) actors.writers.items i a.0 a.1 in
     phase_leaves actors.segments x.history stand.since i a.0 s
     (device_of d) d.persist a.0.phase here.phase (up.drives_stand i d s a.0.phase ed es phase)
 
@@ -172,7 +173,8 @@ crashed_calls ds es fills size crash = map_same store_left es ds (sym crash.size
     ap (λ (o : PersistState). calls_left o.stage) (crash.each i d e ed ee f.0 f.1).persist))
 
 -- how many devices there are
-pub few_drives : (w : Node) → NodeStand w → (length w.drives.items ≤ 16) × (length w.drives.items ≡ w.actors.segments)
+pub few_drives : (w : WorldNode) → NodeStand w
+    → (length w.drives.items ≤ 16) × (length w.drives.items ≡ w.actors.segments)
 few_drives w t = ∥∥₁_elim t (hlevel props) (search (rules, sized))
 
 -- one device changes, after which a crash leaves no more than before
@@ -212,7 +214,7 @@ after_read : (actors : Actors) (ds : List Drive) (x : State) (n i : ℕ) → n �
     → IsRecovering actors ds x (i + 1) (i + 1) → IsNodeAt actors ds x (after_opening_call n i opening.Read)
 after_read actors ds x n i size low at = search (rules, nat_tests)
 
-module _ (w : Node) (i : ℕ) (call : OpeningCall) (restarting : w.phase ≡ Restarting i call) where
+module _ (w : WorldNode) (i : ℕ) (call : OpeningCall) (restarting : w.phase ≡ Restarting i call) where
   -- the segment whose call is next exists
   module _ (x : State) (stands : NodeStands w x) where
     at_call : (i < w.actors.segments) × IsRestarting w.actors w.drives.items x i call
@@ -227,7 +229,7 @@ module _ (w : Node) (i : ℕ) (call : OpeningCall) (restarting : w.phase ≡ Res
   pub opening_fits : NodeStand w → i < vec_len w.drives
   opening_fits stand = let low = opening_within stand in omega (arith, w.drives.ok.0)
 
-module _ (w : Node) (i : ℕ) (d : Drive) (read : d ≡ get_or w.drives.items i d) (e : Drive)
+module _ (w : WorldNode) (i : ℕ) (d : Drive) (read : d ≡ get_or w.drives.items i d) (e : Drive)
     (persist : e.persist ≡ d.persist) where
   -- the phases, of which only the node's has moved
   phases_to : (phase : NodePhase) → phases_of_node (record w {
@@ -239,7 +241,7 @@ module _ (w : Node) (i : ℕ) (d : Drive) (read : d ≡ get_or w.drives.items i 
 
   -- a call of a restart leaves the state, and the node in this phase
   opening_step : (call : OpeningCall) → w.phase ≡ Restarting i call → (event : Event) (reply : Reply)
-      (phase : NodePhase) → let v : Node = record w { phase = phase; drives = with_item w.drives i e } in
+      (phase : NodePhase) → let v : WorldNode = record w { phase = phase; drives = with_item w.drives i e } in
       (reply ≡ NotNow → ⊥) → ((x : State) → MayCome x (phases_of_node w) event
       × Step w.actors.segments x event reply x × GatesTold event reply (phases_of_node v) (devices_of_node v))
       → ((x : State) → NodeStands w x → slice_get w.drives.items i ≡ Some d → i < w.actors.segments
@@ -290,7 +292,7 @@ module _ (w : Node) (i : ℕ) (d : Drive) (read : d ≡ get_or w.drives.items i 
       )))
 
 -- the bytes that a restart reads are the file of its segment
-a_file : (w : Node) (i : ℕ) → w.phase ≡ Restarting i opening.Read → (d : Drive)
+a_file : (w : WorldNode) (i : ℕ) → w.phase ≡ Restarting i opening.Read → (d : Drive)
     → d ≡ get_or w.drives.items i d → (n : ℕ) → length w.drives.items ≡ n → (x : State)
     → NodeStands w x → (k : ℕ) × (v : List ℕ) × IsFileOf i n k v (device_of d).bytes
 a_file w i restarting d read n count x stands =
@@ -306,7 +308,7 @@ a_file w i restarting d read n count x stands =
     let File : ℕ → List ℕ → ℕ → Type 0 = λ k v n. IsFileOf i n k v (device_of d).bytes in
     let size : w.actors.segments ≡ n = sym stands.drives_n ∙ count in search rules
 
-pub some_file : (w : Node) (i : ℕ) → NodeStand w → w.phase ≡ Restarting i opening.Read → (d : Drive)
+pub some_file : (w : WorldNode) (i : ℕ) → NodeStand w → w.phase ≡ Restarting i opening.Read → (d : Drive)
     → d ≡ get_or w.drives.items i d → (n : ℕ) → length w.drives.items ≡ n
     → ∥ ((k : ℕ) × (v : List ℕ) × IsFileOf i n k v (device_of d).bytes) ∥₁
 some_file w i t restarting d read n count = ∥∥₁_map t (λ q. a_file w i restarting d read n count q.0 q.1)

@@ -19,7 +19,8 @@ use Rattle.snap_history.specs.{Pairs.Pairs}
 use Rattle.snap_history.proofs.{Pairs.element}
 use Rattle.snap_world.specs.{inside.Steps.phases_of_actors, inside.NodeSteps.store_left, inside.Stands.ActorsStand}
 use Rattle.snap_world.specs.{inside.Gathers.RegisterStands, declared.node.NodePhase.TheVariants.Ready}
-use Rattle.snap_world.specs.{declared.node.Node.Node, declared.register.Register.Register, declared.drive.Drive.Drive}
+use Rattle.snap_world.specs.{declared.node.WorldNode.WorldNode, declared.register.Register.Register}
+use Rattle.snap_world.specs.{declared.drive.Drive.Drive}
 use Rattle.snap_world.specs.{declared.actors.Actors.Actors, Devices.IsServed, Devices.AreServed, NodePhases.all_idle}
 use Rattle.snap_world.proofs.{NewWorld.phases_idle, NewWorld.idle_stand}
 use Rattle.snap_disk.specs.{Device.Device, Device.IsSettled, Image.image_device}
@@ -102,7 +103,7 @@ marks-exist A B (s ∷ ss) given =
       | inr b ↦ (true ∷ rest.0, given_cons A B s ss true rest.0 (inr (b.0, ap begun_value b.1, b.2)) rest.1)
     ]
 
-module _ (w : Node) (x : State) (stands : NodeStands w x) (is_ready : w.phase ≡ Ready) where
+module _ (w : WorldNode) (x : State) (stands : NodeStands w x) (is_ready : w.phase ≡ Ready) where
   abbrev pub n : ℕ
   n = w.actors.segments
 
@@ -287,7 +288,7 @@ module _ (w : Node) (x : State) (stands : NodeStands w x) (is_ready : w.phase �
     idle_phases = search (rules, phases_idle, length-map)
 
 -- the facts for the code
-module _ (w : Node) (t : NodeStand w) where
+module _ (w : WorldNode) (t : NodeStand w) where
   pub all_readable : w.phase ≡ Ready → ∥ AllReadable w.drives.items ∥₁
   all_readable is = ∥∥₁_map t (λ q. readable w q.0 q.1 is)
 

@@ -24,7 +24,8 @@ use Rattle.snap_slot.proofs.{Blocks.length-body_block}
 use Rattle.snap_persist.specs.{declared.persist.Stage.Stage, declared.persist.NextCall.NextCall}
 use Rattle.snap_persist.specs.{declared.persist.Write.Write}
 use Rattle.snap_world.specs.{Calls.store_call, inside.Steps.phases_of_actors, inside.Stands.ActorsStand}
-use Rattle.snap_world.specs.{inside.Stands.HasBegun, declared.node.Node.Node, declared.writer.Writer.Writer}
+use Rattle.snap_world.specs.{inside.Stands.HasBegun, declared.node.WorldNode.WorldNode}
+use Rattle.snap_world.specs.{declared.writer.WriterActor.WriterActor}
 use Rattle.snap_world.specs.{declared.writer.WriterPhase.WriterPhase, declared.actors.Actors.Actors}
 use Rattle.snap_world.specs.{declared.event.Reply.TheVariants.Called, declared.event.Reply.TheVariants.DeviceFailed}
 use Rattle.snap_world.specs.{declared.event.Event.TheVariants.Call, declared.event.Event.TheVariants.Fail}
@@ -96,10 +97,10 @@ pub not_done : (at : Stage) → (first_call (calls_left at) ≡ next.Done → �
 not_done at not none = not (ap first_call none)
 
 -- the node with one device and its actors changed
-abbrev pub with_drive : Node → ℕ → Drive → Actors → Node
+abbrev pub with_drive : WorldNode → ℕ → Drive → Actors → WorldNode
 with_drive w i e actors = record w { actors = actors; drives = with_item w.drives i e }
 
-module _ (w : Node) (x : State) (stands : NodeStands w x) (i : ℕ) (may : MayStore w i) where
+module _ (w : WorldNode) (x : State) (stands : NodeStands w x) (i : ℕ) (may : MayStore w i) where
   abbrev n : ℕ
   n = w.actors.segments
 
@@ -112,9 +113,9 @@ module _ (w : Node) (x : State) (stands : NodeStands w x) (i : ℕ) (may : MaySt
   up : IsUp w.actors w.drives.items x
   up = is_up w x may.0 stands
 
-  pub found : (a : Writer) × (a ≡ get_or w.actors.writers.items i a)
+  pub found : (a : WriterActor) × (a ≡ get_or w.actors.writers.items i a)
   found =
-      let a = map_element (λ (z : Writer). z.phase) w.actors.writers.items i writer.Storing may.1 in
+      let a = map_element (λ (z : WriterActor). z.phase) w.actors.writers.items i writer.Storing may.1 in
       (a.0, sym (get_or_from_slice_get w.actors.writers.items i a.0 a.0 a.1))
 
   pub store_within : i < w.actors.segments
@@ -134,7 +135,7 @@ module _ (w : Node) (x : State) (stands : NodeStands w x) (i : ℕ) (may : MaySt
   pending_is t there z is = cc (same_Some at.state t (sym at.there ∙ there), begun.pending)
 
   -- the values that the code reads
-  pub value_is : (a : Writer) → a ≡ get_or w.actors.writers.items i a → a.value ≡ v
+  pub value_is : (a : WriterActor) → a ≡ get_or w.actors.writers.items i a → a.value ≡ v
   value_is a read = search (rules, same_read, writer_there)
 
   pub number_is : (r : Register) → r ≡ get_or w.actors.registers.items i r → r.number ≡ k
@@ -257,7 +258,7 @@ after_going : (p : WorldPhases) (w : ℕ) (calls : List NextCall) (q : WorldPhas
 after_going p w [] q going is = absurd (going refl)
 after_going p w (call ∷ calls) q going is = is
 
-module _ (w : Node) (i : ℕ) (d : Drive) (there : slice_get w.drives.items i ≡ Some d) where
+module _ (w : WorldNode) (i : ℕ) (d : Drive) (there : slice_get w.drives.items i ≡ Some d) where
   -- the calls that are left on this device, and the phases of the actors, change
   phases_with : (e : Drive) (calls : List NextCall) (actors : Actors) (p : Phases) → store_left e ≡ calls
       → phases_of_actors actors ≡ p → phases_of_node (with_drive w i e actors) ≡ record (phases_of_node w) {
@@ -289,7 +290,7 @@ module _ (w : Node) (i : ℕ) (d : Drive) (there : slice_get w.drives.items i �
     call_stores n x e actors asked next moved = search (rules, map_at, there, phases_with)
 
 -- the facts for the code
-module _ (w : Node) (i : ℕ) (may : MayStore w i) (t : NodeStand w) where
+module _ (w : WorldNode) (i : ℕ) (may : MayStore w i) (t : NodeStand w) where
   pub segment_there : i < w.actors.segments
   segment_there = ∥∥₁_elim t (hlevel props) (λ q. store_within w q.0 q.1 i may)
 
@@ -304,7 +305,7 @@ module _ (w : Node) (i : ℕ) (may : MayStore w i) (t : NodeStand w) where
   number_room r read = ∥∥₁_elim t (hlevel props) (λ q. (
       omega (arith, number_is w q.0 q.1 i may r read, (begun w q.0 q.1 i may).room)))
 
-  pub value_fits : (a : Writer) → a ≡ get_or w.actors.writers.items i a → length a.value ≤ 4080
+  pub value_fits : (a : WriterActor) → a ≡ get_or w.actors.writers.items i a → length a.value ≤ 4080
   value_fits a read = ∥∥₁_elim t (hlevel props) (λ q. subst (λ (z : List ℕ). length z ≤ 4080)
       (sym (value_is w q.0 q.1 i may a read)) (begun w q.0 q.1 i may).fits)
 

@@ -13,9 +13,9 @@ mod updates;
 
 use crate::event::{Actor, Reply};
 use crate::register::Register;
-use crate::scanner::{Scanner, ScannerPhase};
+use crate::scanner::{ScannerActor, ScannerPhase};
 use crate::start::{new_registers, new_scanners, new_writers};
-use crate::writer::{Writer, WriterPhase};
+use crate::writer::{WriterActor, WriterPhase};
 use std::alloc::{AllocError, Global};
 
 /// The writer of each segment and the scanners, with the registers of all segments.
@@ -23,8 +23,8 @@ use std::alloc::{AllocError, Global};
 pub struct Actors {
     pub segments: usize,
     pub registers: Vec<Register>,
-    pub writers: Vec<Writer>,
-    pub scanners: Vec<Scanner>,
+    pub writers: Vec<WriterActor>,
+    pub scanners: Vec<ScannerActor>,
 }
 
 impl Actors {
@@ -91,7 +91,7 @@ impl Actors {
 }
 
 /// Makes all writers idle.
-fn halt_writers(writers: &mut Vec<Writer>)
+fn halt_writers(writers: &mut Vec<WriterActor>)
     ensures { Pairs (λ i. IsHalted) writers.old.items writers.new.items }
 {
     for i in 0..writers.len() {
@@ -100,7 +100,7 @@ fn halt_writers(writers: &mut Vec<Writer>)
 }
 
 /// Makes all scanners idle.
-fn halt_scanners(scanners: &mut Vec<Scanner>)
+fn halt_scanners(scanners: &mut Vec<ScannerActor>)
     ensures { Pairs (λ i. IsScannerHalted) scanners.old.items scanners.new.items }
 {
     for i in 0..scanners.len() {

@@ -35,15 +35,15 @@ pub enum NodePhase {
 
 /// The actors in memory, and the device of each segment.
 #[derive(Drop)]
-pub struct Node {
+pub struct WorldNode {
     pub phase: NodePhase,
     pub actors: Actors,
     pub drives: Vec<Drive>,
 }
 
-impl Node {
+impl WorldNode {
     /// A node with formatted devices and idle actors.
-    pub fn new(alloc: Global, segments: usize, scanners: usize) -> Result<Node, AllocError>
+    pub fn new(alloc: Global, segments: usize, scanners: usize) -> Result<WorldNode, AllocError>
         requires least { 0 < segments }
         requires most { segments ≤ MAX_COUNT }
         ensures segments { IfOk result (λ w. w.actors.segments ≡ segments) }
@@ -53,7 +53,7 @@ impl Node {
     {
         let actors = Actors::new(alloc, segments, scanners)?;
         let drives = new_drives(alloc, segments)?;
-        Ok(Node {
+        Ok(WorldNode {
             phase: NodePhase::Up,
             actors,
             drives,

@@ -44,13 +44,13 @@ impl Asked {
 
 /// One scanner, with its scan and the segments that it was asked for.
 #[derive(Drop)]
-pub struct Scanner {
+pub struct ScannerActor {
     pub phase: ScannerPhase,
     pub asked: Asked,
     pub collector: Collector,
 }
 
-impl Scanner {
+impl ScannerActor {
     ghost use Rattle.snap_scan.specs.declared.set.SegmentSet.{SegmentSet};
 
     /// The reply: its memory, or the entries of the segments that it was asked for. Each segment of

@@ -5,9 +5,9 @@ ghost use Rattle.snap_world.specs.inside.Fresh.{IsFreshRegister, IsFreshWriter, 
 
 use crate::collector::Collector;
 use crate::register::Register;
-use crate::scanner::{Asked, Scanner, ScannerPhase};
+use crate::scanner::{Asked, ScannerActor, ScannerPhase};
 use crate::value::Value;
-use crate::writer::{Writer, WriterPhase};
+use crate::writer::{WriterActor, WriterPhase};
 use snap_scan::Scan;
 use std::alloc::{AllocError, Global};
 
@@ -51,7 +51,7 @@ pub fn new_registers(alloc: Global, segments: usize) -> Result<Vec<Register>, Al
 }
 
 /// Makes the writer of each segment.
-pub fn new_writers(alloc: Global, segments: usize) -> Result<Vec<Writer>, AllocError>
+pub fn new_writers(alloc: Global, segments: usize) -> Result<Vec<WriterActor>, AllocError>
     requires least { 0 < segments }
     requires most { segments ≤ MAX_COUNT }
     ensures { IfOk result (λ v. (length v.items ≡ segments) × Each (IsFreshWriter segments) v.items) }
@@ -59,7 +59,7 @@ pub fn new_writers(alloc: Global, segments: usize) -> Result<Vec<Writer>, AllocE
     let mut writers = Vec::new(alloc);
     for i in 0..segments {
         let collector = new_collector(alloc, segments)?;
-        writers.push(Writer {
+        writers.push(WriterActor {
             phase: WriterPhase::Idle,
             value: Value::new(),
             collector,
@@ -73,7 +73,7 @@ pub fn new_scanners(
     alloc: Global,
     segments: usize,
     count: usize,
-) -> Result<Vec<Scanner>, AllocError>
+) -> Result<Vec<ScannerActor>, AllocError>
     requires least { 0 < segments }
     requires most { segments ≤ MAX_COUNT }
     ensures { IfOk result (λ v. (length v.items ≡ count) × Each (IsFreshScanner segments) v.items) }
@@ -81,7 +81,7 @@ pub fn new_scanners(
     let mut scanners = Vec::new(alloc);
     for i in 0..count {
         let collector = new_collector(alloc, segments)?;
-        scanners.push(Scanner {
+        scanners.push(ScannerActor {
             phase: ScannerPhase::Idle,
             asked: Asked::All,
             collector,

@@ -9,7 +9,7 @@ ghost use Rattle.snap_world.specs.Start.{start_state, start_world_phases, AreFor
 ghost use Rattle.snap_world.specs.{Machine.State, inside.NodeStands.NodeStands, declared.event.Reply.Reply};
 
 use crate::event::{Event, Reply};
-use crate::node::Node;
+use crate::node::WorldNode;
 use std::alloc::{AllocError, Global};
 
 /// Memory ran out. The world is as it was after the first `done` events.
@@ -26,7 +26,7 @@ pub struct Stopped {
 #[derive(Drop)]
 pub struct World {
     alloc: Global,
-    node: Node,
+    node: WorldNode,
     ghost stands: { ∥ ((x : State) × NodeStands node x) ∥₁ },
 }
 
@@ -50,7 +50,7 @@ impl World {
         ensures devices { IfOk result (λ w. AreFormatted segments (devices_of w)) }
         ensures stands { IfOk result (λ w. StandsFor w (start_state segments scanners)) }
     {
-        let node = Node::new(alloc, segments, scanners)?;
+        let node = WorldNode::new(alloc, segments, scanners)?;
         Ok(World { alloc, node })
     }
 

@@ -21,7 +21,7 @@ pub enum WriterPhase {
 
 /// The writer of one segment, with the value of its update and the embedded scan.
 #[derive(Drop)]
-pub struct Writer {
+pub struct WriterActor {
     pub phase: WriterPhase,
     pub value: Value,
     pub collector: Collector,

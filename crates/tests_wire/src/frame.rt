@@ -9,7 +9,7 @@ use bytes::BytesMut;
 use messages::{Answer, SCAN, STORED, pieces_of, replies, requests, update};
 use snap_disk::Refusal;
 use snap_frame::{
-    Failure, Feed, Reply, ReplyFault, ReplyFeed, Request, write_reply, write_request,
+    Feed, FrameFault, Reply, ReplyFault, ReplyFeed, Request, write_reply, write_request,
 };
 use std::alloc::Global;
 use std::test::Fail;
@@ -174,8 +174,12 @@ fn too_large_and_malformed(rt: HostRuntime) -> Result<(), Fail> {
     reply_comes(&rt, &mut feed, &Err(ReplyFault::BadReply));
     reply_comes(&rt, &mut feed, &Ok(Some(Reply::Stored(1))));
     for _ in 0..2 {
-        reply_comes(&rt, &mut feed, &Err(ReplyFault::Failed(Failure::TooLarge)));
-        assert!(rt; feed.push(&[0]) == Err(Failure::TooLarge) && !feed.is_between());
+        reply_comes(
+            &rt,
+            &mut feed,
+            &Err(ReplyFault::Failed(FrameFault::TooLarge)),
+        );
+        assert!(rt; feed.push(&[0]) == Err(FrameFault::TooLarge) && !feed.is_between());
     }
     Ok(())
 }
@@ -286,7 +290,7 @@ fn is_reply_of(rt: &impl Host, alloc: Global, frame: &[u8], reply: &Reply) {
     let given = match feed.next() {
         Ok(Some(given)) => given,
         answer => {
-            assert!(rt; answer == Err(ReplyFault::Failed(Failure::NoMemory)));
+            assert!(rt; answer == Err(ReplyFault::Failed(FrameFault::NoMemory)));
             return reply_comes(rt, &mut feed, &answer);
         }
     };

@@ -12,7 +12,7 @@ const REST: u64 = 100;
 
 /// Whether a connection may wait to be accepted.
 #[derive(Clone, Copy, Debug, PartialEq, Eq, Drop)]
-pub(crate) enum Queue {
+pub(crate) enum AcceptQueue {
     /// No, until the system reports one.
     Empty,
     /// Perhaps: the system reports waiting connections only once, so the server accepts until none is left.
@@ -23,50 +23,50 @@ pub(crate) enum Queue {
 
 /// A non-blocking TCP listener.
 #[derive(Drop)]
-pub(crate) struct Listener {
+pub(crate) struct HttpListener {
     listener: TcpListener,
-    queue: Queue,
+    queue: AcceptQueue,
 }
 
-impl Listener {
+impl HttpListener {
     /// Registers the listener, so that the system reports new connections under this token.
     pub(crate) fn new(
         registry: &Registry,
         token: Token,
         listener: TcpListener,
-    ) -> io::Result<Listener>
-        ensures { IfOk result (λ listener. listener.queue ≡ Queue.Perhaps) }
+    ) -> io::Result<HttpListener>
+        ensures { IfOk result (λ listener. listener.queue ≡ AcceptQueue.Perhaps) }
     {
         let mut listener = listener;
         registry.register(&mut listener, token, Interest::READABLE)?;
-        Ok(Listener {
+        Ok(HttpListener {
             listener,
-            queue: Queue::Perhaps,
+            queue: AcceptQueue::Perhaps,
         })
     }
 
     /// Records that the system reported a new connection.
     pub(crate) fn mark_ready(&mut self)
-        ensures { self.new ≡ record self.old { queue = Queue.Perhaps } }
+        ensures { self.new ≡ record self.old { queue = AcceptQueue.Perhaps } }
     {
-        self.queue = Queue::Perhaps;
+        self.queue = AcceptQueue::Perhaps;
     }
 
     /// The longest wait before the next accept; `None` if the system reports the next connection.
     pub(crate) fn rest(&self) -> Option<Duration>
-        ensures { IsNone result ↔ (self.now.queue ≡ Queue.Empty) }
+        ensures { IsNone result ↔ (self.now.queue ≡ AcceptQueue.Empty) }
     {
         match self.queue {
-            Queue::Empty => None,
-            Queue::Perhaps => Some(Duration::ZERO),
-            Queue::Rests => Some(Duration::from_millis(REST)),
+            AcceptQueue::Empty => None,
+            AcceptQueue::Perhaps => Some(Duration::ZERO),
+            AcceptQueue::Rests => Some(Duration::from_millis(REST)),
         }
     }
 
     /// Accepts the next connection. `None` if none waits, or if the accept failed: then it is tried
     /// again later, and the other connections aren't affected.
     pub(crate) fn next(&mut self) -> Option<TcpStream> {
-        if let Queue::Empty = self.queue {
+        if let AcceptQueue::Empty = self.queue {
             return None;
         }
         match self.listener.accept() {
@@ -80,13 +80,13 @@ impl Listener {
 }
 
 /// Whether a connection may still wait after an accept failed with an error of this kind.
-fn queue_after(kind: ErrorKind) -> Queue
-    ensures { (result ≡ Queue.Empty) ↔ (kind ≡ ErrorKind.WouldBlock) }
+fn queue_after(kind: ErrorKind) -> AcceptQueue
+    ensures { (result ≡ AcceptQueue.Empty) ↔ (kind ≡ ErrorKind.WouldBlock) }
 {
     match kind {
-        ErrorKind::WouldBlock => Queue::Empty,
+        ErrorKind::WouldBlock => AcceptQueue::Empty,
         // The client has closed, or a signal arrived.
-        ErrorKind::ConnectionAborted | ErrorKind::Interrupted => Queue::Perhaps,
-        _ => Queue::Rests,
+        ErrorKind::ConnectionAborted | ErrorKind::Interrupted => AcceptQueue::Perhaps,
+        _ => AcceptQueue::Rests,
     }
 }

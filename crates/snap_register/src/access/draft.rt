@@ -11,7 +11,7 @@ ghost use mathlib.Core.List.{IsPrefix};
 
 use crate::access::Access;
 use crate::access::looks::load_word;
-use crate::setup::{Keep, Redraft, Reuse, TableSeat, WordTable};
+use crate::setup::{Redraft, Retain, Reuse, TableSeat, WordTable};
 use crate::view::View;
 use crate::words::{block_size, tail_word, word_of};
 
@@ -25,7 +25,7 @@ impl Access {
         number: u64,
         value: &[u8],
         is_filled: bool,
-    ) -> End
+    ) -> DraftEnd
         requires own { Owns (view_of self.old) i }
         requires buffer { IsFree (view_of self.old) b }
         requires empty { (draft_of self.old ≡ []) × IsShort value.now }
@@ -45,7 +45,7 @@ impl Access {
             self.draft(first + 2 + q, word_of(&value[from..from + 8]));
         }
         self.draft_tail(i, b, value, whole);
-        End {
+        DraftEnd {
             at: block_size(value.len()),
             is_aligned: is_filled && old_length == value.len() as u64,
         }
@@ -72,7 +72,7 @@ impl Access {
     }
 
     /// Appends the memory that the update carries to the draft.
-    pub(crate) fn copy_view(&mut self, i: usize, b: usize, end: End, view: &View)
+    pub(crate) fn copy_view(&mut self, i: usize, b: usize, end: DraftEnd, view: &View)
         requires own { Owns (view_of self.old) i }
         requires buffer { IsFree (view_of self.old) b }
         requires pinned { CanTake (view_of self.old) view.now }
@@ -90,7 +90,7 @@ impl Access {
     }
 
     // Appends the values of the last looks, one of each segment, to the draft.
-    fn copy_collected(&mut self, i: usize, b: usize, end: End)
+    fn copy_collected(&mut self, i: usize, b: usize, end: DraftEnd)
         requires own { Owns (view_of self.old) i }
         requires buffer { IsFree (view_of self.old) b }
         requires pinned { CanTake (view_of self.old) View.Collected }
@@ -108,7 +108,7 @@ impl Access {
     }
 
     // Appends the view of the pinned record of `j` to the draft.
-    fn copy_borrowed(&mut self, i: usize, b: usize, end: End, j: usize)
+    fn copy_borrowed(&mut self, i: usize, b: usize, end: DraftEnd, j: usize)
         requires own { Owns (view_of self.old) i }
         requires buffer { IsFree (view_of self.old) b }
         requires pinned { CanTake (view_of self.old) (View.Borrowed j) }
@@ -132,7 +132,7 @@ impl Access {
     //
     // A segment's number has one value. So where the free buffer has a block of the same number and length, at the end
     // of the draft, it has this block, and it stays.
-    fn copy_block(&mut self, i: usize, b: usize, end: End, j: usize, from: usize) -> End
+    fn copy_block(&mut self, i: usize, b: usize, end: DraftEnd, j: usize, from: usize) -> DraftEnd
         requires own { Owns (view_of self.old) i }
         requires buffer { IsFree (view_of self.old) b }
         requires pinned { HasPin (view_of self.old) j }
@@ -161,7 +161,7 @@ impl Access {
         } else if count > 2 {
             self.copy_rest(target + 2, j, from + 2, count - 2);
         }
-        End {
+        DraftEnd {
             at: end.at + count,
             is_aligned,
         }
@@ -187,7 +187,7 @@ impl Access {
         ensures same { (q : ℕ) → IsOld (view_of self.old) q place → HasDrafted self.old self.new (draft_of self.old
             ++ piece (old_words (view_of self.old)) (length (draft_of self.old)) (q + 1 - length (draft_of self.old))) }
     {
-        self.table.shared.load::<Keep>(&mut self.seat, place);
+        self.table.shared.load::<Retain>(&mut self.seat, place);
     }
 
     // Makes x the next word of the free buffer, which is at this place. Returns what it was before.
@@ -202,7 +202,7 @@ impl Access {
 
 /// Where a draft ends.
 #[derive(Clone, Copy)]
-pub(crate) struct End {
+pub(crate) struct DraftEnd {
     /// How many words it has.
     pub(crate) at: usize,
     /// Whether the next block of the record that the buffer held before begins there too.

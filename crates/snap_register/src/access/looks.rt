@@ -13,7 +13,7 @@ ghost use Rattle.snap_register.specs.Steps.{view_at, view_of, known_of, HasPin, 
 
 use crate::access::{Access, PIN_RANGE};
 use crate::setup::{GiveBack, Pin, Read, Revisit, TableSeat, WordTable};
-use crate::snapshot::{Held, SnapshotBuf};
+use crate::snapshot::{NumberedValue, SnapshotBuf};
 use crate::words::block_size;
 use bytes::Bytes;
 use snap_scan::SegmentSet;
@@ -27,7 +27,8 @@ impl Access {
         ensures below { IsBelow (known_of self.new) }
         ensures number { result ≡ number_in (known_of self.new) (known_of self.new).seen j }
         ensures looked { Looks (known_of self.old) (known_of self.new) j result }
-        ensures sights { (known_of self.new).sights ≡ (known_of self.old).sights ++ (known_of self.new).seen ∷ [] }
+        ensures look_records { (known_of self.new).look_records
+            ≡ (known_of self.old).look_records ++ (known_of self.new).seen ∷ [] }
         ensures left { self.new.left + 1 ≡ self.old.left }
         ensures same { (self.new.seat.table_id ≡ self.old.seat.table_id)
             × (self.new.seat.id ≡ self.old.seat.id) × (self.new.seat.me.1 ≡ self.old.seat.me.1) }
@@ -209,7 +210,7 @@ impl Access {
     }
 
     // Reads the block at this place if `is_named`. Returns how many words it takes.
-    fn read_named(&mut self, j: usize, at: usize, is_named: bool, out: &mut Held) -> usize
+    fn read_named(&mut self, j: usize, at: usize, is_named: bool, out: &mut NumberedValue) -> usize
         requires pinned { HasPin (view_of self.old) j }
         requires block { IsWhole (held (view_of self.old) j) at }
         ensures block { MatchBool is_named (out.new ≡ (
@@ -227,7 +228,7 @@ impl Access {
     }
 
     // Reads the number and the value of the block at this place. Returns how many words it takes.
-    fn read_block(&mut self, j: usize, at: usize, out: &mut Held) -> usize
+    fn read_block(&mut self, j: usize, at: usize, out: &mut NumberedValue) -> usize
         requires pinned { HasPin (view_of self.old) j }
         requires block { IsWhole (held (view_of self.old) j) at }
         ensures block { out.new ≡ (

@@ -5,7 +5,7 @@ ghost use Rattle.snap_register.specs.{History.only, Rule.Has, Rule.IsBelow};
 ghost use mathlib.Core.List.{IsPrefix};
 
 use crate::access::Access;
-use crate::setup::{Hear, JoinAnswer, JoinMessage, SplitMessenger, TableSeat, WordTable};
+use crate::setup::{CatchUp, JoinAnswer, JoinMessage, SplitMessenger, TableSeat, WordTable};
 
 impl Access {
     /// Joins what both seats have seen: afterwards this seat, which writes nothing, has seen what
@@ -58,5 +58,5 @@ fn hear(table: &WordTable, seat: &mut TableSeat)
     requires here { (view_at seat.old).spent ≡ false }
     ensures { (seat.new.table_id ≡ seat.old.table_id) × (seat.new.id ≡ seat.old.id) × HasHeard seat.old.me seat.new.me }
 {
-    table.shared.load::<Hear>(seat, 0);
+    table.shared.load::<CatchUp>(seat, 0);
 }

@@ -9,7 +9,7 @@ ghost use Rattle.snap_register.specs.{History.entry, History.number, Setup.IsPoo
 
 use crate::access::{Access, PIN_RANGE};
 use crate::plan::MAX_BUFFERS;
-use crate::setup::{Begin, Check, End, Publish};
+use crate::setup::{BeginStore, Check, EndStore, Publish};
 use crate::view::View;
 
 impl Access {
@@ -19,7 +19,7 @@ impl Access {
         ensures phase { self.new.seat.me ≡ (record (view_of self.old) { phase = Storing }, self.old.seat.me.1) }
         ensures same { IsSameSeat self.old self.new }
     {
-        self.table.shared.load::<Begin>(&mut self.seat, i);
+        self.table.shared.load::<BeginStore>(&mut self.seat, i);
     }
 
     /// Notes that this store has ended.
@@ -28,7 +28,7 @@ impl Access {
         ensures phase { self.new.seat.me ≡ (record (view_of self.old) { phase = Stored }, self.old.seat.me.1) }
         ensures same { IsSameSeat self.old self.new }
     {
-        self.table.shared.load::<End>(&mut self.seat, i);
+        self.table.shared.load::<EndStore>(&mut self.seat, i);
     }
 
     /// Fills a free buffer of the seat's own register `i` with the record of the number `next`, this value and this

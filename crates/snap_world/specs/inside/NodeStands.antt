@@ -5,9 +5,9 @@ use Rattle.snap_slot.specs.Findings.{IsFound}
 use Rattle.snap_history.specs.declared.limits.TheConstants.{MAX_COUNT}
 use Rattle.snap_world.specs.inside.Drives.{DrivesStand, DrivesDown, device_of}
 use Rattle.snap_world.specs.{Machine.State, inside.Stands.ActorsStand, inside.Steps.phases_of_actors}
-use Rattle.snap_world.specs.declared.{drive.Drive.Drive, node.Node.Node, node.NodePhase.NodePhase}
+use Rattle.snap_world.specs.declared.{drive.Drive.Drive, node.WorldNode.WorldNode, node.NodePhase.NodePhase}
 use Rattle.snap_world.specs.declared.{node.OpeningCall.OpeningCall, actors.Actors.Actors, register.Register.Register}
-use Rattle.snap_world.specs.declared.{writer.Writer.Writer, scanner.Scanner.Scanner}
+use Rattle.snap_world.specs.declared.{writer.WriterActor.WriterActor, scanner.ScannerActor.ScannerActor}
 use Rattle.snap_world.specs.declared.node.NodePhase.TheVariants.{Up, Down, Restarting, Ready}
 use Rattle.snap_world.specs.declared.node.OpeningCall.TheVariants as opening
 use Rattle.snap_world.specs.declared.writer.WriterPhase.TheVariants as writer
@@ -21,10 +21,10 @@ pub record IsSized (w : Actors) (x : State) : Type 0 where
   pub views_n : (i : ℕ) (r : Register) → slice_get w.registers.items i ≡ Some r → length r.view.items ≡ w.segments
   pub writers_n : length w.writers.items ≡ w.segments
   pub writers : length w.writers.items ≡ length x.writers
-  pub writers_memory : (i : ℕ) (a : Writer) → slice_get w.writers.items i ≡ Some a
+  pub writers_memory : (i : ℕ) (a : WriterActor) → slice_get w.writers.items i ≡ Some a
       → length a.collector.memory.items ≡ w.segments
   pub scanners : length w.scanners.items ≡ length x.scanners
-  pub scanners_memory : (i : ℕ) (a : Scanner) → slice_get w.scanners.items i ≡ Some a
+  pub scanners_memory : (i : ℕ) (a : ScannerActor) → slice_get w.scanners.items i ≡ Some a
       → length a.collector.memory.items ≡ w.segments
 
 -- while it is up, its actors and each device represent the state
@@ -35,8 +35,8 @@ pub record IsUp (actors : Actors) (drives : List Drive) (x : State) : Type 0 whe
 -- all actors are idle
 pub record ActorsRest (w : Actors) (x : State) : Type 0 where
   pub sized : IsSized w x
-  pub writers : (i : ℕ) (a : Writer) → slice_get w.writers.items i ≡ Some a → a.phase ≡ writer.Idle
-  pub scanners : (i : ℕ) (a : Scanner) → slice_get w.scanners.items i ≡ Some a → a.phase ≡ scanner.Idle
+  pub writers : (i : ℕ) (a : WriterActor) → slice_get w.writers.items i ≡ Some a → a.phase ≡ writer.Idle
+  pub scanners : (i : ℕ) (a : ScannerActor) → slice_get w.scanners.items i ≡ Some a → a.phase ≡ scanner.Idle
 
 -- while it is down
 pub record IsDown (actors : Actors) (drives : List Drive) (x : State) : Type 0 where
@@ -62,10 +62,10 @@ IsNodeAt actors drives x Down = IsDown actors drives x
 IsNodeAt actors drives x (Restarting i call) = (i < actors.segments) × IsRestarting actors drives x i call
 IsNodeAt actors drives x Ready = IsRecovering actors drives x actors.segments actors.segments
 
-pub record NodeStands (w : Node) (x : State) : Type 0 where
+pub record NodeStands (w : WorldNode) (x : State) : Type 0 where
   pub drives_n : length w.drives.items ≡ w.actors.segments
   pub at : IsNodeAt w.actors w.drives.items x w.phase
 
 -- the node represents some state
-abbrev pub NodeStand : Node → Type 0
+abbrev pub NodeStand : WorldNode → Type 0
 NodeStand w = ∥ ((x : State) × NodeStands w x) ∥₁

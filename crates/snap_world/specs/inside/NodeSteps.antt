@@ -7,19 +7,19 @@ use Rattle.snap_world.specs.{Devices.DevicesMove, Devices.GatesTold, inside.Driv
 use Rattle.snap_world.specs.{Machine.Step, inside.NodeStands.NodeStands, Phases.WriterIs, inside.Steps.phases_of_actors}
 use Rattle.snap_world.specs.NodePhases.{WorldPhases, TellsWhether, PhasesMove}
 use Rattle.snap_world.specs.declared.{actors.Actors.Actors, event.Event.Event, event.Reply.Reply}
-use Rattle.snap_world.specs.declared.{event.Reply.TheVariants.NotNow, drive.Drive.Drive, node.Node.Node}
+use Rattle.snap_world.specs.declared.{event.Reply.TheVariants.NotNow, drive.Drive.Drive, node.WorldNode.WorldNode}
 use Rattle.snap_world.specs.declared.node.NodePhase.TheVariants.{Up}
 use Rattle.snap_world.specs.declared.writer.WriterPhase.TheVariants as writer
 
 -- the devices of the segments, in order
-abbrev pub devices_of_node : Node → List Device
+abbrev pub devices_of_node : WorldNode → List Device
 devices_of_node w = map device_of w.drives.items
 
 -- the device calls that are left of the current store on it, or of the next one
 abbrev pub store_left : Drive → List NextCall
 store_left d = calls_left d.persist.stage
 
-abbrev pub phases_of_node : Node → WorldPhases
+abbrev pub phases_of_node : WorldNode → WorldPhases
 phases_of_node w = record {
   node = w.phase;
   actors = phases_of_actors w.actors;
@@ -27,13 +27,13 @@ phases_of_node w = record {
 }
 
 -- the store of this segment has a call to make
-abbrev pub MayStore : Node → ℕ → Type 0
+abbrev pub MayStore : WorldNode → ℕ → Type 0
 MayStore node w = (node.phase ≡ Up) × WriterIs (phases_of_actors node.actors) w writer.Storing
 
 -- From each state that the node represented, the event with its reply is a step to one that it
 -- represents now, and leaves these devices; the reply says whether the event may come, the phases
 -- move by their table, and after `NotNow` nothing has changed.
-pub record IsNodeStep (old : Node) (event : Event) (reply : Reply) (new : Node) : Type 0 where
+pub record IsNodeStep (old : WorldNode) (event : Event) (reply : Reply) (new : WorldNode) : Type 0 where
   pub segments : new.actors.segments ≡ old.actors.segments
   pub step : (x : State) → NodeStands old x → (y : State) × Step old.actors.segments x event reply y
       × DevicesMove old.actors.segments x (phases_of_node old) (devices_of_node old) event reply y (devices_of_node new)
@@ -45,7 +45,7 @@ pub record IsNodeStep (old : Node) (event : Event) (reply : Reply) (new : Node) 
   pub unchanged : reply ≡ NotNow → new ≡ old
 
 -- the actors with these devices, as a node that is up
-abbrev pub node_of : Actors → Vec Drive → Node
+abbrev pub node_of : Actors → Vec Drive → WorldNode
 node_of actors drives = record { phase = Up; actors = actors; drives = drives }
 
 -- the event of a writer or a scanner, as a step of the node that is up, whatever its devices are

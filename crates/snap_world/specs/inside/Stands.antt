@@ -5,8 +5,9 @@ use Rattle.snap_history.specs.{Pairs.Pairs, Limits.IsNumber, Limits.IsShort, dec
 use Rattle.snap_world.specs.Answers.{ScanState, IsAnswer, number_at, all_of, set_of}
 use Rattle.snap_world.specs.inside.Gathers.{Gathers, IsSeen, IsUnderWay, RegistersStand}
 use Rattle.snap_world.specs.Machine.{State, WriterState, ScannerState, Free, Begun, Shown, Closed, Opened}
-use Rattle.snap_world.specs.declared.{collector.Collector.Collector, actors.Actors.Actors, writer.Writer.Writer}
-use Rattle.snap_world.specs.declared.{writer.WriterPhase.WriterPhase, scanner.Scanner.Scanner}
+use Rattle.snap_world.specs.declared.{collector.Collector.Collector, actors.Actors.Actors}
+use Rattle.snap_world.specs.declared.{writer.WriterActor.WriterActor}
+use Rattle.snap_world.specs.declared.{writer.WriterPhase.WriterPhase, scanner.ScannerActor.ScannerActor}
 use Rattle.snap_world.specs.declared.scanner.ScannerPhase.{ScannerPhase}
 use Rattle.snap_world.specs.declared.writer.WriterPhase.TheVariants as writer
 use Rattle.snap_world.specs.declared.scanner.ScannerPhase.TheVariants as scanner
@@ -26,7 +27,7 @@ pub record HasBegun (n : ℕ) (h : List Update) (g i : ℕ) (v : List ℕ) (c : 
 abbrev pub HasAnswer : ℕ → List Update → ScanState → Collector → Type 0
 HasAnswer set h s c = IsAnswer set h s (IsSeen set h c.memory.items)
 
-abbrev pub IsAtPhase : ℕ → List Update → ℕ → ℕ → Writer → WriterState → WriterPhase → Type 0
+abbrev pub IsAtPhase : ℕ → List Update → ℕ → ℕ → WriterActor → WriterState → WriterPhase → Type 0
 IsAtPhase n h g i w s writer.Idle = s.pending ≡ Free
 IsAtPhase n h g i w s writer.Scanning = HasBegun n h g i w.value w.collector s × IsUnderWay w.collector
 IsAtPhase n h g i w s writer.Storing = HasBegun n h g i w.value w.collector s
@@ -39,20 +40,20 @@ abbrev pub is_fenced : WriterPhase → Bool
 is_fenced writer.Fenced = true
 is_fenced phase = false
 
-pub record WriterStands (n : ℕ) (h : List Update) (g i : ℕ) (w : Writer)
+pub record WriterStands (n : ℕ) (h : List Update) (g i : ℕ) (w : WriterActor)
     (s : WriterState) : Type 0 where
   pub size : length w.collector.memory.items ≡ n
   pub fenced : s.fenced ≡ is_fenced w.phase
   pub phase : IsAtPhase n h g i w s w.phase
 
-abbrev pub IsScannerAt : ℕ → List Update → ℕ → Scanner → ScannerState → ScannerPhase → Type 0
+abbrev pub IsScannerAt : ℕ → List Update → ℕ → ScannerActor → ScannerState → ScannerPhase → Type 0
 IsScannerAt n h g c s scanner.Idle = s ≡ Closed
 IsScannerAt n h g c s scanner.Scanning = (scan : ScanState) × (s ≡ Opened c.asked scan) × (g ≤ scan.start)
     × Gathers n (set_of n c.asked) h scan c.collector × IsUnderWay c.collector
 IsScannerAt n h g c s scanner.Ready = (scan : ScanState) × (s ≡ Opened c.asked scan) × (scan.last ≤ length h)
     × HasAnswer (set_of n c.asked) h scan c.collector
 
-pub record ScannerStands (n : ℕ) (h : List Update) (g i : ℕ) (c : Scanner)
+pub record ScannerStands (n : ℕ) (h : List Update) (g i : ℕ) (c : ScannerActor)
     (s : ScannerState) : Type 0 where
   pub size : length c.collector.memory.items ≡ n
   pub phase : IsScannerAt n h g c s c.phase

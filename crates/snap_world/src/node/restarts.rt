@@ -9,12 +9,12 @@ ghost use Rattle.snap_world.specs.inside.Recovery.{AllReadable, AreRecovered};
 
 use crate::drive::{Drive, crash_all, found_values, resume_all};
 use crate::event::{Kind, Reply};
-use crate::node::{Node, NodePhase, OpeningCall};
+use crate::node::{NodePhase, OpeningCall, WorldNode};
 use crate::register::Register;
 use snap_disk::Fill;
 use std::alloc::{AllocError, Global};
 
-impl Node {
+impl WorldNode {
     /// Crashes each device with its fill, of which there has to be one for each. All actors are idle then.
     pub fn crash(&mut self, fills: &Vec<Fill>) -> Reply
         requires stands { NodeStand self.old }

@@ -7,13 +7,13 @@ ghost use Rattle.snap_world.specs.{inside.NodeStands.NodeStand, declared.event.E
 ghost use Rattle.snap_world.specs.inside.NodeSteps.{IsNodeStep, MayStore};
 
 use crate::event::Reply;
-use crate::node::{Node, NodePhase};
+use crate::node::{NodePhase, WorldNode};
 use crate::writer::WriterPhase;
 use snap_disk::Fill;
 use snap_persist::{NextCall, Persist};
 use snap_slot::slot_of;
 
-impl Node {
+impl WorldNode {
     /// Makes a device call of a store, which succeeds. After the last one the update is stored, and
     /// the next store finds its spare gate open.
     pub fn call(&mut self, segment: usize) -> Reply

@@ -3,8 +3,8 @@ use crate::frames::{
     BOTH, BOTH_HI, CONFLICT, EMPTY, FENCED, HI, REPEAT, SCAN, SNAPSHOT_HI, STATUS, STATUS_HI,
     STORED_1,
 };
-use snap_frame::{Feed, Reply, ReplyFeed, Request};
-use snap_metrics::{RequestCounts, reply_frame_len, request_frame_len};
+use snap_frame::{Feed, Reply, ReplyFeed, Request, reply_frame_len, request_frame_len};
+use snap_metrics::RequestCounts;
 use std::alloc::Global;
 use std::process::Abort;
 use std::test::Fail;
@@ -33,11 +33,11 @@ fn reply_of(alloc: Global, frame: &[u8]) -> Result<Reply, Fail> {
 fn lengths_are_those_of_the_frames(rt: HostRuntime) -> Result<(), Fail> {
     for frame in [HI, REPEAT, SCAN, STATUS, BOTH] {
         let request = request_of(rt.alloc(), frame)?;
-        assert!(rt; request_frame_len(&request) == frame.len() as u64);
+        assert!(rt; request_frame_len(&request) == frame.len());
     }
     for frame in [STORED_1, EMPTY, SNAPSHOT_HI, STATUS_HI.1, BOTH_HI, FENCED] {
         let reply = reply_of(rt.alloc(), frame)?;
-        assert!(rt; reply_frame_len(&reply) == frame.len() as u64);
+        assert!(rt; reply_frame_len(&reply) == frame.len());
     }
     Ok(())
 }

@@ -2,8 +2,8 @@
 use crate::checks::{Host, are, prints};
 use snap_disk::Refusal;
 use snap_slot::{
-    Flaw, Found, Header, MARK, Slot, encode_body, encode_fresh_file, encode_header, encode_slots,
-    inspect, read_header, read_slot, recover,
+    Found, Header, MARK, Slot, SlotFault, encode_body, encode_fresh_file, encode_header,
+    encode_slots, inspect, read_header, read_slot, recover,
 };
 use std::alloc::AllocError;
 
@@ -119,18 +119,18 @@ fn is_slot(rt: &impl Host, changes: &[(usize, u8)], want: Slot) {
 }
 
 /// Changes of one byte or two, and the first flaw of the slot then.
-const FLAWS: [(&[(usize, u8)], Flaw); 11] = [
-    (&[(1, 1)], Flaw::Gate),
-    (&[(0, 0), (4095, 1)], Flaw::Gate),
-    (&[(4106, 0x0F), (4107, 0xF1)], Flaw::Length),
-    (&[(4104, 1), (4108, 1)], Flaw::Length),
-    (&[(4108, 1)], Flaw::Zeros),
-    (&[(4111, 1), (4103, 2)], Flaw::Zeros),
-    (&[(4114, 1)], Flaw::Zeros),
-    (&[(8191, 1)], Flaw::Zeros),
-    (&[(4096, 0x80)], Flaw::Number),
-    (&[(4103, 2)], Flaw::Number),
-    (&[(4103, 3)], Flaw::Number),
+const FLAWS: [(&[(usize, u8)], SlotFault); 11] = [
+    (&[(1, 1)], SlotFault::Gate),
+    (&[(0, 0), (4095, 1)], SlotFault::Gate),
+    (&[(4106, 0x0F), (4107, 0xF1)], SlotFault::Length),
+    (&[(4104, 1), (4108, 1)], SlotFault::Length),
+    (&[(4108, 1)], SlotFault::Zeros),
+    (&[(4111, 1), (4103, 2)], SlotFault::Zeros),
+    (&[(4114, 1)], SlotFault::Zeros),
+    (&[(8191, 1)], SlotFault::Zeros),
+    (&[(4096, 0x80)], SlotFault::Number),
+    (&[(4103, 2)], SlotFault::Number),
+    (&[(4103, 3)], SlotFault::Number),
 ];
 
 #[test]
@@ -240,10 +240,10 @@ fn printed_findings(rt: HostRuntime) -> Result<(), AllocError> {
         prints(&rt, &inspect(&file), text)?;
     }
     for (flaw, name) in [
-        (Flaw::Gate, "gate"),
-        (Flaw::Length, "length"),
-        (Flaw::Zeros, "zeros"),
-        (Flaw::Number, "number"),
+        (SlotFault::Gate, "gate"),
+        (SlotFault::Length, "length"),
+        (SlotFault::Zeros, "zeros"),
+        (SlotFault::Number, "number"),
     ] {
         prints(&rt, &flaw, name)?;
     }

@@ -3,7 +3,7 @@ use Rattle.std.proofs.Common.{length-take}
 use Rattle.std.proofs.KnownBytes.{Consumes-trans}
 use Rattle.snap_frame.specs.Stream.{Held, IsBytes, IsNextReply}
 use Rattle.snap_frame.{specs.declared.reply_feed.ReplyFault.TheVariants.Failed, proofs.Decode.bytes-append}
-use Rattle.snap_frame.{specs.declared.frame_buffer.Failure.TheVariants.TooLarge, proofs.Cuts.partial_is_short}
+use Rattle.snap_frame.{specs.declared.frame_buffer.FrameFault.TheVariants.TooLarge, proofs.Cuts.partial_is_short}
 use Rattle.snap_client.proofs.Replies.{read_more}
 use Rattle.snap_client.proofs.exchange.hear.Goals as goal
 

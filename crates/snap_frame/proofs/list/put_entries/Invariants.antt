@@ -3,5 +3,5 @@ use Rattle.snap_frame.proofs.list.put_entries.Given as goal
 
 abbrev pub invariant-loop-entry : goal.invariant-loop-entry
 invariant-loop-entry g l =
-    (l.out.items ≡ l.initial.out.items ++ flat_map g.E.Entry.bytes (take l.entry-index l.entries))
-    × (length (flat_map g.E.Entry.bytes (drop l.entry-index l.entries)) ≤ l.out.spare)
+    (l.out.items ≡ l.initial.out.items ++ flat_map g.E.ListEntry.bytes (take l.entry-index l.entries))
+    × (length (flat_map g.E.ListEntry.bytes (drop l.entry-index l.entries)) ≤ l.out.spare)

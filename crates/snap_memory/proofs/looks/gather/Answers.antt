@@ -56,7 +56,8 @@ looks-preserved g c =
     record {
       gathers = rw (c.told.ensures.set, c.told.ensures.told)
           (Gathers-look _ _ _ _ _ _ _ _ c.looks.invariant.gathers turn.0 turn.1 turn.2 look.seen look.number
-          (c.next.ensures.decides.bound c.in-Look.segment c.in-Look.is) look.looked look.sights look.left look.below);
+          (c.next.ensures.decides.bound c.in-Look.segment c.in-Look.is) look.looked look.look_records
+          look.left look.below);
       set = c.told.ensures.set ∙ c.looks.invariant.set;
     }
 

@@ -2,7 +2,7 @@ use Rattle.std.proofs.Common.{◌≡◌, ℕ, ◌+◌, ◌-◌, ◌<◌, List, a
 use Rattle.snap_register.specs.Words.{IsWhole, size_at, block_at, behind}
 use Rattle.snap_register.specs.{Registers.Mine, declared.view.View.TheVariants.Borrowed, Rule.segments, Held.held}
 use Rattle.snap_register.specs.{Held.taken, Steps.view_of, Steps.IsOf, declared.plan.SeatView.SeatView}
-use Rattle.snap_register.specs.declared.access.draft.End.{End}
+use Rattle.snap_register.specs.declared.access.draft.DraftEnd.{DraftEnd}
 use Rattle.snap_register.proofs.{Blocks.behind_more, Views.view_whole, Views.ends_small, Drafts.held_drafted}
 use Rattle.snap_register.proofs.Aligned.{of_view}
 use Rattle.snap_register.proofs.Drafts.{block_copied}
@@ -38,7 +38,7 @@ below c = rw (← c.size_at-from.ensures.same.2, ← c.size_at-from.new.self.siz
 below_now : (c : In-loop) → c.loop.counter < segments (view_of c.loop.self).plan
 below_now c = rw (c.loop.invariant.copied.same.3, c.size_at-from.ensures.same.2) (below c)
 
-size_is : (c : In-loop) (n : End) → n.at ≡ c.loop.to.at + size_at (held (view_of c.loop.self) c.args.j) c.loop.from
+size_is : (c : In-loop) (n : DraftEnd) → n.at ≡ c.loop.to.at + size_at (held (view_of c.loop.self) c.args.j) c.loop.from
     → n.at - c.loop.to.at ≡ size_at (held (view_of c.loop.self) c.args.j) c.loop.from
 size_is c n is = omega arith
 

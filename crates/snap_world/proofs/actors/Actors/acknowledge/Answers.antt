@@ -3,7 +3,7 @@ use Rattle.snap_world.proofs.Events.{up_at, came, writer_goes}
 use Rattle.snap_world.specs.Machine.{WriterState, Free, with_writer}
 use Rattle.std.proofs.{Common.refl, Common.ap}
 use Rattle.snap_world.proofs.{PhaseMoves.writer_moved}
-use Rattle.snap_world.specs.{declared.writer.Writer.Writer, Answers.scan_from}
+use Rattle.snap_world.specs.{declared.writer.WriterActor.WriterActor, Answers.scan_from}
 use Rattle.snap_world.specs.declared.writer.WriterPhase.TheVariants as writer
 use Rattle.snap_world.proofs.actors.Actors.acknowledge.Goals as goal
 
@@ -13,7 +13,7 @@ returns c =
     let i = c.args.segment in
     let is = c.if-not-writer_is.ensures.0 refl in
     let old = c.index_mut.result.now in
-    let new : Writer = record old { phase = writer.Idle } in record {
+    let new : WriterActor = record old { phase = writer.Idle } in record {
       step = came w _ _ _ (λ e. cc) (λ _ _ _ _ _ _. (refl, tt)) refl (λ ds x up. (
           let stands = up.actors_stand in
           let l = within w x stands i is in

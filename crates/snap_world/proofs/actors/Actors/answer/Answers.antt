@@ -1,5 +1,6 @@
 use Rattle.std.proofs.{Common.Some, Common.refl, Common.ap, Common.subst, Common.◌∙◌, Math.Logic.∥∥₁_elim, Props.props}
-use Rattle.snap_world.{specs.declared.scanner.Scanner.Scanner, proofs.LookingOn.seen_within, proofs.LookingOn.answers}
+use Rattle.snap_world.{specs.declared.scanner.ScannerActor.ScannerActor, proofs.LookingOn.seen_within}
+use Rattle.snap_world.{proofs.LookingOn.answers}
 use Rattle.snap_world.{proofs.PhaseMoves.scanner_there, specs.inside.Steps.IsReplyOf, proofs.Events.scanner_goes}
 use Rattle.snap_world.{proofs.Elements.same_read, proofs.Moves.the_scanner, specs.Machine.Closed}
 use Rattle.snap_world.specs.declared.scanner.ScannerPhase.TheVariants as scanner
@@ -25,9 +26,10 @@ returns-clause-step c =
     let read = c.index_mut.ensures.value in
     let memory = old.collector.memory.items in
     let reply = c.in_ok-reply.reply in
-    let replies : IsReplyOf old.asked memory reply = subst (λ (z : Scanner). IsReplyOf z.asked z.collector.memory.items
-    reply) (same_read w.scanners.items i c.index.result.now old there c.index.ensures read) c.in_ok-reply.ensures in
-    let new : Scanner = record old { phase = scanner.Idle } in
+    let replies : IsReplyOf old.asked memory reply =
+    subst (λ (z : ScannerActor). IsReplyOf z.asked z.collector.memory.items reply)
+    (same_read w.scanners.items i c.index.result.now old there c.index.ensures read) c.in_ok-reply.ensures in
+    let new : ScannerActor = record old { phase = scanner.Idle } in
     answers w i new old.asked memory reply replies is refl (λ ds x up. (
     let a = the_scanner w x up.actors_stand i is old read in (
       a.phase.0,

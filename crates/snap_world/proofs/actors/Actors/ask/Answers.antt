@@ -1,7 +1,8 @@
 use Rattle.std.proofs.Common.{length, Some, refl, ap, ◌∙◌}
 use Rattle.snap_world.proofs.{LookingOn.some_named, LookingOn.asks, Events.scanner_goes, Moves.the_scanner}
 use Rattle.snap_world.proofs.{Moves.Gathers-none, PhaseMoves.scanner_there}
-use Rattle.snap_world.specs.{Answers.scan_from, Answers.set_of, Machine.Opened, declared.scanner.Scanner.Scanner}
+use Rattle.snap_world.specs.{Answers.scan_from, Answers.set_of, Machine.Opened}
+use Rattle.snap_world.specs.{declared.scanner.ScannerActor.ScannerActor}
 use Rattle.snap_world.specs.declared.scanner.ScannerPhase.TheVariants as scanner
 use Rattle.snap_world.proofs.actors.Actors.ask.Goals as goal
 
@@ -12,7 +13,7 @@ returns c =
     let asked = c.args.asked in
     let is = c.if-not-scanner_is.ensures.0 refl in
     let old = c.index_mut-scanner.result.now in
-    let new : Scanner = record {
+    let new : ScannerActor = record {
       phase = scanner.Scanning;
       asked = asked;
       collector = record { scan = c.of-scanner.result; memory = old.collector.memory };

@@ -6,7 +6,7 @@ use Rattle.std.proofs.Common.{◌≡◌, ◌<◌, ◌≤◌, List, ℕ, length, 
 use Rattle.snap_world.proofs.{Sizes.all_some, Looks.number_now, LookingOn.some_named, LookingOn.all_among}
 use Rattle.snap_world.proofs.{PhaseMoves.writer_moved}
 use Rattle.snap_world.specs.{Answers.scan_from, Answers.all_of, inside.NodeSteps.node_of, inside.Stands.ActorsStand}
-use Rattle.snap_world.specs.{declared.writer.Writer.Writer}
+use Rattle.snap_world.specs.{declared.writer.WriterActor.WriterActor}
 use Rattle.snap_world.specs.declared.writer.WriterPhase.TheVariants as writer
 use Rattle.snap_world.proofs.actors.Actors.begin.Goals as goal
 
@@ -31,7 +31,7 @@ returns c =
     let small : c.index.result.now.number < 9223372036854775807 = c.if-index-ge-LAST_NUMBER.false in
     let short : length c.args.value.now.items ≤ 4080 = omega (arith, c.args.value.now.ok.0) in
     let value : c.args.value.now.items ≡ c.set.new.self = sym (c.set.ensures ∙ c.deref.ensures.value) in
-    let new : Writer = record {
+    let new : WriterActor = record {
       phase = writer.Scanning;
       value = c.set.new.self;
       collector = record { scan = c.new-writer.result; memory = old.collector.memory };

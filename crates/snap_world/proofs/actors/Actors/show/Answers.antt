@@ -6,7 +6,8 @@ use Rattle.snap_world.proofs.Moves.{shown_view, whole}
 use Rattle.snap_world.specs.Machine.{WriterState, Shown, with_update}
 use Rattle.std.proofs.{Math.Logic.∥∥₁_elim, Props.props}
 use Rattle.snap_world.proofs.{PhaseMoves.writer_moved}
-use Rattle.snap_world.specs.{Phases.Phases, declared.writer.Writer.Writer, declared.register.Register.Register}
+use Rattle.snap_world.specs.{Phases.Phases, declared.writer.WriterActor.WriterActor}
+use Rattle.snap_world.specs.{declared.register.Register.Register}
 use Rattle.snap_world.specs.{inside.Drives.DrivesStand, inside.Steps.phases_of_actors}
 use Rattle.snap_world.specs.declared.writer.WriterPhase.TheVariants as writer
 use Rattle.snap_world.proofs.actors.Actors.show.Goals as goal
@@ -36,7 +37,7 @@ returns c =
     let is = c.if-not-writer_is.ensures.0 refl in
     let old = c.index_mut-writer.result.now in
     let v = old.value in
-    let new : Writer = record old { phase = writer.Shown } in
+    let new : WriterActor = record old { phase = writer.Shown } in
     let register : Register = record {
       number = c.index_mut-register.result.now.number + 1;
       value = c.copy_from.new.self;

@@ -2,7 +2,7 @@ use Rattle.std.proofs.Common.{◌≡◌, length, refl, ap, ◌∙◌, arith}
 use Rattle.snap_disk.specs.{Image.image_device}
 use Rattle.snap_world.specs.{declared.node.NodePhase.TheVariants.Restarting, declared.drive.Drive.Drive}
 use Rattle.snap_world.proofs.{Restarts.sync_step, Restarts.read_step}
-use Rattle.snap_world.proofs.node.Node.restart_call.Goals as goal
+use Rattle.snap_world.proofs.node.WorldNode.restart_call.Goals as goal
 
 pub returns-in-Sync : goal.returns-in-Sync
 returns-in-Sync c =

@@ -1,7 +1,7 @@
 use Rattle.std.proofs.Common.{refl, ap, ◌∙◌}
 use Rattle.snap_world.specs.{declared.node.NodePhase.TheVariants.Restarting, declared.drive.Drive.Drive}
 use Rattle.snap_world.proofs.{Restarts.sync_fail_step}
-use Rattle.snap_world.proofs.node.Node.restart_fail.Goals as goal
+use Rattle.snap_world.proofs.node.WorldNode.restart_fail.Goals as goal
 
 pub returns-in-Sync : goal.returns-in-Sync
 returns-in-Sync c =

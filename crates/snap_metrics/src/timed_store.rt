@@ -8,7 +8,7 @@ use std::time::Instant;
 /// The progress of a store: it writes its value and syncs, then writes its gate and syncs. A time
 /// is `None` if the clock couldn't be read.
 #[derive(Clone, Copy)]
-pub(crate) enum Stage {
+pub(crate) enum TimedStore {
     /// No store is in progress.
     Resting,
     /// The value is being written.
@@ -22,13 +22,13 @@ pub(crate) enum Stage {
     },
 }
 
-impl Stage {
+impl TimedStore {
     /// The stage after a write: the first write begins a store, and a further one changes nothing.
-    pub(crate) fn at_write<R: Clock>(self, clock: &R) -> Stage
+    pub(crate) fn at_write<R: Clock>(self, clock: &R) -> TimedStore
         ensures { GoesByWrite self result }
     {
         match self {
-            Stage::Resting => Stage::Value {
+            TimedStore::Resting => TimedStore::Value {
                 began: Instant::now(clock).ok(),
             },
             going => going,
@@ -39,8 +39,8 @@ impl Stage {
     /// timed from its beginning.
     pub(crate) fn before_sync<R: Clock>(self, clock: &R) -> Option<Instant> {
         match self {
-            Stage::Value { .. } => Instant::now(clock).ok(),
-            Stage::Resting | Stage::Gate { .. } => None,
+            TimedStore::Value { .. } => Instant::now(clock).ok(),
+            TimedStore::Resting | TimedStore::Gate { .. } => None,
         }
     }
 
@@ -51,20 +51,20 @@ impl Stage {
         clock: &R,
         from: Option<Instant>,
         metrics: &SegmentMetrics,
-    ) -> Stage
+    ) -> TimedStore
         ensures { GoesBySync self result }
     {
         match self {
-            Stage::Resting => Stage::Resting,
-            Stage::Value { began } => {
+            TimedStore::Resting => TimedStore::Resting,
+            TimedStore::Value { began } => {
                 let synced = Instant::now(clock).ok();
                 metrics.first_wait(from, synced);
-                Stage::Gate { began, synced }
+                TimedStore::Gate { began, synced }
             }
-            Stage::Gate { began, synced } => {
+            TimedStore::Gate { began, synced } => {
                 let ended = Instant::now(clock).ok();
                 metrics.store(began, synced, ended, clock.since_1970().ok());
-                Stage::Resting
+                TimedStore::Resting
             }
         }
     }

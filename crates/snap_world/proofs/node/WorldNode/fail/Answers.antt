@@ -2,7 +2,7 @@ use Rattle.snap_world.proofs.Stored.{call_fails, fail_moves, there}
 use Rattle.snap_world.proofs.{Events.steps, Events.is_up}
 use Rattle.std.proofs.{Common.refl, Common.ap}
 use Rattle.snap_persist.specs.{Stage.calls_left}
-use Rattle.snap_world.proofs.node.Node.fail.Goals as goal
+use Rattle.snap_world.proofs.node.WorldNode.fail.Goals as goal
 
 pub returns : goal.returns
 returns c =

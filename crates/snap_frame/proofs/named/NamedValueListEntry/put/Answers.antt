@@ -1,6 +1,6 @@
 use Rattle.std.proofs.Common.{◌∙◌, ap, [], ◌∷◌, ◌++◌, length, append_assoc}
 use Rattle.std.specs.Int.{w32, w64, to_be_bytes}
-use Rattle.snap_frame.proofs.named.NamedValueEntry.put.Goals as goal
+use Rattle.snap_frame.proofs.named.NamedValueListEntry.put.Goals as goal
 
 pub returns-clause-items : goal.returns-clause-items
 returns-clause-items c =

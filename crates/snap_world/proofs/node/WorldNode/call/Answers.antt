@@ -5,7 +5,7 @@ use Rattle.snap_persist.specs.Stage.{calls_left, first_call, after_call}
 use Rattle.snap_world.proofs.{Events.steps, Events.is_up}
 use Rattle.snap_world.specs.{Calls.store_call, declared.drive.Drive.Drive}
 use Rattle.snap_persist.specs.{declared.persist.NextCall.TheVariants.Done}
-use Rattle.snap_world.proofs.node.Node.call.Goals as goal
+use Rattle.snap_world.proofs.node.WorldNode.call.Goals as goal
 
 pub returns-in-Done : goal.returns-in-Done
 returns-in-Done c =

@@ -1,6 +1,6 @@
 use Rattle.std.proofs.Common.{◌∙◌, ap, drop}
 use Rattle.snap_frame.proofs.Behind.{entry_of}
-use Rattle.snap_frame.proofs.named.NamedValueEntry.take_first.Goals as goal
+use Rattle.snap_frame.proofs.named.NamedValueListEntry.take_first.Goals as goal
 
 pub returns-in_default-2-clause-none : goal.returns-in_default-2-clause-none
 returns-in_default-2-clause-none c v tail may is =

@@ -3,7 +3,7 @@ use Rattle.std.proofs.Common.{◌≡◌, length, refl, sym, ◌∙◌, arith}
 use Rattle.snap_world.proofs.{Events.steps, Events.same_phases}
 use Rattle.snap_world.specs.{inside.NodeSteps.store_left, Machine.crashed}
 use Rattle.std.proofs.{lemmas.List.length-map}
-use Rattle.snap_world.proofs.node.Node.crash.Goals as goal
+use Rattle.snap_world.proofs.node.WorldNode.crash.Goals as goal
 
 pub returns : goal.returns
 returns c =

@@ -5,7 +5,7 @@ use Rattle.snap_world.proofs.{Events.steps}
 use Rattle.snap_world.specs.{inside.NodeSteps.store_left}
 use Rattle.std.proofs.{lemmas.List.length-map}
 use Rattle.snap_history.specs.{History.from_nothing, History.IsMemory}
-use Rattle.snap_world.proofs.node.Node.serve.Goals as goal
+use Rattle.snap_world.proofs.node.WorldNode.serve.Goals as goal
 
 pub returns-in_ok-values-in-Ready-clause-step : goal.returns-in_ok-values-in-Ready-clause-step
 returns-in_ok-values-in-Ready-clause-step c =

@@ -5,11 +5,11 @@ use Rattle.snap_slot.specs.{States.IsAtRest}
 use Rattle.snap_persist.specs.{Stage.calls_left, Stage.store_calls}
 use Rattle.snap_history.proofs.{Lists.get-replicate}
 use Rattle.snap_world.specs.{inside.NodeSteps.store_left, inside.NodeSteps.phases_of_node, declared.drive.Drive.Drive}
-use Rattle.snap_world.specs.{declared.node.NodePhase.TheVariants.Up, declared.node.Node.Node, Phases.Phases}
+use Rattle.snap_world.specs.{declared.node.NodePhase.TheVariants.Up, declared.node.WorldNode.WorldNode, Phases.Phases}
 use Rattle.snap_world.specs.{Start.start_world_phases}
 use Rattle.snap_world.proofs.{Elements.map_element, Elements.all_same, Events.same_phases}
 use Rattle.snap_world.specs.declared.writer.WriterPhase.TheVariants as writer
-use Rattle.snap_world.proofs.node.Node.new.Goals as goal
+use Rattle.snap_world.proofs.node.WorldNode.new.Goals as goal
 
 ready_of : (i n : ℕ) (d : Drive) → IsFormatted i n d → IsReady i n 0 [] (device_of d) d.persist
 ready_of i n d is = record { spare_open = false; rest = is.rest; slot = is.slot; stage = is.stage }
@@ -18,7 +18,7 @@ pub returns-clause-phases : goal.returns-clause-phases
 returns-clause-phases c =
     let n = c.args.segments in
     let drives = c.in_ok-drives.drives.items in
-    let w : Node = record { phase = Up; actors = c.in_ok-actors.actors; drives = c.in_ok-drives.drives } in
+    let w : WorldNode = record { phase = Up; actors = c.in_ok-actors.actors; drives = c.in_ok-drives.drives } in
     same_phases (start_world_phases n c.args.scanners) (phases_of_node w) refl c.in_ok-actors.ensures.phases
     (all_same store_left (store_calls false) drives n c.in_ok-drives.ensures.0
     (λ i d e. ap calls_left (c.in_ok-drives.ensures.1 i d e).stage))
