@@ -291,27 +291,17 @@ def test_words_stand_for_what_is_there(snapd, random):
 
 # Names that two crates promise: each of the two interfaces was asked for by these names.
 TWICE = {"Reply": {"snap_frame", "snap_world"}, "Stopped": {"snap_restart", "snap_world"}}
-HANDED_ON = re.compile(r"^pub use ([\w:]+)::(?:\{([^}]*)\}|(\w+));", re.M)
-PUBLIC = re.compile(r"^pub (?:struct|enum|trait|type|union) (\w+)", re.M)
+TYPE = re.compile(r"^(?:pub(?:\(\w+\))? )?(?:struct|enum|trait|type|union) (\w+)", re.M)
 
 
-def public_types(crate):
-    """The types and traits that a library of this checkout shows and has itself."""
-    source = (crate / "src" / "lib.rt").read_text()
-    handed = [
-        (path, name) for path, names, one in HANDED_ON.findall(source) for name in re.findall(r"\w+", names or one)
-    ]
-    own = {name for path, name in handed if not path.startswith("snap_") and name[0].isupper() and not name.isupper()}
-    return own | set(PUBLIC.findall(source))
-
-
-def test_a_public_type_has_a_name_of_its_own(snapd, random):
+def test_a_type_has_a_name_of_its_own(snapd, random):
     homes = {}
-    for crate in sorted(it.parent.parent for it in TOP.glob("crates/snap_*/src/lib.rt")):
-        for name in public_types(crate):
-            homes.setdefault(name, set()).add(crate.name)
-    assert len(homes) > 100
-    assert {name: crates for name, crates in homes.items() if len(crates) > 1} == TWICE
+    for path in TOP.glob("crates/snap*/src/**/*.rt"):
+        if "tests" not in path.with_suffix("").parts:
+            for name in TYPE.findall(path.read_text()):
+                homes.setdefault(name, []).append(path.relative_to(TOP / "crates").parts[0])
+    assert len(homes) > 300, len(homes)
+    assert {name: set(crates) for name, crates in homes.items() if len(crates) > 1} == TWICE
 
 
 # Crates with laws, which are contracts of functions that do nothing: they name the crates
