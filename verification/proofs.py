@@ -101,16 +101,17 @@ def prove(names, edits, chosen, anew=(), programs=()):
 
 def by_seconds(tasks, seconds, lanes):
     """The kit's tasks with what each proof took last in place of its lines, by which the longest chain is found. The
-    proof of what no other crate uses, as the program, which comes last, gets all processors and not only those that
-    are idle as it begins: its tests pass first of all, and of the memory that the kit expects it takes half."""
+    proofs of what no other crate uses, as the program, which comes last, and of that before its edits, get all
+    processors and not only those that are idle as they begin: its tests pass first of all, and of the memory that the
+    kit expects a proof takes half."""
     took = {key: seconds.get(key[0]) or EACH_LINE * lines for key, (_, lines, *_) in tasks.items() if key[1] == "proof"}
     passed = (), sum(took.values()), 1, lambda given, jobs: True
     timed = {key: (waits, took.get(key, 0), *rest) for key, (waits, _, *rest) in tasks.items()}
     used = {name for key in took for name, _ in timed[key][0]}
     for key, (waits, work, needs, call) in timed.items():
-        if key[0] not in used and key[1] in ("proof", "tests"):
+        if key[0] not in used and key[1] in ("proof", "seed", "tests"):
             wide = lambda given, _, call=call: call(given, lanes)  # noqa: E731
-            timed[key] = (waits, work, needs // 2, wide) if key[1] == "proof" else passed
+            timed[key] = passed if key[1] == "tests" else (waits, work, needs // 2, wide)
     return timed
 
 

@@ -32,7 +32,7 @@ from tree import TOP, below, crates_of, has_tests, parsed, proved_crates, with_b
 
 # The sample: how many crates, how many of their edits, and the seconds of a processor that the crates' proofs may take.
 SAMPLE = (3, 20, 600)
-# The free memory above which the tests of crates are built beside proofs.
+# The free memory above which tests, and programs that they run, are built beside proofs.
 BOTH = 16_000_000_000
 # The program that the test builds, apart from the one that `make demo` or `make prove` left.
 PROGRAM = TOP / "out" / "snapd"
@@ -147,16 +147,20 @@ def prove_all(words):
     anew, edits = ["--anew"] * words.fresh, Edits.of(TOP)
     if words.names:
         return prove(words.names, edits, [], anew, words.names)[1]
-    seconds, parts = prove(proved_crates(TOP), edits, edits.missing(), anew, ["snapd"])
+    with ThreadPoolExecutor(1) as pool:
+        # (beside the proofs where memory allows)
+        beside = pool.submit(build_all, BESIDE) if kit.load("free").free() > BOTH else None
+        seconds, parts = prove(proved_crates(TOP), edits, edits.missing(), anew, ["snapd"])
     if parts[0][1]:
         return parts
+    if not beside:
+        build_all(BESIDE)
     # Every crate is on record as it is now.
     record, readme = Record.of(TOP), TOP / "README.md"
     record.take(seconds)
     record.write(TOP)
     readme.write_text(re.sub(rf"^`{LOCK}: .*`$", f"`{record.told()}`", readme.read_text(), flags=re.M))
     print(record.told(), edits.told(), sep="\n", flush=True)
-    build_all(BESIDE)
     return [*parts, run_end_to_end(TOP / "bin" / "snapd")]
 
 
