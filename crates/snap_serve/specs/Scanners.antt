@@ -29,5 +29,5 @@ plan_of [] = no_plan
 plan_of (b ∷ rest) = b.plan
 
 -- there are metrics for each worker: for each scanner, except the observer's
-abbrev pub HasFigures : {O : Type 0} (observer : Option O) (scanners workers : ℕ) → Type 0
-HasFigures observer scanners workers = (observer ≡ None → scanners ≤ workers) × (scanners ≤ workers + 1)
+abbrev pub HasMetrics : {O : Type 0} (observer : Option O) (scanners workers : ℕ) → Type 0
+HasMetrics observer scanners workers = (observer ≡ None → scanners ≤ workers) × (scanners ≤ workers + 1)

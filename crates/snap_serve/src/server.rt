@@ -5,7 +5,7 @@ ghost use Rattle.snap_order.specs.Order.{IsServable};
 ghost use Rattle.snap_history.specs.declared.limits.TheConstants.{MAX_SCANNERS};
 ghost use Rattle.snap_restart.specs.Closed.{AreBack};
 ghost use Rattle.snap_service.specs.Asked.{AreAsOpened};
-ghost use Rattle.snap_serve.specs.Scanners.{HasFigures, MayServe, MayServeOpened};
+ghost use Rattle.snap_serve.specs.Scanners.{HasMetrics, MayServe, MayServeOpened};
 ghost use Rattle.snap_serve.specs.Serve.{EndsHost, EndsServing, IsLengthAt, IsNamed, ListenFails};
 ghost use Rattle.snap_serve.specs.Serve.{TellsItsEnd, addresses_of, failure_of, site_at, unbound_failure};
 
@@ -207,7 +207,7 @@ where
     requires back { AreBack store.writers.items store.scanners.items }
     requires opened { AreAsOpened store.writers.items }
     requires memory { MayServe B.Listener.Listen.may_serve store.scanners.items }
-    requires metrics { HasFigures environment.observer (length store.scanners.items) environment.metrics.now.workers }
+    requires metrics { HasMetrics environment.observer (length store.scanners.items) environment.metrics.now.workers }
     requires note { N.IsAlwaysCallable environment.note.now }
     ensures ends { EndsServing (site_at B.Bind B.Listener.LocalAddress B.Listener.Listen environment.entry.bind.now
         (addresses_of order.now)) order.now.connections report.now

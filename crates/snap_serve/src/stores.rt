@@ -6,7 +6,7 @@ ghost use Rattle.snap_service.specs.Memory.{AreWriters, IsOf, number_of};
 ghost use Rattle.snap_session.specs.Asked.{AllAsked};
 ghost use Rattle.snap_restart.specs.Closed.{AreBack};
 ghost use Rattle.snap_serve.specs.Handles.{AreHandles};
-ghost use Rattle.snap_serve.specs.Scanners.{AreScanners, HasFigures, MayServe};
+ghost use Rattle.snap_serve.specs.Scanners.{AreScanners, HasMetrics, MayServe};
 ghost use Rattle.snap_server.specs.{Announced.Announced, Deals.GivesSoMany};
 
 use crate::counted::CountedListener;
@@ -203,7 +203,7 @@ where
     requires scanners { AreScanners M.table M.plan scanners.items }
     requires requests { AllAsked M.asked }
     requires memory { L.may_serve (number_of M.table) }
-    requires metrics { HasFigures observer (length scanners.items) metrics.now.workers }
+    requires metrics { HasMetrics observer (length scanners.items) metrics.now.workers }
     requires note { N.IsAlwaysCallable note.now }
     ensures asked { IfOk result (λ k. limits.connections ≡ Some k) }
     ensures accepted { IfOk result (λ k. (left : L) × GivesSoMany L.accepts k listener left) }
@@ -262,7 +262,7 @@ where
     requires back { AreBack store.writers.items store.scanners.items }
     requires opened { AreAsOpened store.writers.items }
     requires memory { MayServe L.may_serve store.scanners.items }
-    requires metrics { HasFigures observer (length store.scanners.items) metrics.now.workers }
+    requires metrics { HasMetrics observer (length store.scanners.items) metrics.now.workers }
     requires note { N.IsAlwaysCallable note.now }
     ensures asked { IfOk result (λ k. limits.connections ≡ Some k) }
     ensures accepted { IfOk result (λ k. (left : L) × GivesSoMany L.accepts k listener left) }

@@ -2,7 +2,7 @@ use Rattle.std.proofs.Common.{◌≡◌, ℕ, ◌+◌, ◌≤◌, ◌∙◌, Boo
 use Rattle.std.specs.Prelude.{is_some, min, if◌then◌else◌}
 use Rattle.std.proofs.lemmas.Bool.Decides.{nat_tests}
 use Rattle.snap_history.specs.declared.limits.TheConstants.{MAX_SCANNERS}
-use Rattle.snap_serve.specs.Scanners.{HasFigures}
+use Rattle.snap_serve.specs.Scanners.{HasMetrics}
 use Rattle.snap_serve.specs.Serve.{addresses_of, site_at}
 use Rattle.snap_serve.proofs.{Memories.as_opened, Memories.may_serve, Ends.ends_opened, Ends.reported}
 use Rattle.snap_serve.proofs.server.open_and_serve.Goals as goal
@@ -31,15 +31,15 @@ serve_opened-requires-clause-memory g c = λ κs within. may_serve g.D.Disk g.B.
     c.in-Ok.ensures.crash c.in-Ok.ensures.back
 
 -- there are metrics for each worker
-have_figures : {O : Type 0} (observer : Option O) (is_seen : Bool) (seats scanners workers : ℕ)
+have_metrics : {O : Type 0} (observer : Option O) (is_seen : Bool) (seats scanners workers : ℕ)
     → is_seen ≡ is_some observer → seats ≡ (if is_seen then min (scanners + 1) MAX_SCANNERS else scanners)
-    → scanners ≤ workers → HasFigures observer seats workers
-have_figures None true seats scanners workers seen is enough = absurd (cc seen)
-have_figures (Some x) true seats scanners workers seen is enough =
+    → scanners ≤ workers → HasMetrics observer seats workers
+have_metrics None true seats scanners workers seen is enough = absurd (cc seen)
+have_metrics (Some x) true seats scanners workers seen is enough =
     (λ none. absurd (cc none), grind (arith, nat_tests))
-have_figures observer false seats scanners workers seen is enough = (λ _. omega arith, omega arith)
+have_metrics observer false seats scanners workers seen is enough = (λ _. omega arith, omega arith)
 
 pub serve_opened-requires-clause-metrics : goal.serve_opened-requires-clause-metrics
 serve_opened-requires-clause-metrics g c = λ κs within.
-    have_figures c.args.environment.observer c.is_some.result _ c.args.order.now.scanners _ c.is_some.ensures
+    have_metrics c.args.environment.observer c.is_some.result _ c.args.order.now.scanners _ c.is_some.ensures
     (c.in-Ok.ensures.scanners ∙ c.seats_of.ensures.workers) c.requires.metrics
