@@ -14,6 +14,7 @@ use crate::bind::{Bind, ListenFault};
 use crate::fault::HostFault;
 use crate::observer::Observer;
 use crate::report::{print_report, print_served};
+use crate::runtime::Runtime;
 use crate::server_observer::ServerObserver;
 use crate::stores::serve_store;
 use snap_desk::UpdateObserver;
@@ -26,10 +27,6 @@ use snap_server::{BindFault, Gate, Limits, LocalAddress, RunFault, ServerEvent, 
 use snap_stream::SystemReason;
 use std::alloc::Global;
 use std::io::Write;
-use std::net::Net;
-use std::rt::Clock;
-use std::sync::Wait;
-use std::thread::Threads;
 use std::time::Duration;
 
 /// The pause after the first fault of the listener, in milliseconds. With the longer pauses after
@@ -78,7 +75,7 @@ pub fn host<X, D, B, G, N, H, C, O, W, E>(
     errors: &mut E,
 ) -> Exit
 where
-    X: Threads + Wait + Clock + Net + Sync + Send + Copy,
+    X: Runtime,
     D: Disk + Send + Drop,
     B: Bind,
     B::Listener: Drop,
@@ -122,7 +119,7 @@ fn open_and_serve<X, D, B, G, N, H, C, O, W>(
     writer: &mut W,
 ) -> Result<u64, HostFault>
 where
-    X: Threads + Wait + Clock + Net + Sync + Send + Copy,
+    X: Runtime,
     D: Disk + Send + Drop,
     B: Bind,
     B::Listener: Drop,
@@ -194,7 +191,7 @@ fn serve_opened<X, D, B, G, N, H, C, O, W>(
     writer: &mut W,
 ) -> Result<u64, HostFault>
 where
-    X: Threads + Wait + Clock + Net + Sync + Send + Copy,
+    X: Runtime,
     D: Disk + Send + Drop,
     B: Bind,
     B::Listener: Drop,

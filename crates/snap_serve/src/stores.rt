@@ -11,6 +11,7 @@ ghost use Rattle.snap_server.specs.{Announced.Announced, Deals.GivesSoMany};
 
 use crate::counted::CountedListener;
 use crate::observer::Observer;
+use crate::runtime::Runtime;
 use crate::seen::{ObserverTask, run_observed, take_observer};
 use snap_desk::{Desk, Outcome, Storer, StorerHandle, UpdateObserver};
 use snap_disk::Disk;
@@ -23,10 +24,8 @@ use snap_session::{Background, Completion};
 use snap_writer::Writer;
 use std::alloc::{AllocError, Global};
 use std::marker::Brand;
-use std::net::Net;
 use std::rt::Clock;
 use std::sync::Wait;
-use std::thread::Threads;
 
 /// A segment's storer, run by a thread of the server.
 #[derive(Drop)]
@@ -190,7 +189,7 @@ fn serve_memory<M, X, D, L, G, N, H, O, A, T>(
 ) -> Result<u64, RunFault>
 where
     M: Memory + Send,
-    X: Threads + Wait + Clock + Net + Sync + Send + Copy,
+    X: Runtime,
     D: Disk + Send + Drop,
     L: Listen + Drop,
     G: Gate + Sync,
@@ -251,7 +250,7 @@ pub(crate) fn serve_store<X, D, L, G, N, H, O, A, T>(
     to: &mut T,
 ) -> Result<u64, RunFault>
 where
-    X: Threads + Wait + Clock + Net + Sync + Send + Copy,
+    X: Runtime,
     D: Disk + Send + Drop,
     L: Listen + Drop,
     G: Gate + Sync,

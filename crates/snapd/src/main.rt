@@ -45,15 +45,13 @@ use snap_disk::Disk;
 use snap_file_commands::{Causes, CommandFault, act, act_pair, finish};
 use snap_order::{DumpOptions, DumpSource, FileOrder, MigrateOptions, Order, ServeOptions, Status};
 use snap_script::play;
+use snap_serve::Runtime;
 use snap_slot::FILE_LEN;
 use std::env;
 use std::io::{BufWriter, ErrorKind};
-use std::net::Net;
 use std::os::fd::AsFd;
 use std::process::ExitCode;
-use std::rt::Clock;
 use std::sync::Wait;
-use std::thread::Threads;
 use watch_command::watch;
 
 fn main(rt: HostRuntime) -> ExitCode {
@@ -65,10 +63,7 @@ fn main(rt: HostRuntime) -> ExitCode {
 }
 
 /// Does what these arguments order. `threads` is the runtime again, as for [`do_order`].
-fn obey<X>(threads: &X, rt: &HostRuntime, words: &[String]) -> Status
-where
-    X: Threads + Wait + Clock + Net + Sync + Send + Copy,
-{
+fn obey<X: Runtime>(threads: &X, rt: &HostRuntime, words: &[String]) -> Status {
     match order(rt.alloc(), words) {
         Ok(order) => match do_order(threads, rt, order) {
             Ok(status) => status,
@@ -89,9 +84,7 @@ fn words_of(rt: &HostRuntime) -> Result<Vec<String>, WordFault> {
 
 /// Runs the command of the order, if the system has what it needs, and returns the exit status; as an error, if it
 /// ended early. `threads` is the runtime again, for commands that may block, start threads and open sockets.
-fn do_order<X>(threads: &X, rt: &HostRuntime, order: Order<'_>) -> Result<Status, Status>
-where
-    X: Threads + Wait + Clock + Net + Sync + Send + Copy,
+fn do_order<X: Runtime>(threads: &X, rt: &HostRuntime, order: Order<'_>) -> Result<Status, Status>
     requires { IsWithinLimits order }
 {
     if !may_run(rt, &order) {
@@ -195,9 +188,11 @@ fn run_migration<'a>(rt: &'a HostRuntime, order: &MigrateOptions<'a>) -> Result<
 }
 
 /// Serves the order's files. `threads` is the runtime again, for what may block, start threads and open sockets.
-fn run_server<X>(threads: &X, rt: &HostRuntime, order: &ServeOptions<'_>) -> Result<Status, Status>
-where
-    X: Threads + Wait + Clock + Net + Sync + Send + Copy,
+fn run_server<X: Runtime>(
+    threads: &X,
+    rt: &HostRuntime,
+    order: &ServeOptions<'_>,
+) -> Result<Status, Status>
     requires { IsServable order.now }
 {
     let ended = serve(threads, rt, order, None);
@@ -208,14 +203,12 @@ where
 }
 
 /// Serves the files of a folder, in order of segment. `serving` has none yet.
-fn run_folder_server<X>(
+fn run_folder_server<X: Runtime>(
     threads: &X,
     rt: &HostRuntime,
     folder: &str,
     serving: ServeOptions<'_>,
 ) -> Result<Status, Status>
-where
-    X: Threads + Wait + Clock + Net + Sync + Send + Copy,
     requires { KeepsLimits serving }
 {
     let files = segment_files(rt, folder)?;

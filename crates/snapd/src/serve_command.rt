@@ -17,13 +17,12 @@ use snap_devices::{FileDisk, FileFault, Lock};
 use snap_log::{Destination, Lines, write_lines};
 use snap_metrics::{Metrics, time_all};
 use snap_order::{Exit, ServeOptions, Status};
-use snap_serve::{Environment, Network, host, log_note};
+use snap_serve::{Environment, Network, Runtime, host, log_note};
 use snap_server::{NoGate, ServerEvent, ServerFault};
 use std::alloc::{AllocError, Global};
-use std::net::Net;
 use std::rt::Clock;
 use std::sync::Wait;
-use std::thread::{self, Threads};
+use std::thread;
 use std::time::{Duration, Instant};
 
 /// Opens the order's files as devices, in order, each with an exclusive lock. `told` gets for each
@@ -86,14 +85,12 @@ fn filter_of(level: snap_order::Level) -> LevelFilter {
 /// Opens the order's files, and serves them. A thread of its own writes the log to standard error,
 /// and another one answers HTTP if the order has an address for it. `folder` is that of the files,
 /// if the arguments name one. Prints the reason if it can't start.
-pub fn serve<X>(
+pub fn serve<X: Runtime>(
     rt: &X,
     system: &HostRuntime,
     order: &ServeOptions<'_>,
     folder: Option<&str>,
 ) -> Result<Status, Status>
-where
-    X: Threads + Wait + Clock + Net + Sync + Send + Copy,
     requires { IsServable order.now }
 {
     let place = open_http(system, order)?;
@@ -128,7 +125,7 @@ pub fn say_right_order(rt: &HostRuntime, serving: &ServeOptions<'_>) {
 
 /// Serves these devices with metrics. It fails before it does anything, if memory runs out for the
 /// log or the metrics, or if no thread can be started.
-fn serve_counted<'x, X>(
+fn serve_counted<'x, X: Runtime>(
     rt: &X,
     system: &'x HostRuntime,
     order: &'x ServeOptions<'x>,
@@ -137,8 +134,6 @@ fn serve_counted<'x, X>(
     told: &Vec<FirstFault>,
     place: Option<HttpPlace>,
 ) -> Result<Exit, ServerFault>
-where
-    X: Threads + Wait + Clock + Net + Sync + Send + Copy,
     requires order { IsServable order.now }
     requires devices { length devices.items ≡ length order.now.files.items }
     requires uncalled { All IsUncalled devices.items }
@@ -173,7 +168,7 @@ fn texts_of(alloc: Global, words: &[&str]) -> Result<Vec<String>, AllocError> {
 }
 
 /// Serves these devices while a thread writes the lines of the log.
-fn serve_logged<'x, X>(
+fn serve_logged<'x, X: Runtime>(
     rt: &X,
     order: &'x ServeOptions<'x>,
     devices: Vec<FileDisk<'_, HostRuntime>>,
@@ -181,8 +176,6 @@ fn serve_logged<'x, X>(
     process: &'x Process<'x>,
     place: Option<HttpPlace>,
 ) -> Result<Exit, ServerFault>
-where
-    X: Threads + Wait + Clock + Net + Sync + Send + Copy,
     requires order { IsServable order.now }
     requires devices { length devices.items ≡ length order.now.files.items }
     requires uncalled { All IsUncalled devices.items }
@@ -263,7 +256,7 @@ fn warn_of<X: Wait + Clock>(log: &Lines<'_, X>, target: &str, address: &str, rig
 /// Serves these devices with their stores timed, with the warnings and the HTTP thread, and logs and
 /// counts the server's events. Fails, before it does anything, only if memory runs out.
 #[tactic(auto, using(crate::proofs::Uncalled::headroom))]
-fn host_logged<'x, X>(
+fn host_logged<'x, X: Runtime>(
     rt: &X,
     order: &'x ServeOptions<'x>,
     devices: Vec<FileDisk<'_, HostRuntime>>,
@@ -272,8 +265,6 @@ fn host_logged<'x, X>(
     process: &'x Process<'x>,
     place: Option<HttpPlace>,
 ) -> Result<Exit, ServerFault>
-where
-    X: Threads + Wait + Clock + Net + Sync + Send + Copy,
     requires order { IsServable order.now }
     requires devices { length devices.items ≡ length order.now.files.items }
     requires uncalled { All IsUncalled devices.items }
