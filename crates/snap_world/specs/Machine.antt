@@ -13,7 +13,7 @@ use Rattle.snap_world.specs.declared.event.Reply.TheVariants.{Begun as Begun_rep
 use Rattle.snap_world.specs.declared.event.Reply.TheVariants.{Shown as Shown_reply, Stored, ScanBegun, Memory, Part}
 use Rattle.snap_world.specs.declared.event.Reply.TheVariants.{Crashed, Restarting, NotNow}
 use Rattle.snap_world.specs.declared.scanner.Asked.{Asked, TheVariants.All, TheVariants.Only}
-use Rattle.snap_world.specs.declared.event.{Actor.TheVariants.WriterActor, Actor.TheVariants.ScannerActor, Event.Event}
+use Rattle.snap_world.specs.declared.event.{Actor.TheVariants.Writer, Actor.TheVariants.Scanner, Event.Event}
 use Rattle.snap_world.specs.declared.event.Reply.{Reply}
 
 -- a writer's current update
@@ -132,9 +132,9 @@ Step n x (Begin w v) Begun_reply y =
     × (y ≡ with_writer x w
     (record s { pending = Begun v.items; scan = scan_from (length x.history) }))
 -- a look reads the number of the segment whose turn it is; the scan that is embedded in an update is of all segments
-Step n x (Look (WriterActor w)) (Number k) y = (s : WriterState) × (slice_get x.writers w ≡ Some s)
+Step n x (Look (Writer w)) (Number k) y = (s : WriterState) × (slice_get x.writers w ≡ Some s)
     × (t : ScanState) × IsLook (all_of n) x s.scan k t × (y ≡ with_writer x w (record s { scan = t }))
-Step n x (Look (ScannerActor i)) (Number k) y =
+Step n x (Look (Scanner i)) (Number k) y =
     (asked : Asked) × (s : ScanState) × (slice_get x.scanners i ≡ Some (Opened asked s))
     × (t : ScanState) × IsLook (set_of n asked) x s k t × (y ≡ with_scanner x i (Opened asked t))
 -- a device call that succeeds doesn't change the state; after one that fails the segment is fenced
