@@ -91,8 +91,7 @@ pub fn fail_twice(rt: &HostRuntime, first: &str, second: &str) -> Status {
     fail_of(rt, second, &why)
 }
 
-/// Prints why the files of a folder can't be used. If the reason is in the files themselves, the
-/// status is [`Status::Refused`].
+/// Prints why the files of a folder can't be used. The status is [`Status::Refused`] if that is the fault of the files.
 pub fn fail_in(rt: &HostRuntime, trouble: &FolderReadFault<'_>) -> Status {
     match trouble {
         FolderReadFault::Path { file, fault } => fail_at(rt, file, fault),

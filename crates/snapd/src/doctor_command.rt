@@ -1,5 +1,5 @@
 //! The command `doctor`: reports on the files of a folder and on their file system.
-ghost use Rattle.std.specs.Prelude.{◌≡◌, IfOk, length};
+ghost use Rattle.std.specs.Prelude.{◌≡◌, IfOk};
 
 use crate::complaint::{stop, stop_without_memory};
 use crate::file_system::{file_system_of, is_taken, keeps_locks, remedy_of, try_as_server};
@@ -49,7 +49,18 @@ fn report_files(rt: &HostRuntime, folder: &str, files: &[String]) -> io::Result<
     if !are_whole || places.len() != files.len() {
         return Ok(are_whole);
     }
-    report_order(rt, folder, files, &places)
+    match order_of(rt.alloc(), folder, files, &places) {
+        Ok(_order) => {
+            let line = format_args!(
+                "no segment is missing: serve it with snapd serve ADDR --dir {folder}"
+            );
+            tell(rt, folder, &line, true)
+        }
+        Err(trouble) => {
+            report_trouble(rt, &trouble)?;
+            Ok(false)
+        }
+    }
 }
 
 /// The result of a file's check.
@@ -70,26 +81,21 @@ fn report_file(
     file: &str,
     is_awaited: bool,
 ) -> io::Result<FileState> {
-    if !is_awaited && is_taken(rt, file) {
-        return report_use(rt, file);
-    }
-    match contents_of(rt, folder, file) {
-        Ok(found) => report_segment(rt, file, found),
-        Err(
-            FolderReadFault::Path {
-                fault: FileFault::InUse(_),
-                ..
-            },
-        ) => report_use(rt, file),
-        Err(trouble) => {
-            report_trouble(rt, &trouble)?;
-            Ok(FileState::Ill)
+    if is_awaited || !is_taken(rt, file) {
+        match contents_of(rt, folder, file) {
+            Ok(found) => return report_segment(rt, file, found),
+            Err(
+                FolderReadFault::Path {
+                    fault: FileFault::InUse(_),
+                    ..
+                },
+            ) => {}
+            Err(trouble) => {
+                report_trouble(rt, &trouble)?;
+                return Ok(FileState::Ill);
+            }
         }
     }
-}
-
-/// Reports that another process has locked a file.
-fn report_use(rt: &HostRuntime, file: &str) -> io::Result<FileState> {
     let why = "a server or another command has it: ask it, as by snapd call ADDR status";
     tell(rt, file, &why, FileState::InUse)
 }
@@ -106,15 +112,12 @@ fn report_segment(rt: &HostRuntime, file: &str, found: SegmentContents) -> io::R
     };
     let line = format_args!("segment {index} of {count} number {number}");
     let whole = tell(rt, file, &line, FileState::Whole(found.place))?;
-    match try_as_server(rt, file) {
-        Ok(()) => Ok(whole),
-        Err(reason) => {
-            let why = format_args!("you can't serve it: {reason}");
-            tell(rt, file, &why, ())?;
-            report_remedy(rt, file, &reason)?;
-            Ok(FileState::Ill)
-        }
-    }
+    let Err(reason) = try_as_server(rt, file) else {
+        return Ok(whole);
+    };
+    tell(rt, file, &format_args!("you can't serve it: {reason}"), ())?;
+    report_remedy(rt, file, &reason)?;
+    Ok(FileState::Ill)
 }
 
 /// Prints this of the file or folder with this name, and returns the value.
@@ -130,29 +133,6 @@ fn report_remedy(rt: &HostRuntime, path: &str, reason: &io::Error) -> io::Result
     match remedy_of(rt, path, reason, None) {
         Some(remedy) => rt.println(&remedy),
         None => Ok(()),
-    }
-}
-
-/// Reports whether the files are all the segments of one server.
-fn report_order(
-    rt: &HostRuntime,
-    folder: &str,
-    files: &[String],
-    places: &[SegmentPlace],
-) -> io::Result<bool>
-    requires { length places.now ≡ length files.now }
-{
-    match order_of(rt.alloc(), folder, files, places) {
-        Ok(_order) => {
-            let line = format_args!(
-                "no segment is missing: serve it with snapd serve ADDR --dir {folder}"
-            );
-            tell(rt, folder, &line, true)
-        }
-        Err(trouble) => {
-            report_trouble(rt, &trouble)?;
-            Ok(false)
-        }
     }
 }
 
@@ -174,10 +154,8 @@ fn report_trouble(rt: &HostRuntime, trouble: &FolderReadFault<'_>) -> io::Result
 /// Reports the type of the folder's file system, and whether locks work there. They are tried on a
 /// segment's file, if there is one, since some file systems don't lock folders.
 fn report_file_system(rt: &HostRuntime, folder: &str, files: &[String]) -> io::Result<bool> {
-    let kind = match file_system_of(rt, folder) {
-        Some(kind) => kind,
-        None => String::from_str(rt.alloc(), "unknown")?,
-    };
+    let kind = file_system_of(rt, folder);
+    let kind = kind.as_deref().unwrap_or("unknown");
     let tried = path_at(folder, files, 0);
     let (are_kept, locks) = match keeps_locks(rt, tried) {
         Ok(true) => (true, "and keeps locks"),
@@ -195,6 +173,9 @@ fn report_file_system(rt: &HostRuntime, folder: &str, files: &[String]) -> io::R
     let line = format_args!("its file system is {kind}, {locks}");
     tell(rt, folder, &line, are_kept)
 }
+
+/// A store of fewer microseconds can't have waited for a disk: it syncs twice.
+const SHORTEST: u128 = 40;
 
 /// Reports how long a store takes in the folder, and whether it can have waited for a disk.
 fn report_stores(rt: &HostRuntime, folder: &str) -> io::Result<bool> {
@@ -214,7 +195,7 @@ fn report_stores(rt: &HostRuntime, folder: &str) -> io::Result<bool> {
         "a store takes {median} us (p50), {late} us (p99): {STORES} stores of {STORED_LEN} bytes"
     );
     tell(rt, folder, &line, ())?;
-    if times.are_too_short() {
+    if median < SHORTEST {
         let why =
             "no disk was waited for in that time: it is memory, or a disk that answers before it keeps, and \
             a power cut may take what was acknowledged";

@@ -15,34 +15,26 @@ use snap_frame::SegmentValue;
 use snap_order::{DumpOptions, DumpSource, FileOrder, Status};
 use std::fmt::InlineText;
 
-/// The size of the buffer for a time.
-const ROOM: usize = 32;
-
-/// Prints a dump, or nothing if it fails. Its time is taken before its values are requested, so it
-/// has every update that was acknowledged before that time.
+/// Prints a dump, or nothing if it fails. It has every update that was acknowledged before its time, since that is
+/// taken before the values are requested.
 pub fn dump(rt: &HostRuntime, order: &DumpOptions<'_>) -> Result<Status, Status>
     requires { IsDumpable order.now }
 {
     let now = Timestamp::now(rt).map_err(|error| fail_of(rt, "the clock", &error))?;
     // In RFC 3339 format, in UTC and cut to seconds.
-    let time = InlineText::<ROOM>::of(format_args!("{now:.0}"));
+    let time = InlineText::<32>::of(format_args!("{now:.0}"));
     let values = match order.holder {
         DumpSource::Server { address } => fetch(rt, address, order)?,
         DumpSource::Folder { folder } => folder_values(rt, folder)?,
     };
-    print_dump(rt, time.as_str(), &values)?;
-    Ok(Status::Done)
-}
-
-/// Prints the dump of these values, if it can be read back. So a copy that no load would accept is
-/// noticed when it is made, not when it is needed.
-fn print_dump(rt: &HostRuntime, time: &str, values: &[SegmentValue]) -> Result<(), Status> {
-    let text = or_stop(rt, document(rt.alloc(), time, values))?;
+    let text = or_stop(rt, document(rt.alloc(), time.as_str(), &values))?;
+    // It is read back, so that a copy that no load would accept is noticed when it is made, not when it is needed.
     match read(rt.alloc(), text.as_slice()) {
-        Ok(_) => print_whole(rt, text.as_slice()),
-        Err(DumpFault::NoMemory) => Err(stop_without_memory(rt)),
-        Err(fault) => Err(fail_of(rt, "the dump can't be read back", &fault)),
+        Ok(_) => print_whole(rt, text.as_slice())?,
+        Err(DumpFault::NoMemory) => return Err(stop_without_memory(rt)),
+        Err(fault) => return Err(fail_of(rt, "the dump can't be read back", &fault)),
     }
+    Ok(Status::Done)
 }
 
 /// The values of a folder's files. All files stay locked until the last one is read, so the values are of one moment.
@@ -64,23 +56,22 @@ fn read_files(rt: &HostRuntime, files: &[&str]) -> Result<Vec<SegmentValue>, Sta
     let (mut locked, mut values) = (Vec::new(rt.alloc()), Vec::new(rt.alloc()));
     for index in 0..count {
         let at = usize::from(index);
-        let value = read_file(rt, files[at], index, count, &told[at], &mut locked)?;
-        if values.push(value).is_err() {
+        let (disk, value) = read_file(rt, files[at], index, count, &told[at])?;
+        if locked.push(disk).is_err() || values.push(value).is_err() {
             return Err(stop_without_memory(rt));
         }
     }
     Ok(values)
 }
 
-/// The value of this file, which is put with its lock to those that are read.
+/// The locked file with its value.
 fn read_file<'f>(
     rt: &'f HostRuntime,
     file: &'f str,
     index: u8,
     count: u8,
     told: &'f FirstFault,
-    locked: &mut Vec<FileDisk<'f, HostRuntime>>,
-) -> Result<SegmentValue, Status>
+) -> Result<(FileDisk<'f, HostRuntime>, SegmentValue), Status>
     requires below { index < count }
     requires few { count ≤ MAX_COUNT }
 {
@@ -90,12 +81,7 @@ fn read_file<'f>(
     };
     let len = disk.len();
     match held_value(rt.alloc(), index, count, disk) {
-        (disk, Ok(value)) => {
-            if locked.push(disk).is_err() {
-                return Err(stop_without_memory(rt));
-            }
-            Ok(value)
-        }
+        (disk, Ok(value)) => Ok((disk, value)),
         (_, Err(why)) => {
             let order = FileOrder::Get { file, index, count };
             let refused = CommandFault::Refused(why);

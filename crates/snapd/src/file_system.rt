@@ -1,43 +1,32 @@
 //! The type of a folder's file system, whether its locks work, and what denies this user a path.
 
-use std::alloc::Global;
 use std::fs::{self, File, Metadata, TryLockError};
 use std::io::{self, ErrorKind};
 use std::os::unix::fs::MetadataExt;
 use std::path::Path;
 
-/// Linux's list of mounts, a line each.
-const MOUNTS: &str = "/proc/self/mountinfo";
-
-/// Precedes the type of the file system in such a line.
-const BEHIND: &str = " - ";
-
 /// The permission bits of a mode, with set-user-ID, set-group-ID and sticky.
-const MODE: u32 = 0o7777;
+pub const MODE: u32 = 0o7777;
 
 /// The type of the file system that has this path, such as `ext4`. `None` if the system doesn't say.
 pub fn file_system_of(rt: &HostRuntime, path: &str) -> Option<String> {
     let device = fs::metadata(rt, path).ok()?.dev();
-    let mounts = fs::read_to_string(rt, MOUNTS).ok()?;
-    let name = device_name(rt.alloc(), device)?;
+    let mounts = fs::read_to_string(rt, "/proc/self/mountinfo").ok()?;
+    let major = (device >> 8 & 0xFFF) | (device >> 32 & !0xFFF);
+    let minor = (device & 0xFF) | (device >> 12 & !0xFF);
+    let name = format!(in rt.alloc(); "{major}:{minor}").ok()?;
     let kind = kind_in(mounts.as_str(), name.as_str())?;
     String::from_str(rt.alloc(), kind).ok()
 }
 
-/// The number of a device, as in the list of mounts.
-fn device_name(alloc: Global, device: u64) -> Option<String> {
-    let major = (device >> 8 & 0xFFF) | (device >> 32 & !0xFFF);
-    let minor = (device & 0xFF) | (device >> 12 & !0xFF);
-    format!(in alloc; "{major}:{minor}").ok()
-}
-
-/// The type in the last line of this device, since a later mount covers an earlier one.
+/// The type in the last of the mounts' lines that has this device, since a later mount covers an earlier one.
 fn kind_in<'m>(mounts: &'m str, device: &str) -> Option<&'m str> {
     let mut found = None;
     for line in mounts.lines() {
-        let is_here = line.split(' ').nth(2).is_some_and(|name| name == device);
-        if let (true, Some((_, behind))) = (is_here, line.split_once(BEHIND)) {
-            found = behind.split(' ').next();
+        if line.split(' ').nth(2) == Some(device) {
+            if let Some((_, behind)) = line.split_once(" - ") {
+                found = behind.split(' ').next();
+            }
         }
     }
     found
@@ -47,14 +36,10 @@ fn kind_in<'m>(mounts: &'m str, device: &str) -> Option<&'m str> {
 pub fn keeps_locks(rt: &HostRuntime, path: &str) -> io::Result<bool> {
     let first = opened(rt, path)?;
     let second = opened(rt, path)?;
-    if !has_locked(&first)? {
-        return Ok(true);
-    }
-    Ok(!has_locked(&second)?)
+    Ok(!has_locked(&first)? || !has_locked(&second)?)
 }
 
-/// Opens the file at this path as a server would: for writing, and with its lock unless another
-/// process has that. Then closes it. Nothing is written.
+/// Opens the file at this path as a server would, for writing, tries its lock, and closes it. Nothing is written.
 pub fn try_as_server(rt: &HostRuntime, path: &str) -> io::Result<()> {
     let file = File::options().read(true).write(true).open(rt, path)?;
     has_locked(&file)?;
@@ -88,9 +73,8 @@ pub fn has_locked(file: &File) -> io::Result<bool> {
     }
 }
 
-/// The obstacle that denies this user the path, if the system gave this reason, with advice: a text that begins with
-/// the path at fault. `command` makes the path, if it doesn't exist. `None` if there is no advice, or if memory runs
-/// out.
+/// What denies this user the path, for this reason of the system, with advice. `command` is what makes a path that
+/// doesn't exist. `None` if there is no advice, or if memory runs out.
 pub fn remedy_of(
     rt: &HostRuntime,
     path: &str,
@@ -125,11 +109,8 @@ fn remedy_of_denial(rt: &HostRuntime, path: &str) -> Option<String> {
 fn nearest<'p>(rt: &HostRuntime, path: &'p str) -> Option<(&'p str, Metadata)> {
     for place in Path::new(path).ancestors() {
         // The last ancestor of a relative path is the working directory.
-        let place = if place.as_str().is_empty() {
-            "."
-        } else {
-            place.as_str()
-        };
+        let place = place.as_str();
+        let place = if place.is_empty() { "." } else { place };
         if let Ok(found) = fs::metadata(rt, place) {
             return Some((place, found));
         }
@@ -137,15 +118,10 @@ fn nearest<'p>(rt: &HostRuntime, path: &'p str) -> Option<(&'p str, Metadata)> {
     None
 }
 
-/// The folder of this path. `None` for the root and the empty path.
-fn folder_of(path: &str) -> Option<&str> {
-    let folder = Path::new(path).parent()?.as_str();
-    Some(if folder.is_empty() { "." } else { folder })
-}
-
-/// The missing part of a path that doesn't exist, with advice.
+/// The missing part of a path that doesn't exist, with advice. `None` for the root and the empty path.
 fn remedy_of_want(rt: &HostRuntime, path: &str, command: Option<String>) -> Option<String> {
-    let folder = folder_of(path)?;
+    let folder = Path::new(path).parent()?.as_str();
+    let folder = if folder.is_empty() { "." } else { folder };
     if fs::symlink_metadata(rt, path).is_ok() {
         return format!(in rt.alloc();
             "{path}: it is a link to what isn't there: make that, or give another path"

@@ -16,21 +16,17 @@ use std::sync::OnceLock;
 
 /// The reason why a call on an open file failed first. The file's device sets it; it outlives the device.
 #[derive(Drop)]
-pub struct FirstFault {
-    fault: OnceLock<CallFault>,
-}
+pub struct FirstFault(OnceLock<CallFault>);
 
 impl FirstFault {
     /// No call has failed yet.
     pub fn new() -> FirstFault {
-        FirstFault {
-            fault: OnceLock::new(),
-        }
+        FirstFault(OnceLock::new())
     }
 
     /// Where the file's device puts the reason.
     pub fn place(&self) -> &OnceLock<CallFault> {
-        &self.fault
+        &self.0
     }
 }
 
@@ -39,7 +35,7 @@ impl SystemReason for FirstFault {
     ghost may_give = { λ _ _. Unit {0} };
 
     fn text(&self, alloc: Global) -> Option<String> {
-        self.fault.get()?.to_string(alloc).ok()
+        self.0.get()?.to_string(alloc).ok()
     }
 }
 
@@ -118,72 +114,43 @@ pub fn writes(order: &FileOrder<'_>) -> bool {
     matches!(order, FileOrder::Format { .. } | FileOrder::Put { .. })
 }
 
-/// Opens the files of a migration by [`open_pair`]. Prints the reason if that fails.
+/// Opens the files of a migration as devices: first the old one, which others may still read, and then the new one,
+/// which is made if it doesn't exist. `told_old` and `told_new` get the reason why a call on each fails. Prints the
+/// reason if one can't be opened; if both have a wrong length, that of the old one.
 pub fn take_pair<'a>(
     rt: &'a HostRuntime,
     order: &MigrateOptions<'_>,
-    old: &'a str,
-    new: &'a str,
+    old_path: &'a str,
+    new_path: &'a str,
     told_old: &'a FirstFault,
     told_new: &'a FirstFault,
 ) -> Result<(FileDisk<'a, HostRuntime>, FileDisk<'a, HostRuntime>), Status>
     ensures { IfOk result (λ pair. IsUncalled pair.0 × IsUncalled pair.1) }
 {
-    match open_pair(rt, old, new, told_old, told_new) {
-        Ok(pair) => Ok(pair),
-        Err(PairFault::Path { file, fault }) => Err(fail_at(rt, file, &fault)),
-        Err(PairFault::WrongFile(which)) => {
-            let why = Refusal::WrongFile;
-            let refused = MigrationFault::OfFile { which, why };
-            let causes = Causes {
-                old: told_old,
-                new: told_new,
-            };
-            let ended = refused.report(rt.alloc(), order, &causes, &mut rt.stderr());
-            Err(ended.status)
-        }
-        Err(PairFault::SameFile) => Err(fail_twice(rt, old, new)),
-    }
-}
-
-/// The reason why the files of a migration couldn't be opened.
-#[derive(Drop)]
-enum PairFault<'a> {
-    /// The file at this path couldn't be opened.
-    Path { file: &'a str, fault: FileFault },
-    /// This file has a wrong length.
-    WrongFile(Which),
-    /// Both paths name one file.
-    SameFile,
-}
-
-/// Opens the files of a migration as devices: first the old one, which others may still read, and
-/// then the new one, which is made if it doesn't exist. If both have a wrong length, the old one is
-/// reported. `told_old` and `told_new` get the reason why a call on each fails.
-fn open_pair<'a>(
-    rt: &'a HostRuntime,
-    old: &'a str,
-    new: &'a str,
-    told_old: &'a FirstFault,
-    told_new: &'a FirstFault,
-) -> Result<(FileDisk<'a, HostRuntime>, FileDisk<'a, HostRuntime>), PairFault<'a>>
-    ensures { IfOk result (λ pair. IsUncalled pair.0 × IsUncalled pair.1) }
-{
-    let file = old;
-    let old = match FileDisk::open(rt, file, Lock::Shared) {
+    let old = match FileDisk::open(rt, old_path, Lock::Shared) {
         Ok(old) => old.telling(told_old.place()),
-        Err(fault) => return Err(PairFault::Path { file, fault }),
+        Err(fault) => return Err(fail_at(rt, old_path, &fault)),
     };
-    let file = new;
-    match FileDisk::create(rt, file) {
-        Ok(new) => Ok((old, new.telling(told_new.place()))),
-        Err(FileFault::WrongFile { .. }) if old.len() != OLD_FILE_LEN => {
-            Err(PairFault::WrongFile(Which::Old))
-        }
-        Err(FileFault::WrongFile { .. }) => Err(PairFault::WrongFile(Which::New)),
-        Err(FileFault::InUse(id)) if id == old.id() => Err(PairFault::SameFile),
-        Err(fault) => Err(PairFault::Path { file, fault }),
-    }
+    let fault = match FileDisk::create(rt, new_path) {
+        Ok(new) => return Ok((old, new.telling(told_new.place()))),
+        Err(fault) => fault,
+    };
+    let (len, id) = (old.len(), old.id());
+    drop(old);
+    let which = match fault {
+        FileFault::WrongFile { .. } if len != OLD_FILE_LEN => Which::Old,
+        FileFault::WrongFile { .. } => Which::New,
+        FileFault::InUse(other) if other == id => return Err(fail_twice(rt, old_path, new_path)),
+        _ => return Err(fail_at(rt, new_path, &fault)),
+    };
+    let why = Refusal::WrongFile;
+    let refused = MigrationFault::OfFile { which, why };
+    let causes = Causes {
+        old: told_old,
+        new: told_new,
+    };
+    let ended = refused.report(rt.alloc(), order, &causes, &mut rt.stderr());
+    Err(ended.status)
 }
 
 /// Linux's RLIMIT_FSIZE: the limit on the length of files that a process writes.
@@ -192,5 +159,6 @@ const FILE_LENGTHS: i32 = 1;
 /// The most bytes of a file that this process may write, if that is less than a segment file has.
 /// Beyond it the system would kill the server with all its segments.
 pub fn too_short_files() -> Option<u64> {
-    limit_of(FILE_LENGTHS).filter(|limit| *limit < FILE_LEN)
+    let limit = limit_of(FILE_LENGTHS)?;
+    (limit < FILE_LEN).then_some(limit)
 }

@@ -1,14 +1,14 @@
 //! Folders with the files of all segments: `init` makes them, and `serve --dir` opens them.
 //!
-//! Only the header of a file says which segment it is, so the files may have any names that end in
-//! `.seg`. `snap_file_commands` judges the headers; this module reads them.
+//! Only the header of a file says which segment it is, so the files may have any names that end in `.seg`.
+//! `snap_file_commands` judges the headers; this module reads them.
 ghost use Rattle.std.specs.Prelude.{◌≡◌, ◌<◌, ◌≤◌, All, IfOk, length};
 ghost use Rattle.snap_file_commands.specs.SegmentOrder.{IsFaultOf};
 ghost use Rattle.snap_order.specs.Limits.{MAX_COUNT};
 
 use crate::complaint::fail_at_folder;
 use crate::files::{FirstFault, open_telling};
-use crate::folder_refusal::{FileRefusal, FolderRefusal, Pair};
+use crate::folder_refusal::{FileRefusal, FolderRefusal};
 use snap_devices::{FileFault, Lock, sync_folder_of};
 use snap_disk::{Disk, Refusal};
 use snap_file_commands::{
@@ -18,7 +18,7 @@ use snap_order::{OLD_FILE_LEN, Status};
 use snap_segment::{Findings, Header, check};
 use snap_stream::SystemReason;
 use std::alloc::{AllocError, Global};
-use std::fs::{self, DirEntry};
+use std::fs;
 use std::io::{self, ErrorKind};
 use std::path::Path;
 
@@ -39,18 +39,16 @@ impl From<AllocError> for FolderReadFault<'_> {
     }
 }
 
-/// Makes the folder at this path if it doesn't exist, and syncs its name, if the system allows
-/// that. It leaves anything that exists at the path as it is.
+/// Makes the folder at this path, if nothing is there yet, and syncs its name, if the system allows that.
 pub fn make_folder(rt: &HostRuntime, folder: &str) -> io::Result<()> {
     match fs::create_dir(rt, folder) {
-        Err(reason) if reason.kind() != ErrorKind::AlreadyExists => return Err(reason),
-        _ => {}
+        Err(reason) if reason.kind() != ErrorKind::AlreadyExists => Err(reason),
+        _ => sync_folder_of(rt, folder),
     }
-    sync_folder_of(rt, folder)
 }
 
-/// The paths of the folder's files whose names end in `.seg`, in order of name. Names that aren't
-/// UTF-8 are skipped. Prints the reason if they can't be listed.
+/// The paths of the folder's files whose names end in `.seg`, in order of name. Names that aren't UTF-8 are skipped.
+/// Prints the reason if they can't be listed.
 pub fn segment_files(rt: &HostRuntime, folder: &str) -> Result<Vec<String>, Status> {
     listed(rt, folder).map_err(|reason| fail_at_folder(rt, folder, reason))
 }
@@ -59,33 +57,21 @@ pub fn segment_files(rt: &HostRuntime, folder: &str) -> Result<Vec<String>, Stat
 fn listed(rt: &HostRuntime, folder: &str) -> io::Result<Vec<String>> {
     let mut files = Vec::new(rt.alloc());
     for entry in fs::read_dir(rt, folder)? {
-        if let Some(file) = segment_file(rt.alloc(), folder, entry)? {
-            files.push(file)?;
+        match entry {
+            Ok(entry) if is_segment_name(entry.file_name()) => {
+                files.push(path_in(rt.alloc(), folder, entry.file_name())?)?;
+            }
+            Err(reason) if reason.kind() != ErrorKind::InvalidFilename => return Err(reason),
+            _ => {}
         }
     }
     files.sort()?;
     Ok(files)
 }
 
-/// The path of this entry of the folder, if its name ends in `.seg`.
-fn segment_file(
-    alloc: Global,
-    folder: &str,
-    entry: io::Result<DirEntry>,
-) -> io::Result<Option<String>> {
-    match entry {
-        Ok(entry) if is_segment_name(entry.file_name()) => {
-            Ok(Some(path_in(alloc, folder, entry.file_name())?))
-        }
-        Err(reason) if reason.kind() != ErrorKind::InvalidFilename => Err(reason),
-        _ => Ok(None),
-    }
-}
-
 /// The path of this name in the folder.
 fn path_in(alloc: Global, folder: &str, name: &str) -> Result<String, AllocError> {
-    let path = Path::new(folder).join(alloc, name)?;
-    String::from_str(alloc, path.as_str())
+    Ok(Path::new(folder).join(alloc, name)?.into_string())
 }
 
 /// The path of the file that this segment gets in the folder.
@@ -220,33 +206,24 @@ pub fn findings_of<'f>(
         Ok(disk) => disk,
         Err(fault) => return Err(FolderReadFault::Path { file, fault }),
     };
-    match check(&mut disk) {
-        Ok(findings) => Ok(findings),
-        Err(Refusal::DeviceFailed) => Err(failure_of(rt.alloc(), file, &told)),
-        Err(_) => Err(refused(no_segment(folder, file, disk.len()))),
-    }
-}
-
-/// The reason why a file of this length, which isn't a segment file's, is none.
-fn no_segment<'f>(folder: &'f str, file: &'f str, len: u64) -> FileRefusal<'f> {
-    match len {
-        0 => FileRefusal::Unformatted { folder, file },
-        OLD_FILE_LEN => FileRefusal::OldFormat { folder, file },
-        _ => FileRefusal::NoSegment { folder, file },
-    }
+    let why = match check(&mut disk) {
+        Ok(findings) => return Ok(findings),
+        Err(Refusal::DeviceFailed) => match told.text(rt.alloc()) {
+            Some(reason) => FileRefusal::Failed { file, reason },
+            None => return Err(FolderReadFault::NoMemory),
+        },
+        Err(_) => match disk.len() {
+            0 => FileRefusal::Unformatted { folder, file },
+            OLD_FILE_LEN => FileRefusal::OldFormat { folder, file },
+            _ => FileRefusal::NoSegment { folder, file },
+        },
+    };
+    Err(refused(why))
 }
 
 /// The refusal of one file.
 fn refused(why: FileRefusal<'_>) -> FolderReadFault<'_> {
     FolderReadFault::Refused(FolderRefusal::File(why))
-}
-
-/// The refusal of a file that couldn't be read.
-fn failure_of<'f>(alloc: Global, file: &'f str, told: &FirstFault) -> FolderReadFault<'f> {
-    match told.text(alloc) {
-        Some(reason) => refused(FileRefusal::Failed { file, reason }),
-        None => FolderReadFault::NoMemory,
-    }
 }
 
 /// The fault of the files, if their headers have these places.
@@ -259,34 +236,27 @@ fn trouble_of<'f>(
 ) -> FolderReadFault<'f>
     requires { IsFaultOf places.now fault }
 {
-    let pair = |first, second| pair_of(folder, files, places, first, second);
-    FolderReadFault::Refused(match fault {
-        FolderFault::Empty => FolderRefusal::NoFiles { folder },
-        FolderFault::NoPlace { file } => FolderRefusal::File(FileRefusal::NoSegment {
+    match fault {
+        FolderFault::Empty => FolderReadFault::Refused(FolderRefusal::NoFiles { folder }),
+        FolderFault::NoPlace { file } => refused(FileRefusal::NoSegment {
             folder,
             file: path_at(folder, files, file),
         }),
-        FolderFault::OtherCount { file } => FolderRefusal::OtherCount(pair(0, file)),
-        FolderFault::Twice { first, second } => FolderRefusal::Twice(pair(first, second)),
-        FolderFault::Missing { index, count } => return missing(alloc, folder, index, count),
-        FolderFault::NoMemory => return FolderReadFault::NoMemory,
-    })
-}
-
-/// Two of the files with their places.
-fn pair_of<'f>(
-    folder: &'f str,
-    files: &'f [String],
-    places: &[SegmentPlace],
-    first: usize,
-    second: usize,
-) -> Pair<'f> {
-    Pair {
-        folder,
-        first: path_at(folder, files, first),
-        first_place: place_at(places, first),
-        file: path_at(folder, files, second),
-        place: place_at(places, second),
+        FolderFault::OtherCount { file } => refused(FileRefusal::OtherCount {
+            folder,
+            first: path_at(folder, files, 0),
+            first_count: place_at(places, 0).count,
+            file: path_at(folder, files, file),
+            count: place_at(places, file).count,
+        }),
+        FolderFault::Twice { first, second } => refused(FileRefusal::Twice {
+            folder,
+            first: path_at(folder, files, first),
+            file: path_at(folder, files, second),
+            place: place_at(places, second),
+        }),
+        FolderFault::Missing { index, count } => missing(alloc, folder, index, count),
+        FolderFault::NoMemory => FolderReadFault::NoMemory,
     }
 }
 

@@ -19,16 +19,12 @@ pub enum FolderRefusal<'f> {
     },
     /// A file's header has another count than is wanted.
     AnotherCount {
-        file: String,
+        file: &'f str,
         count: u8,
         wanted: u8,
     },
     /// One file is refused.
     File(FileRefusal<'f>),
-    /// The headers of two files have different counts.
-    OtherCount(Pair<'f>),
-    /// Two files are of the same segment.
-    Twice(Pair<'f>),
     /// A segment has no file.
     Missing {
         folder: &'f str,
@@ -64,8 +60,6 @@ impl Display for FolderRefusal<'_> {
                     there; a folder of more is made of a dump, by snapd load"
             ),
             FolderRefusal::File(why) => why.fmt(f),
-            FolderRefusal::OtherCount(pair) => pair.write_counts(f),
-            FolderRefusal::Twice(pair) => pair.write_index(f),
             FolderRefusal::Missing {
                 folder,
                 file,
@@ -80,17 +74,44 @@ impl Display for FolderRefusal<'_> {
     }
 }
 
-/// The reason why a file isn't a segment's.
+/// The reason why a file isn't a segment's of the folder.
 #[derive(Drop)]
 pub enum FileRefusal<'f> {
     /// It has no header, or is empty.
-    Unformatted { folder: &'f str, file: &'f str },
+    Unformatted {
+        folder: &'f str,
+        file: &'f str,
+    },
     /// It has the length of the old format.
-    OldFormat { folder: &'f str, file: &'f str },
+    OldFormat {
+        folder: &'f str,
+        file: &'f str,
+    },
     /// It has another length, or another header.
-    NoSegment { folder: &'f str, file: &'f str },
+    NoSegment {
+        folder: &'f str,
+        file: &'f str,
+    },
     /// It couldn't be read.
-    Failed { file: &'f str, reason: String },
+    Failed {
+        file: &'f str,
+        reason: String,
+    },
+    /// Its header has another count than that of the first file.
+    OtherCount {
+        folder: &'f str,
+        first: &'f str,
+        first_count: u8,
+        file: &'f str,
+        count: u8,
+    },
+    /// It is of this segment, as the first file is.
+    Twice {
+        folder: &'f str,
+        first: &'f str,
+        file: &'f str,
+        place: SegmentPlace,
+    },
 }
 
 impl Display for FileRefusal<'_> {
@@ -115,39 +136,26 @@ impl Display for FileRefusal<'_> {
                 f,
                 "{file}: {reason}: look after its disk, and start again"
             ),
+            FileRefusal::OtherCount {
+                folder,
+                first,
+                first_count,
+                file,
+                count,
+            } => write!(
+                f,
+                "{file}: it is of {count} segments, and {first} of {first_count}: move the one that doesn't belong \
+                    here out of {folder}"
+            ),
+            FileRefusal::Twice {
+                folder,
+                first,
+                file,
+                place: SegmentPlace { index, count },
+            } => write!(
+                f,
+                "{file}: it is segment {index} of {count}, as {first} is: move one of them out of {folder}"
+            ),
         }
-    }
-}
-
-/// Two files that can't be of one server, with the places in their headers.
-#[derive(Clone, Copy)]
-pub struct Pair<'f> {
-    pub folder: &'f str,
-    pub first: &'f str,
-    pub first_place: SegmentPlace,
-    pub file: &'f str,
-    pub place: SegmentPlace,
-}
-
-impl Pair<'_> {
-    /// Writes that they have different counts.
-    fn write_counts<W: Write>(&self, f: &mut Formatter<W>) -> fmt::Result {
-        let (folder, first, file) = (self.folder, self.first, self.file);
-        let (first_count, count) = (self.first_place.count, self.place.count);
-        write!(
-            f,
-            "{file}: it is of {count} segments, and {first} of {first_count}: move the one that doesn't belong here \
-                out of {folder}"
-        )
-    }
-
-    /// Writes that they are of the same segment.
-    fn write_index<W: Write>(&self, f: &mut Formatter<W>) -> fmt::Result {
-        let (folder, first, file) = (self.folder, self.first, self.file);
-        let SegmentPlace { index, count } = self.place;
-        write!(
-            f,
-            "{file}: it is segment {index} of {count}, as {first} is: move one of them out of {folder}"
-        )
     }
 }

@@ -58,7 +58,7 @@ fn check_address(rt: &HostRuntime, order: &ServeOptions<'_>, address: &str) -> R
         let why = "HTTP is answered at HOST:PORT: give for example 127.0.0.1:7080";
         return Err(fail_of(rt, address, &why));
     }
-    if !address.ends_with(":0") && order.addresses.iter().any(|own| *own == address) {
+    if !address.ends_with(":0") && order.addresses.contains(&address) {
         let why = "clients and HTTP can't have one address: give --http another port";
         say_of(rt, address, &why);
         return Err(Status::Misused);
@@ -100,25 +100,9 @@ pub struct HttpView<'a, X: Wait + Clock> {
 impl<X: Wait + Clock> Observer for HttpView<'_, X> {
     /// Answers with this service until the server ends, and takes a sample of the metrics about once a second.
     fn look<Y: Wait + Clock, S: Service + Drop>(&self, rt: &Y, service: S) {
-        let server = self.place.server.lock(rt).take();
-        if let Some(server) = server {
-            self.answer(rt, service, server);
-        }
-    }
-
-    fn stop(&self) {
-        self.place.stop.stop();
-    }
-}
-
-impl<X: Wait + Clock> HttpView<'_, X> {
-    /// Answers by this server until it ends.
-    fn answer<Y: Wait + Clock, S: Service + Drop>(
-        &self,
-        rt: &Y,
-        service: S,
-        mut server: HttpServer,
-    ) {
+        let Some(mut server) = self.place.server.lock(rt).take() else {
+            return;
+        };
         let address = self.place.address;
         info!(self.log; target: "http", "browsers and monitors are answered at http://{address}/");
         let alloc = self.process.rt.alloc();
@@ -132,5 +116,9 @@ impl<X: Wait + Clock> HttpView<'_, X> {
         if let Err(error) = server.serve(rt, &mut board, &seen) {
             warn!(self.log; target: "http", "no browser and no monitor is answered any more: {error}");
         }
+    }
+
+    fn stop(&self) {
+        self.place.stop.stop();
     }
 }

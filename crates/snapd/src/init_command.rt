@@ -35,14 +35,13 @@ pub fn init(rt: &HostRuntime, order: &InitOptions<'_>) -> Result<Status, Status>
     };
     match sign_of_loss(survey.lacking.len(), &survey.numbers) {
         Some(at) if !order.is_missing_empty => {
-            let loss = Loss {
-                folder,
-                count: order.count,
-                lacking: &survey.lacking,
-                sign: path_at(folder, &files, at),
-                number: survey.numbers[at],
-            };
-            Err(refuse(rt, &loss))
+            let (lacking, count) = (Listed(&survey.lacking), order.count);
+            let (sign, number) = (path_at(folder, &files, at), survey.numbers[at]);
+            let why = format_args!(
+                "{lacking}: missing or never formatted, though {sign} holds number {number}: restore what is missing \
+                    from a backup, or make it new and empty with snapd init {folder} --count {count} --missing-empty"
+            );
+            Err(refuse(rt, &why))
         }
         _ => found_all(rt, order, &survey.kept),
     }
@@ -72,12 +71,10 @@ fn survey_of<'f>(
     let mut kept: Vec<Option<&'f str>> = vec![in rt.alloc(); None; usize::from(count)]?;
     let mut numbers = Vec::with_capacity(rt.alloc(), files.len())?;
     for file in files {
-        let file = file.as_str();
-        let found = look_at(rt, folder, count, file)?;
-        if numbers.push(found.number).is_err() {
+        let number = look_at(rt, folder, count, file.as_str(), &mut kept)?;
+        if numbers.push(number).is_err() {
             return Err(FolderReadFault::NoMemory);
         }
-        keep(&mut kept, file, found);
     }
     let lacking = lacking_files(rt.alloc(), folder, count, &kept)?;
     Ok(Survey {
@@ -85,16 +82,6 @@ fn survey_of<'f>(
         lacking,
         numbers,
     })
-}
-
-/// Keeps the file for its segment. If two files are of one segment, the one with the segment's name counts.
-fn keep<'f>(kept: &mut [Option<&'f str>], file: &'f str, found: Looked) {
-    if let Some(index) = found.index {
-        let at = usize::from(index);
-        if at < kept.len() && (found.is_named || kept[at].is_none()) {
-            kept[at] = Some(file);
-        }
-    }
 }
 
 /// The paths of the files that are missing.
@@ -120,50 +107,50 @@ fn file_in<'f>(kept: &[Option<&'f str>], index: u8) -> Option<&'f str> {
     *kept.get(usize::from(index))?
 }
 
-/// The result of one file's check.
-#[derive(Clone, Copy)]
-struct Looked {
-    /// The segment whose file it is, if it is kept.
-    index: Option<u8>,
-    /// Whether it has the name of one of the segments.
-    is_named: bool,
-    /// The greatest number in it.
-    number: u64,
-}
-
-/// Checks the file at this path.
+/// Checks the file at this path, and keeps it for its segment: of two files of one segment the one with the segment's
+/// name. Returns the greatest number in it.
 fn look_at<'f>(
     rt: &HostRuntime,
     folder: &'f str,
     count: u8,
     file: &'f str,
-) -> Result<Looked, FolderReadFault<'f>>
+    kept: &mut [Option<&'f str>],
+) -> Result<u64, FolderReadFault<'f>>
     requires { count ≤ MAX_COUNT }
 {
     let name = Path::new(file).file_name().unwrap_or("");
     let named = index_of_name(rt.alloc(), name, count)?;
-    let (index, number) = match findings_of(rt, folder, file) {
+    let mut number = 0;
+    let index = match findings_of(rt, folder, file) {
         Ok(findings) => {
-            let number = greatest_number(&findings);
-            let index = segment_by(rt.alloc(), count, file, named, findings.header, number)?;
-            (index, number)
+            number = greatest_number(&findings);
+            segment_by(count, file, named, findings.header, number)?
         }
-        Err(trouble) => (segment_in(named, trouble)?, 0),
+        Err(trouble) => match trouble {
+            FolderReadFault::Refused(FolderRefusal::File(FileRefusal::Unformatted { .. })) => None,
+            FolderReadFault::Path {
+                fault: FileFault::InUse(_),
+                ..
+            }
+            | FolderReadFault::NoMemory => return Err(trouble),
+            // Any other fault is reported later, in its turn.
+            _ => named,
+        },
     };
-    Ok(Looked {
-        index,
-        is_named: named.is_some(),
-        number,
-    })
+    if let Some(index) = index {
+        let at = usize::from(index);
+        if at < kept.len() && (named.is_some() || kept[at].is_none()) {
+            kept[at] = Some(file);
+        }
+    }
+    Ok(number)
 }
 
-/// The segment whose file it is: by its name, or by its header if it hasn't the name of a segment.
-/// `None` if it was never formatted, so that it is made. A file that is kept may still be refused
-/// later, in its turn.
+/// The segment whose file it is: by its name, or by its header if it hasn't the name of a segment. `None` if it was
+/// never formatted, so that it is made.
 fn segment_by<'f>(
-    alloc: Global,
     wanted: u8,
-    file: &str,
+    file: &'f str,
     named: Option<u8>,
     header: Header,
     number: u64,
@@ -171,7 +158,7 @@ fn segment_by<'f>(
     match header {
         Header::Open { count, .. } if count != wanted => {
             Err(FolderReadFault::Refused(FolderRefusal::AnotherCount {
-                file: String::from_str(alloc, file)?,
+                file,
                 count,
                 wanted,
             }))
@@ -182,64 +169,30 @@ fn segment_by<'f>(
     }
 }
 
-/// The segment of a file that couldn't be checked. Unless another process has it, the fault is
-/// reported later, in its turn.
-fn segment_in<'f>(
-    named: Option<u8>,
-    trouble: FolderReadFault<'f>,
-) -> Result<Option<u8>, FolderReadFault<'f>> {
-    match trouble {
-        FolderReadFault::Refused(FolderRefusal::File(FileRefusal::Unformatted { .. })) => Ok(None),
-        FolderReadFault::Path {
-            fault: FileFault::InUse(_),
-            ..
-        }
-        | FolderReadFault::NoMemory => Err(trouble),
-        _ => Ok(named),
-    }
-}
-
 /// The greatest number in a slot, or 0 if no slot has one.
 fn greatest_number(findings: &Findings) -> u64 {
     let (first, second, third) = findings.slots;
-    number_in(first)
-        .max(number_in(second))
-        .max(number_in(third))
-}
-
-/// The number in a slot, or 0.
-fn number_in(slot: Slot) -> u64 {
-    match slot {
-        Slot::Open { number, .. } => number,
-        Slot::Closed | Slot::Bad(_) => 0,
+    let mut greatest = 0;
+    for slot in [first, second, third] {
+        if let Slot::Open { number, .. } = slot {
+            greatest = greatest.max(number);
+        }
     }
+    greatest
 }
 
-/// The missing files of a folder that has stored values.
+/// Shows paths with a comma between them.
 #[derive(Clone, Copy)]
-struct Loss<'f> {
-    folder: &'f str,
-    count: u8,
-    lacking: &'f [String],
-    /// A file with a stored value, and its number.
-    sign: &'f str,
-    number: u64,
-}
+struct Listed<'f>(&'f [String]);
 
-impl Display for Loss<'_> {
+impl Display for Listed<'_> {
     fn fmt<W: Write>(&self, f: &mut Formatter<W>) -> fmt::Result {
         let mut between = "";
-        for file in self.lacking {
+        for file in self.0 {
             write!(f, "{between}{file}")?;
             between = ", ";
         }
-        let (sign, number) = (self.sign, self.number);
-        let (folder, count) = (self.folder, self.count);
-        write!(
-            f,
-            ": missing or never formatted, though {sign} holds number {number}: restore what is missing from a \
-                backup, or make it new and empty with snapd init {folder} --count {count} --missing-empty"
-        )
+        Ok(())
     }
 }
 
@@ -254,22 +207,16 @@ fn found_all(
     for index in 0..order.count {
         let status = match file_in(kept, index) {
             Some(file) => found_at(rt, file, index, order.count)?,
-            None => found_new(rt, order, index)?,
+            None => {
+                let file = or_stop(rt, segment_path(rt.alloc(), order.folder, index))?;
+                found_at(rt, file.as_str(), index, order.count)?
+            }
         };
         if status != Status::Done {
             return Err(status);
         }
     }
     Ok(Status::Done)
-}
-
-/// Makes the file of a segment that has none.
-fn found_new(rt: &HostRuntime, order: &InitOptions<'_>, index: u8) -> Result<Status, Status>
-    requires below { index < order.now.count }
-    requires few { order.now.count ≤ MAX_COUNT }
-{
-    let file = or_stop(rt, segment_path(rt.alloc(), order.folder, index))?;
-    found_at(rt, file.as_str(), index, order.count)
 }
 
 /// Makes the file of a segment, or leaves it if it is whole, and prints which.

@@ -1,7 +1,7 @@
 //! The command `load`: makes a folder of the values of a dump.
 //!
-//! The files are made in a folder beside it, which is renamed once all of them are synced. So the
-//! folder exists whole or not at all.
+//! The files are made in a folder beside it, which is renamed once all of them are synced: so it exists whole or not
+//! at all.
 ghost use Rattle.std.specs.Prelude.{◌≡◌, ◌<◌, ◌≤◌, All, IfOk, length};
 ghost use Rattle.snap_frame.specs.Limits.{IsNumber, IsShort};
 ghost use Rattle.snap_order.specs.{Limits.MAX_COUNT, Order.IsLoadable, Order.IsOneTo};
@@ -63,19 +63,12 @@ fn read_from<R: Read>(rt: &HostRuntime, name: &str, reader: &mut R) -> Result<Du
         Err(reason) => return Err(fail_at(rt, name, &FileFault::System(reason))),
     };
     if len > MAX_DUMP_LEN {
-        return Err(refuse_dump(rt, name, DumpFault::TooLong));
+        return Err(refuse_of(rt, name, &DumpFault::TooLong));
     }
     match read(rt.alloc(), &text[..len]) {
         Ok(dump) => Ok(dump),
-        Err(fault) => Err(refuse_dump(rt, name, fault)),
-    }
-}
-
-/// Prints why a text isn't a dump.
-fn refuse_dump(rt: &HostRuntime, name: &str, fault: DumpFault) -> Status {
-    match fault {
-        DumpFault::NoMemory => stop_without_memory(rt),
-        _ => refuse_of(rt, name, &fault),
+        Err(DumpFault::NoMemory) => Err(stop_without_memory(rt)),
+        Err(fault) => Err(refuse_of(rt, name, &fault)),
     }
 }
 
@@ -90,7 +83,7 @@ fn make_folder(
     requires values { All IsKeepable values.now }
 {
     let loading = LoadingFolder::take(rt, folder)?;
-    make_files(rt, loading.path(), count, values)?;
+    make_files(rt, loading.path.as_str(), count, values)?;
     // The line is made first, so that if memory runs out the folder isn't renamed.
     let line = or_stop(rt, format!(in rt.alloc(); "ready {folder}\n"))?;
     loading.put_in_place(rt)?;

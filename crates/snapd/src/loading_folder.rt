@@ -3,12 +3,12 @@
 use crate::complaint::{
     fail_at, fail_at_folder, fail_of, or_stop, refuse, refuse_of, stop_without_memory,
 };
-use crate::file_system::has_locked;
+use crate::file_system::{MODE, has_locked};
 use crate::folder::{index_of_name, make_folder};
 use snap_devices::{FileFault, sync_folder_of};
 use snap_file_commands::MAX_COUNT;
 use snap_order::Status;
-use std::fs::{self, DirEntry, File, Metadata};
+use std::fs::{self, DirEntry, File};
 use std::io::{self, ErrorKind};
 use std::os::unix::fs::{MetadataExt, fchown};
 use std::path::Path;
@@ -19,15 +19,15 @@ pub struct LoadingFolder {
     /// The path that it will get.
     folder: String,
     /// The path until then.
-    path: String,
+    pub path: String,
     /// Its lock.
     _lock: File,
 }
 
 impl LoadingFolder {
-    /// Makes the folder beside the wanted one, or takes over that of an interrupted load and removes its files. If the
-    /// wanted folder exists, the new one gets its owner, group and mode; if it isn't empty, nothing is changed. If a
-    /// file isn't one that a load makes, none is removed. Prints the reason if it fails.
+    /// Makes the folder beside the wanted one, with the owner, group and mode of an empty one that is there. Takes over
+    /// that of an interrupted load, and removes its files if each is one that a load makes. Prints the reason if it
+    /// fails, as for a wanted folder that isn't empty.
     pub fn take(rt: &HostRuntime, wanted: &str) -> Result<LoadingFolder, Status> {
         let folder = bare_path(rt, wanted)?;
         check_free(rt, folder.as_str())?;
@@ -40,43 +40,39 @@ impl LoadingFolder {
         })
     }
 
-    /// The path until [`put_in_place`](Self::put_in_place).
-    pub fn path(&self) -> &str {
-        self.path.as_str()
-    }
-
     /// Renames the folder to its final path, and syncs the name.
     pub fn put_in_place(&self, rt: &HostRuntime) -> Result<(), Status> {
         let (folder, path) = (self.folder.as_str(), self.path.as_str());
-        fs::rename(rt, path, folder).map_err(|reason| {
+        if let Err(reason) = fs::rename(rt, path, folder) {
             let why = format_args!("{reason}: all files are made, in {path}");
-            fail_of(rt, folder, &why)
-        })?;
-        sync_folder_of(rt, folder).map_err(|reason| {
+            return Err(fail_of(rt, folder, &why));
+        }
+        if let Err(reason) = sync_folder_of(rt, folder) {
             let why = format_args!(
                 "{reason}: it is there whole, but a power cut may take its name: look after its disk, and load the \
                     dump elsewhere"
             );
-            fail_of(rt, folder, &why)
-        })
+            return Err(fail_of(rt, folder, &why));
+        }
+        Ok(())
     }
 }
 
 /// The path without a `/` or a `/.` after its name. Prints a message if it has no name.
 fn bare_path(rt: &HostRuntime, wanted: &str) -> Result<String, Status> {
     let place = Path::new(wanted);
-    match place.file_name() {
-        Some(name) => Ok(or_stop(rt, place.with_file_name(rt.alloc(), name))?.into_string()),
-        None => {
-            let why = "it has no name of its own: give the path that the new folder is to have";
-            Err(refuse_of(rt, wanted, &why))
-        }
-    }
+    let Some(name) = place.file_name() else {
+        let why = "it has no name of its own: give the path that the new folder is to have";
+        return Err(refuse_of(rt, wanted, &why));
+    };
+    Ok(or_stop(rt, place.with_file_name(rt.alloc(), name))?.into_string())
 }
 
 /// Makes the folder at this path, which is to replace the wanted one. Returns its lock.
 fn make_for(rt: &HostRuntime, wanted: &str, path: &str) -> Result<File, Status> {
-    make_folder(rt, path).map_err(|reason| fail_at_folder(rt, path, reason))?;
+    if let Err(reason) = make_folder(rt, path) {
+        return Err(fail_at_folder(rt, path, reason));
+    }
     let lock = lock_folder(rt, path)?;
     match prepare(rt, wanted, path, &lock) {
         Ok(()) => Ok(lock),
@@ -104,29 +100,22 @@ fn carry_over(rt: &HostRuntime, wanted: &str, loading: &File) -> Result<(), Stat
         Err(reason) if reason.kind() == ErrorKind::NotFound => return Ok(()),
         Err(reason) => return Err(fail_at_folder(rt, wanted, reason)),
     };
+    let (owner, group, mode) = (found.uid(), found.gid(), found.mode());
     // The result is checked instead: a file system may lack owners or modes, and the system may drop a bit.
-    let _ = fchown(loading, Some(found.uid()), Some(found.gid()));
+    let _ = fchown(loading, Some(owner), Some(group));
     let _ = loading.set_permissions(found.permissions());
     match loading.metadata() {
-        Ok(given) if is_like(&given, &found) => Ok(()),
-        Ok(_) => Err(refuse_to_give(rt, wanted, &found)),
+        Ok(given) if given.uid() == owner && given.gid() == group && given.mode() == mode => Ok(()),
+        Ok(_) => {
+            let mode = mode & MODE;
+            let why = format_args!(
+                "user {owner}, group {group} and mode {mode:04o} can't be given to the folder that takes its place: \
+                    load as that user or as root, or give the path of a folder that isn't there yet"
+            );
+            Err(refuse_of(rt, wanted, &why))
+        }
         Err(reason) => Err(fail_at_folder(rt, wanted, reason)),
     }
-}
-
-/// Whether both folders have the same owner, group and mode.
-fn is_like(given: &Metadata, found: &Metadata) -> bool {
-    given.uid() == found.uid() && given.gid() == found.gid() && given.mode() == found.mode()
-}
-
-/// Prints which owner, group and mode can't be given.
-fn refuse_to_give(rt: &HostRuntime, folder: &str, found: &Metadata) -> Status {
-    let (owner, group, mode) = (found.uid(), found.gid(), found.mode() & 0o7777);
-    let why = format_args!(
-        "user {owner}, group {group} and mode {mode:04o} can't be given to the folder that takes its place: load as \
-            that user or as root, or give the path of a folder that isn't there yet"
-    );
-    refuse_of(rt, folder, &why)
 }
 
 /// Checks that the folder is missing or empty. Prints a message if it isn't.
@@ -148,37 +137,38 @@ fn check_free(rt: &HostRuntime, folder: &str) -> Result<(), Status> {
 fn lock_folder(rt: &HostRuntime, path: &str) -> Result<File, Status> {
     match try_lock_folder(rt, path) {
         Ok(Some(lock)) => Ok(lock),
-        Ok(None) => {
+        Err(reason) if reason.kind() != ErrorKind::NotFound => {
+            Err(fail_at(rt, path, &FileFault::System(reason)))
+        }
+        _ => {
             let why = "another load is at work there: wait for it, or give another folder";
             Err(refuse_of(rt, path, &why))
         }
-        Err(reason) => Err(fail_at(rt, path, &FileFault::System(reason))),
     }
 }
 
-/// Locks the folder at this path. `None` if another process has locked or renamed it.
+/// Locks the folder at this path. `None`, or a fault of the kind `NotFound`, if another process has locked or renamed
+/// it.
 fn try_lock_folder(rt: &HostRuntime, path: &str) -> io::Result<Option<File>> {
-    let folder = match File::open(rt, path) {
-        Ok(folder) => folder,
-        Err(reason) if reason.kind() == ErrorKind::NotFound => return Ok(None),
-        Err(reason) => return Err(reason),
-    };
+    let folder = File::open(rt, path)?;
     if !has_locked(&folder)? {
         return Ok(None);
     }
-    let opened = folder.metadata()?;
-    let named = match fs::metadata(rt, path) {
-        Ok(named) => named,
-        Err(reason) if reason.kind() == ErrorKind::NotFound => return Ok(None),
-        Err(reason) => return Err(reason),
-    };
+    let (opened, named) = (folder.metadata()?, fs::metadata(rt, path)?);
     let is_same = opened.dev() == named.dev() && opened.ino() == named.ino();
     Ok(is_same.then_some(folder))
 }
 
 /// Removes the files of an interrupted load. If anything else is there, prints that and removes nothing.
 fn clear(rt: &HostRuntime, loading: &str) -> Result<(), Status> {
-    for name in names_in(rt, loading)? {
+    let entries = fs::read_dir(rt, loading).map_err(|reason| fail_at_folder(rt, loading, reason))?;
+    let mut names = Vec::new(rt.alloc());
+    for entry in entries {
+        if names.push(own_name(rt, loading, entry)?).is_err() {
+            return Err(stop_without_memory(rt));
+        }
+    }
+    for name in names {
         let path = or_stop(rt, Path::new(loading).join(rt.alloc(), name.as_str()))?;
         if let Err(reason) = fs::remove_file(rt, path.as_str()) {
             return Err(fail_at(rt, path.as_str(), &FileFault::System(reason)));
@@ -187,36 +177,21 @@ fn clear(rt: &HostRuntime, loading: &str) -> Result<(), Status> {
     Ok(())
 }
 
-/// The names in the folder, if each is one that a load gives. Prints a message if one isn't.
-fn names_in(rt: &HostRuntime, loading: &str) -> Result<Vec<String>, Status> {
-    let entries = fs::read_dir(rt, loading).map_err(|reason| fail_at_folder(rt, loading, reason))?;
-    let mut names = Vec::new(rt.alloc());
-    for entry in entries {
-        if names.push(own_name_of(rt, loading, entry)?).is_err() {
-            return Err(stop_without_memory(rt));
-        }
-    }
-    Ok(names)
-}
-
-/// The name of this entry of the folder, checked by [`own_name`].
-fn own_name_of(
+/// The name of this entry of the folder, if it is one that a load gives. Prints a message if it isn't.
+fn own_name(
     rt: &HostRuntime,
     loading: &str,
     entry: io::Result<DirEntry>,
 ) -> Result<String, Status> {
-    match entry {
-        Ok(entry) => own_name(rt, loading, entry.file_name()),
+    let entry = match entry {
+        Ok(entry) => entry,
         Err(reason) if reason.kind() == ErrorKind::InvalidFilename => {
             let why = "it has a file whose name is no text: move it out of there";
-            Err(refuse_of(rt, loading, &why))
+            return Err(refuse_of(rt, loading, &why));
         }
-        Err(reason) => Err(fail_at_folder(rt, loading, reason)),
-    }
-}
-
-/// The name, if it is one that a load gives. Prints a message if it isn't.
-fn own_name(rt: &HostRuntime, loading: &str, name: &str) -> Result<String, Status> {
+        Err(reason) => return Err(fail_at_folder(rt, loading, reason)),
+    };
+    let name = entry.file_name();
     match or_stop(rt, index_of_name(rt.alloc(), name, MAX_COUNT))? {
         Some(_) => or_stop(rt, String::from_str(rt.alloc(), name)),
         None => Err(refuse(

@@ -14,23 +14,18 @@ const WRONG_KIND: i32 = 91;
 
 /// The advice for this reason of the system. `None` if the connection was made and then failed.
 pub fn remedy_of(address: &str, reason: &io::Error) -> Option<&'static str> {
-    match reason.raw_os_error() {
-        Some(code) if NO_DESCRIPTOR.contains(&code) => {
-            return Some("raise the limit of open files (ulimit -n, or fs.file-max)");
-        }
-        Some(NO_BUFFERS) => return Some(NO_MEMORY),
-        Some(WRONG_KIND) => return Some("the socket is another program's: check the path"),
-        _ => {}
-    }
-    match reason.kind() {
-        ErrorKind::OutOfMemory => Some(NO_MEMORY),
-        ErrorKind::ConnectionReset | ErrorKind::ConnectionAborted | ErrorKind::BrokenPipe => None,
-        kind if socket_path(address).is_some() => Some(remedy_of_socket(kind)),
-        kind => Some(remedy_of_port(kind)),
-    }
+    Some(match (reason.raw_os_error(), reason.kind()) {
+        (Some(code), _) if NO_DESCRIPTOR.contains(&code) =>
+            "raise the limit of open files (ulimit -n, or fs.file-max)",
+        (Some(NO_BUFFERS), _) | (_, ErrorKind::OutOfMemory) =>
+            "the system has no memory for a connection: free some",
+        (Some(WRONG_KIND), _) => "the socket is another program's: check the path",
+        (_, ErrorKind::ConnectionReset | ErrorKind::ConnectionAborted | ErrorKind::BrokenPipe) =>
+            return None,
+        (_, kind) if socket_path(address).is_some() => remedy_of_socket(kind),
+        (_, kind) => remedy_of_port(kind),
+    })
 }
-
-const NO_MEMORY: &str = "the system has no memory for a connection: free some";
 
 /// The advice for a Unix socket.
 fn remedy_of_socket(kind: ErrorKind) -> &'static str {

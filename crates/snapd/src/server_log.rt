@@ -10,10 +10,10 @@ use snap_serve::{ServerObserver, UpdateObserver};
 use snap_server::{RunFault, ServerFault};
 use std::fmt::{self, Display};
 use std::rt::Clock;
+use std::slice;
 use std::sync::Wait;
 
-/// Logs that a server has started, with its files and addresses, and how it ended. Counts each update of a segment,
-/// and logs those whose store failed as errors.
+/// Logs how a server starts and ends, counts each update of a segment, and logs those whose store failed.
 #[derive_where(Clone, Copy)]
 #[derive(Drop)]
 pub struct ServerLog<'a, X: Wait + Clock> {
@@ -24,19 +24,6 @@ pub struct ServerLog<'a, X: Wait + Clock> {
 }
 
 impl<X: Wait + Clock> ServerLog<'_, X> {
-    /// Logs that the device of this segment failed while it stored this update, with the name of the segment's file
-    /// and the system's reason.
-    fn unstored(&self, segment: usize, number: u64) {
-        let (Some(file), Some(told)) = (self.process.files.get(segment), self.told.get(segment))
-        else {
-            return;
-        };
-        match told.place().get() {
-            Some(fault) => self.log_unstored(file, segment, number, fault),
-            None => self.log_unstored(file, segment, number, &"a call of its device failed"),
-        }
-    }
-
     /// Logs that the store of an update failed, for this reason.
     fn log_unstored<T: Display>(&self, file: &str, segment: usize, number: u64, why: &T) {
         error!(self.log; target: "store",
@@ -50,7 +37,11 @@ impl<X: Wait + Clock> ServerObserver for ServerLog<'_, X> {
     fn begun(&self, listening: &str) {
         let process = self.process;
         let (number, count) = (libc::getpid(), process.files.len());
-        let (files, places) = (Files(process), Places(listening));
+        let files = match &process.folder {
+            Some(folder) => slice::from_ref(folder),
+            None => process.files.as_slice(),
+        };
+        let (files, places) = (Spaced(files), Places(listening));
         info!(self.log; target: "server",
             "snapd {VERSION} serves {files} as process {number}: segments {count}, at {places}"
         );
@@ -80,21 +71,16 @@ impl<X: Wait + Clock> UpdateObserver for ServerLog<'_, X> {
         if segment < metrics.segment_count() {
             metrics.segment(segment).settle(told);
         }
-        if told == Err(Refusal::DeviceFailed) {
-            self.unstored(segment, number);
+        if told != Err(Refusal::DeviceFailed) {
+            return;
         }
-    }
-}
-
-/// Shows the folder that a process serves, or the paths of its files in order.
-#[derive(Clone, Copy)]
-struct Files<'a>(&'a Process<'a>);
-
-impl Display for Files<'_> {
-    fn fmt<W: fmt::Write>(&self, f: &mut fmt::Formatter<W>) -> fmt::Result {
-        match self.0.folder {
-            Some(folder) => f.write_str(folder),
-            None => Spaced(self.0.files).fmt(f),
+        let (Some(file), Some(first)) = (self.process.files.get(segment), self.told.get(segment))
+        else {
+            return;
+        };
+        match first.place().get() {
+            Some(fault) => self.log_unstored(file, segment, number, fault),
+            None => self.log_unstored(file, segment, number, &"a call of its device failed"),
         }
     }
 }

@@ -7,7 +7,7 @@ use snap_disk::Disk;
 use snap_segment::{Segment, format};
 use snap_slot::FILE_LEN;
 use snap_stream::SystemReason;
-use std::alloc::{AllocError, Global};
+use std::alloc::AllocError;
 use std::fmt::{self, Display, Formatter, Write};
 use std::fs::{self, File};
 use std::io::{self, ErrorKind};
@@ -22,7 +22,6 @@ pub const STORES: usize = 200;
 pub const STORED_LEN: usize = 1_000;
 
 /// How many names there are for the temporary file, and so how many measurements can run at once.
-/// The names don't end in `.seg`.
 const NAMES: u8 = 100;
 
 /// The measured times of the stores.
@@ -34,23 +33,13 @@ pub struct StoreTimes {
     pub late: Duration,
 }
 
-/// A store of fewer microseconds can't have waited for a disk: it syncs twice.
-const SHORTEST: u64 = 40;
-
-impl StoreTimes {
-    /// Whether half of the stores were too short to have waited for a disk.
-    pub fn are_too_short(&self) -> bool {
-        self.median < Duration::from_micros(SHORTEST)
-    }
-}
-
 /// The reason why nothing was measured.
 #[derive(Drop)]
 pub enum MeasureFault {
     /// The file couldn't be made.
     File(FileFault),
-    /// A call on the file failed, for this reason of the system.
-    Store(String),
+    /// A call on the file failed, for this reason if the system gave one.
+    Store(Option<String>),
     /// The system has no clock, or the file couldn't be removed.
     System(io::Error),
     /// All names are taken.
@@ -63,7 +52,8 @@ impl Display for MeasureFault {
     fn fmt<W: Write>(&self, f: &mut Formatter<W>) -> fmt::Result {
         match self {
             MeasureFault::File(fault) => fault.fmt(f),
-            MeasureFault::Store(reason) => reason.fmt(f),
+            MeasureFault::Store(Some(reason)) => reason.fmt(f),
+            MeasureFault::Store(None) => f.write_str("a call of its device failed"),
             MeasureFault::System(reason) => reason.fmt(f),
             MeasureFault::Crowded => f.write_str(
                 "all names from doctor-0.tmp on are taken: remove what is left of them",
@@ -85,8 +75,8 @@ impl From<io::Error> for MeasureFault {
     }
 }
 
-/// Stores [`STORES`] values of [`STORED_LEN`] bytes in a temporary file in the folder, and returns the times. It
-/// removes the file however it ends. The file of a process that was killed is removed by a later measurement.
+/// Stores [`STORES`] values of [`STORED_LEN`] bytes in a temporary file in the folder, and returns the times. The file
+/// is removed however this ends, or by a later measurement if the process is killed.
 pub fn measure(rt: &HostRuntime, folder: &str) -> Result<StoreTimes, MeasureFault> {
     let own = own_path(rt, folder)?;
     let path = own.as_str();
@@ -98,39 +88,34 @@ pub fn measure(rt: &HostRuntime, folder: &str) -> Result<StoreTimes, MeasureFaul
             return Err(MeasureFault::File(fault));
         }
     };
-    let (_locked, taken) = store_all(rt, disk);
+    let (_locked, taken) = store_all(rt, disk, &told);
     // The lock is held until the name is removed, so that no other process takes the file for a left one.
     fs::remove_file(rt, path)?;
-    match taken {
-        Err(MeasureFault::Store(_)) => Err(MeasureFault::Store(reason_of(rt.alloc(), &told)?)),
-        taken => taken,
-    }
+    taken
 }
 
-/// The path of a new and empty file in the folder that only this process uses.
+/// The path of a new and empty file in the folder that only this process uses. Fails if all names are taken.
 fn own_path(rt: &HostRuntime, folder: &str) -> Result<String, MeasureFault> {
     for number in 0..NAMES {
+        // No segment's file: the name doesn't end in `.seg`.
         let name = format!(in rt.alloc(); "doctor-{number}.tmp")?;
         let path = Path::new(folder).join(rt.alloc(), name.as_str())?;
-        if make_own(rt, path.as_str())? {
-            return Ok(String::from_str(rt.alloc(), path.as_str())?);
+        remove_left(rt, path.as_str());
+        match File::options()
+            .write(true)
+            .create_new(true)
+            .open(rt, path.as_str())
+        {
+            Ok(_) => return Ok(path.into_string()),
+            Err(reason) if reason.kind() == ErrorKind::AlreadyExists => {}
+            Err(reason) => return Err(MeasureFault::System(reason)),
         }
     }
     Err(MeasureFault::Crowded)
 }
 
-/// Makes the file at this path, in place of one that was left. `false` if another process has it.
-fn make_own(rt: &HostRuntime, path: &str) -> io::Result<bool> {
-    remove_left(rt, path);
-    match File::options().write(true).create_new(true).open(rt, path) {
-        Ok(_) => Ok(true),
-        Err(reason) if reason.kind() == ErrorKind::AlreadyExists => Ok(false),
-        Err(reason) => Err(reason),
-    }
-}
-
-/// Removes the file at this path if nobody has its lock and it has a segment file's length, which
-/// it gets under that lock: then its process ended before it could remove it.
+/// Removes the file at this path if its process ended before it could: then it has a segment file's length, which it
+/// gets under its lock, and nobody has that lock.
 fn remove_left(rt: &HostRuntime, path: &str) {
     let Ok(left) = File::options().read(true).write(true).open(rt, path) else {
         return;
@@ -151,18 +136,19 @@ fn remove_left(rt: &HostRuntime, path: &str) {
 fn store_all<'p>(
     rt: &'p HostRuntime,
     mut disk: FileDisk<'p, HostRuntime>,
+    told: &FirstFault,
 ) -> (FileDisk<'p, HostRuntime>, Result<StoreTimes, MeasureFault>)
     requires { IsUncalled disk }
 {
     if format(&mut disk, 0, 1).is_err() {
-        return (disk, Err(MeasureFault::Store(String::new(rt.alloc()))));
+        return (disk, Err(MeasureFault::Store(told.text(rt.alloc()))));
     }
     match Segment::open(rt.alloc(), disk, 0, 1) {
         Ok(mut segment) => {
-            let taken = time_stores(rt, &mut segment);
+            let taken = time_stores(rt, &mut segment, told);
             (segment.into_device(), taken)
         }
-        Err((_, disk)) => (disk, Err(MeasureFault::Store(String::new(rt.alloc())))),
+        Err((_, disk)) => (disk, Err(MeasureFault::Store(told.text(rt.alloc())))),
     }
 }
 
@@ -170,10 +156,11 @@ fn store_all<'p>(
 fn time_stores<D: Disk>(
     rt: &HostRuntime,
     segment: &mut Segment<D>,
+    told: &FirstFault,
 ) -> Result<StoreTimes, MeasureFault> {
     let mut times = Vec::with_capacity(rt.alloc(), STORES)?;
     for _ in 0..STORES {
-        if times.push(time_store(rt, segment)?).is_err() {
+        if times.push(time_store(rt, segment, told)?).is_err() {
             return Err(MeasureFault::NoMemory);
         }
     }
@@ -188,18 +175,11 @@ fn time_stores<D: Disk>(
 fn time_store<D: Disk>(
     rt: &HostRuntime,
     segment: &mut Segment<D>,
+    told: &FirstFault,
 ) -> Result<Duration, MeasureFault> {
     let began = Instant::now(rt)?;
     if segment.store(&[b'v'; STORED_LEN]).is_err() {
-        return Err(MeasureFault::Store(String::new(rt.alloc())));
+        return Err(MeasureFault::Store(told.text(rt.alloc())));
     }
     Ok(began.elapsed(rt)?)
-}
-
-/// The system's reason for the failure of the file's device.
-fn reason_of(alloc: Global, told: &FirstFault) -> Result<String, AllocError> {
-    match told.text(alloc) {
-        Some(reason) => Ok(reason),
-        None => String::from_str(alloc, "a call of its device failed"),
-    }
 }

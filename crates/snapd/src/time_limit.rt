@@ -4,7 +4,6 @@ ghost use Rattle.std.specs.Io.{ReadsAtMost, WritesAtMost};
 use std::cell::Cell;
 use std::io::{self, ErrorKind, Read, Write};
 use std::net::TcpStream;
-use std::sync::atomic::{AtomicBool, Ordering};
 use std::time::{Duration, Instant};
 
 /// The time at which a call ends.
@@ -14,7 +13,7 @@ pub struct TimeLimit<'a> {
     /// `None` without a limit.
     pub end: Option<Instant>,
     /// Set once something has waited until then.
-    pub is_over: &'a AtomicBool,
+    pub is_over: &'a Cell<bool>,
 }
 
 impl<'a> TimeLimit<'a> {
@@ -34,7 +33,7 @@ impl<'a> TimeLimit<'a> {
         };
         let left = end.saturating_duration_since(Instant::now(self.clock)?);
         if left.is_zero() {
-            self.is_over.store(true, Ordering::Relaxed);
+            self.is_over.set(true);
             return Err(io::Error::from(ErrorKind::TimedOut));
         }
         Ok(Some(left))
@@ -45,28 +44,24 @@ impl<'a> TimeLimit<'a> {
 #[derive(Drop)]
 pub struct Course {
     /// Whether something has waited until the call's `--timeout` was over.
-    pub is_over: AtomicBool,
+    pub is_over: Cell<bool>,
     /// Whether it has tried to connect until its `--wait` was over.
-    pub has_waited: AtomicBool,
-    has_failed: Cell<bool>,
-    reason: Cell<Option<io::Error>>,
+    pub has_waited: Cell<bool>,
+    /// Whether the last connection couldn't be made, failed or ended.
+    pub has_failed: Cell<bool>,
+    /// The system's reason for that, if it gave one.
+    pub reason: Cell<Option<io::Error>>,
 }
 
 impl Course {
     /// A call without a connection yet.
     pub fn new() -> Course {
         Course {
-            is_over: AtomicBool::new(false),
-            has_waited: AtomicBool::new(false),
+            is_over: Cell::new(false),
+            has_waited: Cell::new(false),
             has_failed: Cell::new(false),
             reason: Cell::new(None),
         }
-    }
-
-    /// Records that a connection was made.
-    pub fn begin(&self) {
-        self.has_failed.set(false);
-        self.reason.set(None);
     }
 
     /// Records that a connection couldn't be made, or failed, for this reason.
@@ -76,16 +71,6 @@ impl Course {
         if error.kind() != ErrorKind::TimedOut || error.raw_os_error().is_some() {
             self.reason.set(Some(error));
         }
-    }
-
-    /// Whether the last connection couldn't be made, failed or ended.
-    pub fn has_failed(&self) -> bool {
-        self.has_failed.get()
-    }
-
-    /// The system's reason for that, if it gave one.
-    pub fn reason(&self) -> Option<io::Error> {
-        self.reason.get()
     }
 
     /// Records the result of a read or a write. No bytes: the connection has ended.
@@ -140,8 +125,8 @@ impl LimitedStream<'_> {
     }
 }
 
-/// Whether a call moved nothing and has to be made again: a signal came, for instance after a stop of the process, or
-/// the system's timeout ran out, so that our own clock decides whether the time is over.
+/// Whether a call has to be made again: a signal came, or the system's timeout ran out, and our own clock decides
+/// whether the time is over.
 fn is_early(error: io::Error) -> bool {
     matches!(error.kind(), ErrorKind::Interrupted | ErrorKind::WouldBlock)
 }

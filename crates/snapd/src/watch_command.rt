@@ -16,11 +16,11 @@ use snap_frame::SegmentSet;
 use snap_order::{Status, WatchOptions};
 use snap_stream::write_whole;
 use std::alloc::Global;
+use std::cell::Cell;
 use std::env::{self, VarError};
 use std::io::{ErrorKind, IsTerminal};
 use std::net::TcpStream;
 use std::sync::Wait;
-use std::sync::atomic::{AtomicBool, Ordering};
 use std::thread;
 use std::time::{Duration, Instant};
 
@@ -33,8 +33,8 @@ const PATIENCE: u64 = 10;
 /// The message about a server that took longer.
 const LATE: &str = "there was no answer within 10 s";
 
-/// Shows the segments of the server at the order's address, and each change, until the process is interrupted or
-/// standard output has no reader any more. A first poll that fails, or a refusal, ends it too.
+/// Shows the segments of the server at the order's address, and each change, until the process is interrupted, standard
+/// output has no reader any more, the first poll fails, or the server refuses one.
 pub fn watch<X: Wait>(
     waiting: &X,
     rt: &HostRuntime,
@@ -55,12 +55,12 @@ pub fn watch<X: Wait>(
         if is_unread() {
             return Err(Status::Failed);
         }
-        let is_late = AtomicBool::new(false);
+        let is_late = Cell::new(false);
         let rows = rows_now(rt, address, watched, &mut link, &screen.shown, &is_late);
-        screen.now = millis_since(rt, began);
+        screen.now = millis_since(rt, began).unwrap_or(0);
         match rows {
             Ok(rows) => screen.show(rt, rows)?,
-            Err(trouble) => screen.bear(rt, trouble, is_late.load(Ordering::Relaxed))?,
+            Err(trouble) => screen.bear(rt, trouble, is_late.get())?,
         }
         thread::sleep(rt, pause);
     }
@@ -77,26 +77,20 @@ fn is_unread() -> bool {
     poll(&mut asked, 0) == 1 && asked[0].revents & (POLLERR | POLLHUP) != 0
 }
 
-/// The milliseconds since then, or 0 if the clock can't be read.
-fn millis_since(rt: &HostRuntime, began: Option<Instant>) -> u64 {
-    match (began, Instant::now(rt)) {
-        (Some(began), Ok(now)) => {
-            let time = now.saturating_duration_since(began);
-            u64::try_from(time.as_millis()).unwrap_or(u64::MAX)
-        }
-        _ => 0,
-    }
+/// The milliseconds since then. `None` if the clock can't be read.
+fn millis_since(rt: &HostRuntime, began: Option<Instant>) -> Option<u64> {
+    u64::try_from(began?.elapsed(rt).ok()?.as_millis()).ok()
 }
 
 /// The current rows of the server, by one poll within its time. Sets `is_late` if that was over. If the connection
-/// fails it polls once more on a new one, and then requests the values anyway, since another server may answer.
+/// fails it polls once more on a new one, and requests all values, since another server may answer.
 fn rows_now(
     rt: &HostRuntime,
     address: &str,
     watched: Option<SegmentSet>,
     link: &mut Option<TcpStream>,
     shown: &[Row],
-    is_late: &AtomicBool,
+    is_late: &Cell<bool>,
 ) -> Result<Vec<Row>, WatchFault>
     requires some { IfSome watched (λ set. 0 < set.bits) }
 {
@@ -191,39 +185,35 @@ impl<'a> Screen<'a> {
 
     /// Shows the rows: a board draws all, and else the changed ones are printed. An error is the exit status.
     fn show(&mut self, rt: &HostRuntime, rows: Vec<Row>) -> Result<(), Status> {
-        let was_lost = self.contact == Contact::Lost;
+        if self.contact == Contact::Lost && !self.is_board {
+            say_of(rt, self.address, &"connected again");
+        }
         self.contact = Contact::Held;
         if self.is_board {
             self.tracks = or_stop(rt, followed(rt.alloc(), &self.tracks, &rows, self.now))?;
             self.shown = rows;
             return self.draw(rt, None);
         }
-        if was_lost {
-            say_of(rt, self.address, &"connected again");
-        }
         let text = or_stop(rt, changes(rt.alloc(), self.form, &self.shown, &rows))?;
         self.shown = rows;
         print(rt, text.as_slice())
     }
 
-    /// Handles a failed poll: a server that has answered before is reported as lost. An error is the exit status.
+    /// Handles a failed poll. If the server has answered before, it shows why the server is lost: a board at each poll,
+    /// and else once. An error is the exit status.
     fn bear(&mut self, rt: &HostRuntime, trouble: WatchFault, is_late: bool) -> Result<(), Status> {
-        let address = self.address;
-        match trouble {
+        let fault = match trouble {
             WatchFault::Refused { why, detail } => {
                 let (code, name) = (why.code(), why.name());
-                Err(refuse(rt, &format_args!("refused {code} {name} {detail}")))
+                return Err(refuse(rt, &format_args!("refused {code} {name} {detail}")));
             }
-            WatchFault::Lost(ClientFault::NoMemory) => Err(stop_without_memory(rt)),
-            WatchFault::Lost(fault) if self.contact == Contact::None => {
-                Err(fail_at_first(rt, address, fault, is_late))
-            }
-            WatchFault::Lost(fault) => self.lose(rt, loss_of(fault, is_late)),
+            WatchFault::Lost(ClientFault::NoMemory) => return Err(stop_without_memory(rt)),
+            WatchFault::Lost(fault) => fault,
+        };
+        if self.contact == Contact::None {
+            return Err(fail_at_first(rt, self.address, fault, is_late));
         }
-    }
-
-    /// Shows why the server is lost: a board at each poll, and else once. An error is the exit status.
-    fn lose(&mut self, rt: &HostRuntime, loss: &str) -> Result<(), Status> {
+        let loss = loss_of(fault, is_late);
         let was_held = self.contact == Contact::Held;
         self.contact = Contact::Lost;
         if self.is_board {
@@ -255,8 +245,7 @@ impl<'a> Screen<'a> {
 fn are_colours_wanted(rt: &HostRuntime) -> bool {
     match env::var(rt, "NO_COLOR") {
         Ok(value) => value.is_empty(),
-        Err(VarError::NotPresent) => true,
-        Err(_) => false,
+        Err(fault) => fault == VarError::NotPresent,
     }
 }
 
@@ -272,8 +261,7 @@ fn print(rt: &HostRuntime, text: &[u8]) -> Result<(), Status> {
 /// Prints why there was no first answer, with advice.
 fn fail_at_first(rt: &HostRuntime, address: &str, fault: ClientFault, is_late: bool) -> Status {
     if is_late {
-        let why = format_args!("{LATE}: see what serves there");
-        return fail_of(rt, address, &why);
+        return fail_of(rt, address, &format_args!("{LATE}: see what serves there"));
     }
     let remedy = match fault {
         ClientFault::BadReply => "check the address",
@@ -284,10 +272,8 @@ fn fail_at_first(rt: &HostRuntime, address: &str, fault: ClientFault, is_late: b
 
 /// The message about a lost server.
 fn loss_of(fault: ClientFault, is_late: bool) -> &'static str {
-    if is_late {
-        return LATE;
-    }
     match fault {
+        _ if is_late => LATE,
         ClientFault::ConnectFailed => "no connection to the server can be made",
         ClientFault::BadReply => "what came isn't an answer",
         _ => "the connection failed before the answer came",
