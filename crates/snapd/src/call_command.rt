@@ -14,8 +14,8 @@ use std::os::unix::net::UnixStream;
 use std::thread;
 use std::time::Duration;
 
-/// Runs the command `call`, and returns the exit status. If it failed, it also prints the system's reason, and whether
-/// the time was over.
+/// Runs the command `call`, and returns the exit status. An address that the system doesn't take fails before any
+/// connection is made. If the call failed, this also prints the system's reason, and whether the time was over.
 pub fn call(rt: &HostRuntime, order: &CallOptions<'_>) -> Status
     requires { IsCallable order.now }
 {

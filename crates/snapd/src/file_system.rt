@@ -73,8 +73,8 @@ pub fn has_locked(file: &File) -> io::Result<bool> {
     }
 }
 
-/// What denies this user the path, for this reason of the system, with advice. `command` is what makes a path that
-/// doesn't exist. `None` if there is no advice, or if memory runs out.
+/// What denies this user the path, for this reason of the system, with advice: a text that begins with the path at
+/// fault. `command` is what makes a path that doesn't exist. `None` if there is no advice, or if memory runs out.
 pub fn remedy_of(
     rt: &HostRuntime,
     path: &str,

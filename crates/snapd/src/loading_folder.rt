@@ -26,8 +26,8 @@ pub struct LoadingFolder {
 
 impl LoadingFolder {
     /// Makes the folder beside the wanted one, with the owner, group and mode of an empty one that is there. Takes over
-    /// that of an interrupted load, and removes its files if each is one that a load makes. Prints the reason if it
-    /// fails, as for a wanted folder that isn't empty.
+    /// that of an interrupted load, and removes its files; if one of them isn't a load's, none is removed. If the
+    /// wanted folder isn't empty, nothing is changed. Prints the reason if it fails.
     pub fn take(rt: &HostRuntime, wanted: &str) -> Result<LoadingFolder, Status> {
         let folder = bare_path(rt, wanted)?;
         check_free(rt, folder.as_str())?;
