@@ -6,7 +6,8 @@ tries what must-fail.lock doesn't have under its digest, with --every all, and r
 it tries the edits of these crates alone.
 
 `must-fail.lock` has a line for each edit that was refused: its name, the digest of what that rests on (digests.py), and
-the kit's release. The kit's `rt ci` tries them, over what a proof of their crate from nothing has left.
+the kit's release. The kit's `rt ci` tries them, over what a proof of their crate has left: begun with what `rt check`
+proved of it in this checkout, or else from nothing.
 """
 
 import argparse
@@ -67,7 +68,7 @@ def main():
     words, edits = parsed(words, "the crates whose edits are tried: all, if none is"), Edits.of(TOP)
     wanted = edits.digests if words.every else edits.missing()
     chosen = [it for it in wanted if not words.names or it[0] in words.names]
-    _, parts = prove([], edits, chosen) if chosen else ({}, [])
+    _, parts = prove([], edits, chosen, ["--over"]) if chosen else ({}, [])
     failures = [line for _, _, lines in parts for line in lines]
     print(*failures, edits.told(), sep="\n")
     return 1 if failures else 0

@@ -1,10 +1,11 @@
 """Proves crates in a copy by the kit's `rt ci`, tries edits there, and prints the progress.
 
-    python3 proofs.py [--anew] [NAME ..]
+    python3 proofs.py [--anew] [--over] [NAME ..]
 
 is the kit's `rt ci` in this folder, except in four things: tests aren't proved; the crates are in the order of their
 recorded times, with the longest chain first; it prints how long each took; and what was proved before is taken from our
-archive, but not these crates, with --anew none, and never what came of an edit.
+archive, but not these crates, with --anew none, and never what came of an edit. With --over the tries of a crate's
+edits begin with what `rt check` left of it in the checkout, if it did.
 """
 
 import os
@@ -127,8 +128,9 @@ def main():
         return status
 
     def begun(crate, flags, start=None):
-        """Proves a crate from nothing, over which its edits are tried."""
-        if not (room := seeded(crate, flags, start)):
+        """Proves a crate, over which its edits are tried."""
+        left = TOP / "crates" / crate.name / "out" / "incremental"
+        if not (room := seeded(crate, flags, str(left) if "--over" in anew and left.is_dir() else start)):
             sys.stdout.write(f"rt: {crate.name} NOT PROVED again, before its edits\n")
         return room
 

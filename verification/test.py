@@ -144,7 +144,7 @@ def test_all(words):
 
 def prove_all(words):
     """Proves everything, or these programs alone."""
-    anew, edits = ["--anew"] * words.fresh, Edits.of(TOP)
+    anew, edits = ["--anew" if words.fresh else "--over"], Edits.of(TOP)
     if words.names:
         return prove(words.names, edits, [], anew, words.names)[1]
     with ThreadPoolExecutor(1) as pool:
