@@ -1,20 +1,23 @@
 -- The grammar that the tables of arguments describe.
-use Rattle.std.specs.Prelude.{List, [], ◌∷◌, Some}
+use Rattle.std.specs.Prelude.{List, [], ◌∷◌}
 use Rattle.clap.specs.Words.{App, Rule, Text, new_app, with_rule}
-use Rattle.snap_args.specs.Grammar.{choice_rule, flag_rule, number_rule, text_rule, texts_rule, word_rule}
+use Rattle.snap_args.specs.Grammar.{choice_rule, flag_rule, free_number_rule, free_words_rule, large_number_rule}
+use Rattle.snap_args.specs.Grammar.{number_rule, text_rule, texts_rule, word_rule, words_rule}
 use Rattle.snap_args.specs.declared.grammar.{Word.Word, ArgumentKind.ArgumentKind}
 use Rattle.snap_args.specs.declared.grammar.ArgumentKind.TheVariants as kind
 
 -- the rule of an argument of this kind and name
 abbrev pub rule_of_kind : ArgumentKind → Text → Rule
-rule_of_kind (kind.Own needed action) name =
-    record (word_rule name) { required = needed; action = Some action }
+rule_of_kind kind.Needed name = word_rule name
+rule_of_kind kind.NeededMany name = words_rule name
+rule_of_kind kind.Many name = free_words_rule name
 rule_of_kind kind.Flag name = flag_rule name
 rule_of_kind kind.Text name = text_rule name
 rule_of_kind kind.Texts name = texts_rule name
 rule_of_kind (kind.Choice default) name = choice_rule name default.now
 rule_of_kind (kind.Number default) name = number_rule name default.now
-rule_of_kind (kind.Parsed p) name = record (text_rule name) { parser = Some p }
+rule_of_kind kind.FreeNumber name = free_number_rule name
+rule_of_kind kind.LargeNumber name = large_number_rule name
 
 -- the rule of an argument
 abbrev pub rule_in : Word → Rule
