@@ -1,5 +1,5 @@
 -- Requests and the forms of their arguments.
-use Rattle.std.proofs.Common.{◌≡◌, ◌≢◌, ◌<◌, List, [], ◌∷◌, None, Some, length, map, get_or, ap, arith, Bor, codes}
+use Rattle.std.proofs.Common.{◌≡◌, ◌≢◌, ◌<◌, ◌≤◌, List, [], ◌∷◌, None, Some, length, map, get_or, ap, arith, Bor, codes}
 use Rattle.std.proofs.Common.{subst, ℕ}
 use Rattle.clap.specs.Words.{Text}
 use Rattle.snap_order.specs.request.Request.TheVariants.{Update, Scan, Status, Part}
@@ -21,6 +21,19 @@ pub four_words : (words : List (Bor Text)) (d : Bor Text) → length words ≡ 4
     ∷ (get_or words 3 d).now ∷ []
 four_words (a ∷ b ∷ c ∷ f ∷ []) d long e = ap (λ (first : Text). first ∷ b.now ∷ c.now ∷ f.now ∷ []) e
 four_words words d long e = absurd (omega arith)
+
+-- a text that is no segment is none of an update
+pub no_segment : (segment number value : Text) → ((i : ℕ) → (i ≤ 255) × IsNumberOf (Some segment) i → ⊥)
+    → (r : Request) → IsUpdateOf segment number value r → ⊥
+no_segment segment number value none (Update i k bytes) is = none i (omega (arith, is.1), is.0)
+no_segment segment number value none r is = is
+
+-- a text that is no number is none of an update
+pub no_number : (segment number value : Text)
+    → ((k : ℕ) → (k ≤ 18446744073709551615) × IsNumberOf (Some number) k → ⊥)
+    → (r : Request) → IsUpdateOf segment number value r → ⊥
+no_number segment number value none (Update i k bytes) is = none k (omega (arith, is.3), is.2)
+no_number segment number value none r is = is
 
 -- a text that is no value is none of an update
 pub no_value : (segment number value : Text) → ((bytes : List ℕ) → IsHex value bytes → ⊥)

@@ -23,20 +23,15 @@ pub enum AddressFault {
     ShortPath { len: usize },
 }
 
-/// The fault of the path in a Unix socket's address, if there is one.
-fn lack_of_path(path: &str) -> Option<AddressFault> {
-    match path.len() {
-        0 => Some(AddressFault::Path),
-        len if len > MAX_SOCKET_PATH => Some(AddressFault::ShortPath { len }),
-        _ => None,
-    }
-}
-
 /// The part that the address lacks: a host, a port or a path. `None` if it has all; the system decides whether they are
 /// valid.
 pub fn lack_of(address: &str) -> Option<AddressFault> {
     if let Some(path) = socket_path(address) {
-        return lack_of_path(path);
+        return match path.len() {
+            0 => Some(AddressFault::Path),
+            len if len > MAX_SOCKET_PATH => Some(AddressFault::ShortPath { len }),
+            _ => None,
+        };
     }
     if !address.is_empty() && address.bytes().all(|byte| byte.is_ascii_digit()) {
         return Some(AddressFault::Host);
@@ -44,10 +39,7 @@ pub fn lack_of(address: &str) -> Option<AddressFault> {
     if address.starts_with('[') && address.ends_with(']') {
         return Some(AddressFault::Port);
     }
-    let (host, port) = match address.rsplit_once(':') {
-        Some(parts) => parts,
-        None => (address, ""),
-    };
+    let (host, port) = address.rsplit_once(':').unwrap_or((address, ""));
     match (host.is_empty(), port.is_empty()) {
         (true, true) => Some(AddressFault::Both),
         (true, false) => Some(AddressFault::Host),

@@ -1,15 +1,15 @@
 //! The arguments of `call`.
-ghost use Rattle.std.specs.Prelude.{◌↔◌, IsTrue, codes};
+ghost use Rattle.std.specs.Prelude.{codes};
 ghost use Rattle.snap_order.specs.Order.{IsCallable};
 ghost use Rattle.snap_args.specs.Words.{Reads, word_of, words_of};
-ghost use Rattle.snap_args.specs.{Numbers.IsGiven, Numbers.IsLayoutOf, Orders.IsCallOf};
+ghost use Rattle.snap_args.specs.{Numbers.IsLayoutOf, Orders.IsCallOf};
 
 use crate::WordFault;
-use crate::numbers::{timeout_of, tries_of, wait_of};
+use crate::numbers::{limit_of, number_to};
 use crate::request::question_of;
-use crate::words::is;
+use crate::words::{is_given, text_of};
 use clap::ArgMatches;
-use snap_order::{CallOptions, OutputFormat};
+use snap_order::{CallOptions, MAX_TIMEOUT, MAX_TRIES, OutputFormat};
 use std::alloc::Global;
 
 /// Parses the arguments of `call`.
@@ -19,25 +19,18 @@ pub(crate) fn calling<'a>(
 ) -> Result<CallOptions<'a>, WordFault>
     ensures { Reads result (λ c. IsCallable c × IsCallOf (word_of matches.now) (words_of matches.now) c) }
 {
-    let Some(address) = matches.get_str("address") else {
-        return Err(WordFault::Missing { what: "address" });
+    let call = CallOptions {
+        address: text_of(matches, "address")?,
+        tries: number_to(matches, "tries", "number of tries", usize::from(MAX_TRIES))?,
+        wait: limit_of(matches, "wait", "seconds of the wait", MAX_TIMEOUT)?,
+        timeout: limit_of(matches, "timeout", "seconds of the timeout", MAX_TIMEOUT)?,
+        layout: layout_of(matches)?,
+        question: question_of(alloc, matches)?,
     };
-    let tries = tries_of(matches)?;
-    let wait = wait_of(matches)?;
-    let timeout = timeout_of(matches)?;
-    let layout = layout_of(matches)?;
-    let question = question_of(alloc, matches)?;
-    if layout != OutputFormat::Lines && !question.lists_segments() {
+    if call.layout != OutputFormat::Lines && !call.question.lists_segments() {
         return Err(WordFault::Rule("--text and --json are for scan, part, status and health"));
     }
-    Ok(CallOptions {
-        address,
-        question,
-        tries,
-        wait,
-        timeout,
-        layout,
-    })
+    Ok(call)
 }
 
 /// The output format of the reply.
@@ -51,15 +44,5 @@ fn layout_of(matches: &ArgMatches<'_>) -> Result<OutputFormat, WordFault>
         (true, true) => Err(WordFault::Rule(
             "--text and --json are given, and an answer is printed in one way",
         )),
-    }
-}
-
-/// Whether the flag was given.
-pub(crate) fn is_given(matches: &ArgMatches<'_>, name: &'static str) -> bool
-    ensures { IsTrue result ↔ IsGiven (word_of matches.now name.now) }
-{
-    match matches.get_str(name) {
-        Some(word) => is(word, "true"),
-        None => false,
     }
 }

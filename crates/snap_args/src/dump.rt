@@ -7,25 +7,20 @@ ghost use Rattle.snap_args.specs.{Numbers.IsLargeNumberOf, Orders.IsDumpOf, Orde
 ghost use Rattle.snap_args.specs.Words.{word_of};
 
 use crate::WordFault;
-use crate::numbers::{count_of, timeout_of, tries_of, wait_of};
+use crate::numbers::{count_of, limit_of, number_to};
+use crate::words::text_of;
 use clap::ArgMatches;
-use snap_order::{DumpOptions, DumpSource, LoadOptions};
+use snap_order::{DumpOptions, DumpSource, LoadOptions, MAX_TIMEOUT, MAX_TRIES};
 
 /// Parses the arguments of `dump`.
 pub(crate) fn dumping<'a>(matches: &ArgMatches<'a>) -> Result<DumpOptions<'a>, WordFault>
     ensures { Reads result (λ d. IsDumpable d × IsDumpOf (word_of matches.now) d) }
 {
-    let Some(word) = matches.get_str("holder") else {
-        return Err(WordFault::Missing { what: "holder" });
-    };
-    let tries = tries_of(matches)?;
-    let wait = wait_of(matches)?;
-    let timeout = timeout_of(matches)?;
     Ok(DumpOptions {
-        holder: holder_of(word),
-        tries,
-        wait,
-        timeout,
+        holder: holder_of(text_of(matches, "holder")?),
+        tries: number_to(matches, "tries", "number of tries", usize::from(MAX_TRIES))?,
+        wait: limit_of(matches, "wait", "seconds of the wait", MAX_TIMEOUT)?,
+        timeout: limit_of(matches, "timeout", "seconds of the timeout", MAX_TIMEOUT)?,
     })
 }
 
@@ -84,17 +79,10 @@ fn are_digits(bytes: &[u8]) -> bool
 pub(crate) fn loading<'a>(matches: &ArgMatches<'a>) -> Result<LoadOptions<'a>, WordFault>
     ensures { Reads result (λ l. IsLoadable l × IsLoadOf (word_of matches.now) l) }
 {
-    let Some(folder) = matches.get_str("folder") else {
-        return Err(WordFault::Missing { what: "folder" });
-    };
-    let Some(dump) = matches.get_str("dump") else {
-        return Err(WordFault::Missing { what: "dump" });
-    };
-    let count = free_count_of(matches)?;
     Ok(LoadOptions {
-        folder,
-        dump,
-        count,
+        folder: text_of(matches, "folder")?,
+        dump: text_of(matches, "dump")?,
+        count: free_count_of(matches)?,
     })
 }
 

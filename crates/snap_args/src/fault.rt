@@ -1,7 +1,6 @@
 //! Reasons why the arguments can't be parsed.
 use snap_order::MAX_UPDATE_VALUE;
 use std::alloc::AllocError;
-use std::fmt::{self, Display, Formatter, Write};
 use thiserror::Error;
 
 /// The end of each message.
@@ -12,82 +11,49 @@ const MORE: &str = "\n\nFor more information, try '--help'.";
 #[derive(Debug, Drop, Error)]
 pub enum WordFault {
     /// Help or the version was asked for.
+    #[error(transparent)]
     Help(clap::Error),
     /// The arguments don't match the grammar of the commands.
+    #[error(transparent)]
     Words(clap::Error),
     /// A number is 0, or more than the limit.
+    #[error("error: the {what} {number} is not from 1 to {most}{more}", more = MORE)]
     Outside {
         what: &'static str,
         number: usize,
         most: usize,
     },
     /// The number of an option is none from 1 to the limit. `what` is in the plural.
+    #[error("error: the {what} are not from 1 to {most}{more}", more = MORE)]
     OptionOutside {
         what: &'static str,
         most: u32,
     },
     /// The index isn't less than the count.
+    #[error("error: the index {index} is not below the count {count}{more}", more = MORE)]
     Index {
         index: u8,
         count: u8,
     },
     /// This argument isn't a number from 0 to 255.
-    Number {
-        what: &'static str,
-    },
+    #[error("error: the {0} is not a number from 0 to 255{more}", more = MORE)]
+    Number(&'static str),
     /// This argument is missing.
-    Missing {
-        what: &'static str,
-    },
-    /// The value of an update or a put doesn't fit a request.
-    TooLong {
-        len: usize,
-    },
+    #[error("error: no {0} is given{more}", more = MORE)]
+    Missing(&'static str),
+    /// The value of an update or a put has so many bytes, and doesn't fit a request.
+    #[error("error: the update's value has {0} bytes, and a request holds at most \
+        {most}{more}", most = MAX_UPDATE_VALUE, more = MORE)]
+    TooLong(usize),
     /// The arguments break another rule, and this says which.
+    #[error("error: {0}{more}", more = MORE)]
     Rule(&'static str),
     /// An argument isn't UTF-8 text.
+    #[error("error: a word is not UTF-8 text")]
     NotText,
     /// Memory ran out.
+    #[error("out of memory")]
     Memory,
-}
-
-impl Display for WordFault {
-    fn fmt<W: Write>(&self, f: &mut Formatter<W>) -> fmt::Result {
-        match self {
-            WordFault::Help(error) | WordFault::Words(error) => return error.fmt(f),
-            WordFault::NotText => return f.write_str("error: a word is not UTF-8 text"),
-            WordFault::Memory => return f.write_str("out of memory"),
-            _ => (),
-        }
-        f.write_str("error: ")?;
-        self.write_reason(f)?;
-        f.write_str(MORE)
-    }
-}
-
-impl WordFault {
-    /// Writes the reason of a fault in arguments that match the grammar.
-    fn write_reason<W: Write>(&self, f: &mut Formatter<W>) -> fmt::Result {
-        match self {
-            WordFault::Outside { what, number, most } => {
-                write!(f, "the {what} {number} is not from 1 to {most}")
-            }
-            WordFault::OptionOutside { what, most } => {
-                write!(f, "the {what} are not from 1 to {most}")
-            }
-            WordFault::Index { index, count } => {
-                write!(f, "the index {index} is not below the count {count}")
-            }
-            WordFault::Number { what } => write!(f, "the {what} is not a number from 0 to 255"),
-            WordFault::Missing { what } => write!(f, "no {what} is given"),
-            WordFault::TooLong { len } => write!(
-                f,
-                "the update's value has {len} bytes, and a request holds at most {MAX_UPDATE_VALUE}"
-            ),
-            WordFault::Rule(rule) => f.write_str(rule),
-            _ => Ok(()),
-        }
-    }
 }
 
 impl From<AllocError> for WordFault {

@@ -24,7 +24,6 @@ const VERSION_AND_BUILD: &str = "0.2.0
 it isn't known how this was built                                                                   ";
 
 /// An argument of a command.
-#[derive(Clone, Copy)]
 struct Word<'a> {
     name: &'a str,
     /// The name of its value in the help.
@@ -34,7 +33,6 @@ struct Word<'a> {
 }
 
 /// The kind of an argument.
-#[derive(Clone, Copy)]
 enum ArgumentKind<'a> {
     /// A required positional argument, such as a file's path.
     Needed,
@@ -80,38 +78,38 @@ const WAIT_HELP: &str = "Try again for this many seconds if there is no answer, 
 const TIMEOUT_HELP: &str = "End if there is no answer for this many seconds, 1 to 86400";
 
 /// The arguments of a command on a segment's file: the file, and the segment's place.
-const PLACE_WORDS: [Word<'static>; 3] = words! {
+static PLACE_WORDS: [Word<'static>; 3] = words! {
     "file" "FILE" Needed, FILE_HELP;
     "index" "I" Number("0"), INDEX_HELP;
     "count" "N" Number("1"), COUNT_HELP;
 };
 
-const CHECK_WORDS: [Word<'static>; 4] = words! {
+static CHECK_WORDS: [Word<'static>; 4] = words! {
     "file" "FILE" Needed, FILE_HELP;
     "json" "" Flag, "Print it as JSON, on one line";
     "slot" "S" Text, "The slot whose value is printed, 0 to 2";
     "value" "" Flag, "Print the value in slot S, and nothing else";
 };
 
-const MIGRATE_WORDS: [Word<'static>; 4] = words! {
+static MIGRATE_WORDS: [Word<'static>; 4] = words! {
     "old" "OLD" Needed, "The path of the file of the old format";
     "new" "NEW" Needed, "The path of the new file";
     "index" "I" Number("0"), INDEX_HELP;
     "count" "N" Number("1"), COUNT_HELP;
 };
 
-const INIT_WORDS: [Word<'static>; 3] = words! {
+static INIT_WORDS: [Word<'static>; 3] = words! {
     "folder" "DIR" Needed, "The path of the folder, which is made where it isn't there";
     "count" "N" Number("1"), "How many segments there are to be, 1 to 16";
     "missing-empty" "" Flag, "Make a missing file, empty, where another one holds a value";
 };
 
-const DOCTOR_WORDS: [Word<'static>; 2] = words! {
+static DOCTOR_WORDS: [Word<'static>; 2] = words! {
     "folder" "DIR" Needed, "The path of the folder";
     "measure" "" Flag, "Store values in a file of its own there, and say how long that takes";
 };
 
-const SERVE_WORDS: [Word<'static>; 11] = words! {
+static SERVE_WORDS: [Word<'static>; 11] = words! {
     "address" "ADDR" Needed, ADDRESS_HELP;
     "files" "FILE" Many, "The files, in order of segment: 1 to 16";
     "dir" "DIR" Text, "The folder of the files, in place of these";
@@ -125,7 +123,7 @@ const SERVE_WORDS: [Word<'static>; 11] = words! {
     "log" "LEVEL" Choice("info"), "The lowest level of a line on standard error: error, warn, info or debug";
 };
 
-const CALL_WORDS: [Word<'static>; 9] = words! {
+static CALL_WORDS: [Word<'static>; 9] = words! {
     "address" "ADDR" Needed, ADDRESS_HELP;
     "request" "WORD" NeededMany, "The request: put I, get I, update I NUMBER HEX, scan, part MASK, status or health";
     "tries" "T" Number("1"), TRIES_HELP;
@@ -137,21 +135,21 @@ const CALL_WORDS: [Word<'static>; 9] = words! {
     "json" "" Flag, "Print the answer as JSON, on one line";
 };
 
-const WATCH_WORDS: [Word<'static>; 4] = words! {
+static WATCH_WORDS: [Word<'static>; 4] = words! {
     "address" "ADDR" Needed, ADDRESS_HELP;
     "segments" "SEGMENT" Many, "The segments to show, 0 to 15; all where none is given";
     "every" "MILLISECONDS" LargeNumber, "Milliseconds between two polls, 1 to 86400000; else 1000";
     "json" "" Flag, "Print each change as a JSON object, on one line";
 };
 
-const DUMP_WORDS: [Word<'static>; 4] = words! {
+static DUMP_WORDS: [Word<'static>; 4] = words! {
     "holder" "ADDR|DIR" Needed, "Where the server listens, or the folder of the files";
     "tries" "T" Number("1"), TRIES_HELP;
     "wait" "SECONDS" LargeNumber, WAIT_HELP;
     "timeout" "SECONDS" LargeNumber, TIMEOUT_HELP;
 };
 
-const LOAD_WORDS: [Word<'static>; 3] = words! {
+static LOAD_WORDS: [Word<'static>; 3] = words! {
     "folder" "DIR" Needed, "The path of the folder, which isn't there or is empty";
     "dump" "DUMP" Needed, "The path of the dump, or `-` for standard input";
     "count" "M" FreeNumber,
@@ -162,7 +160,15 @@ const LOAD_WORDS: [Word<'static>; 3] = words! {
 pub(crate) fn grammar<'a>(alloc: Global) -> Result<Command<'a>, AllocError>
     ensures { IfOk result (λ command. app_of command ≡ grammar_of) }
 {
-    let all = segment_commands(alloc);
+    let all = Ok(program(alloc));
+    let about = "Make and format the file of one segment";
+    let all = with_command(alloc, all, "format", about, FORMAT_HELP, &PLACE_WORDS);
+    let about = "Store standard input as the segment's next value";
+    let all = with_command(alloc, all, "put", about, PUT_HELP, &PLACE_WORDS);
+    let about = "Print the segment's value, and nothing else";
+    let all = with_command(alloc, all, "get", about, GET_HELP, &PLACE_WORDS);
+    let about = "Show what a file holds, slot by slot, and change nothing";
+    let all = with_command(alloc, all, "check", about, CHECK_HELP, &CHECK_WORDS);
     let about = "Carry a file of the old format over to a new file, and leave the old one as it is";
     let all = with_command(alloc, all, "migrate", about, MIGRATE_HELP, &MIGRATE_WORDS);
     let about = "Make a folder with the file of each segment, and go on where that was cut off";
@@ -181,30 +187,6 @@ pub(crate) fn grammar<'a>(alloc: Global) -> Result<Command<'a>, AllocError>
     let all = with_command(alloc, all, "load", about, LOAD_HELP, &LOAD_WORDS);
     let about = "Run a script of writers and scanners, and print what each step answers";
     with_command(alloc, all, "script", about, SCRIPT_HELP, &[])
-}
-
-/// The program with the commands on one segment's file.
-fn segment_commands<'a>(alloc: Global) -> Result<Command<'a>, AllocError>
-    ensures { IfOk result (λ all. app_of all ≡ with_subcommand (with_subcommand
-        (with_subcommand (with_subcommand program_of (placed (filed (new_app (codes "format")))).top)
-        (placed (filed (new_app (codes "put")))).top) (placed (filed (new_app (codes "get")))).top)
-        (checked (new_app (codes "check"))).top) }
-{
-    let about = "Make and format the file of one segment";
-    let all = with_command(
-        alloc,
-        Ok(program(alloc)),
-        "format",
-        about,
-        FORMAT_HELP,
-        &PLACE_WORDS,
-    );
-    let about = "Store standard input as the segment's next value";
-    let all = with_command(alloc, all, "put", about, PUT_HELP, &PLACE_WORDS);
-    let about = "Print the segment's value, and nothing else";
-    let all = with_command(alloc, all, "get", about, GET_HELP, &PLACE_WORDS);
-    let about = "Show what a file holds, slot by slot, and change nothing";
-    with_command(alloc, all, "check", about, CHECK_HELP, &CHECK_WORDS)
 }
 
 /// The program without commands.

@@ -1,13 +1,17 @@
 //! The numbers among the arguments of a command, within their limits.
-ghost use Rattle.std.specs.Prelude.{◌≢◌, ◌+◌, ◌^◌, ◌<◌, ◌≤◌, ℕ, IfSome, MatchResult, Some, codes};
-ghost use Rattle.snap_order.specs.{Limits.MAX_COUNT, Limits.MAX_TRIES, Order.IsOneTo, Order.IsPlace};
-ghost use Rattle.snap_args.specs.Numbers.{IsLargeNumberOf, IsMask, IsMode, IsModeOf, IsNumberOf, IsPlaceOf};
+ghost use Rattle.std.specs.Prelude.{◌≢◌, ◌^◌, ◌<◌, ◌≤◌, ℕ, IfSome, MatchResult, Some, codes};
+ghost use Rattle.snap_order.specs.{Limits.MAX_COUNT, Order.IsOneTo, Order.IsPlace};
+ghost use Rattle.snap_args.specs.Numbers.{IsLargeNumberOf, IsMask, IsModeOf, IsNumberOf, IsPlaceOf};
 ghost use Rattle.snap_args.specs.Words.{Finds, Reads, word_of};
 ghost use Rattle.snap_args.specs.declared.fault.WordFault.TheVariants.{Memory};
 
 use crate::WordFault;
+use crate::words::text_of;
 use clap::ArgMatches;
-use snap_order::{MAX_COUNT, MAX_TIMEOUT, MAX_TRIES, MODE_BITS};
+use snap_order::{MAX_COUNT, MODE_BITS};
+
+/// The highest index of a segment.
+pub(crate) const LAST_SEGMENT: u64 = MAX_COUNT as u64 - 1;
 
 /// The place of a file's segment, within the limits.
 pub(crate) fn place(matches: &ArgMatches<'_>) -> Result<(u8, u8), WordFault>
@@ -55,28 +59,32 @@ pub(crate) fn number_to(
 fn number_of(matches: &ArgMatches<'_>, what: &'static str) -> Result<u8, WordFault>
     ensures { Reads result (λ n. (n < 2 ^ 8) × IsNumberOf (word_of matches.now what.now) n) }
 {
-    let Some(word) = matches.get_str(what) else {
-        return Err(WordFault::Missing { what });
-    };
-    match word.parse::<u8>() {
-        Ok(number) => Ok(number),
-        Err(_) => Err(WordFault::Number { what }),
+    let word = text_of(matches, what)?;
+    word.parse::<u8>().or(Err(WordFault::Number(what)))
+}
+
+/// The number of an option, at most `most`, if it was given. Else it breaks this rule.
+pub(crate) fn large_number_of(
+    matches: &ArgMatches<'_>,
+    what: &'static str,
+    most: u64,
+    rule: &'static str,
+) -> Result<Option<u64>, WordFault>
+    ensures { Reads result (λ k. IfSome k (λ n. n ≤ most) × IsLargeNumberOf (word_of matches.now what.now) k) }
+{
+    match matches.get_str(what) {
+        Some(word) => Ok(Some(number_in(word, most, rule)?)),
+        None => Ok(None),
     }
 }
 
-/// The number of connections after which a server stops, if it was given.
-pub(crate) fn connections_of(matches: &ArgMatches<'_>) -> Result<Option<u64>, WordFault>
-    ensures { Reads result (λ k. IfSome k (λ n. n < 2 ^ 64)
-        × IsLargeNumberOf (word_of matches.now (codes "connections")) k) }
+/// The number that the text is, at most `most`. Else it breaks this rule.
+pub(crate) fn number_in(word: &str, most: u64, rule: &'static str) -> Result<u64, WordFault>
+    ensures { Reads result (λ n. (n ≤ most) × IsNumberOf (Some word.now) n) }
 {
-    let Some(word) = matches.get_str("connections") else {
-        return Ok(None);
-    };
     match word.parse::<u64>() {
-        Ok(number) => Ok(Some(number)),
-        Err(_) => Err(WordFault::Rule(
-            "the number of connections is not from 0 to 18446744073709551615",
-        )),
+        Ok(number) if number <= most => Ok(number),
+        _ => Err(WordFault::Rule(rule)),
     }
 }
 
@@ -99,67 +107,13 @@ pub(crate) fn limit_of(
     }
 }
 
-/// The most connections for a request, 1 to 10.
-pub(crate) fn tries_of(matches: &ArgMatches<'_>) -> Result<u8, WordFault>
-    ensures { Reads result (λ n. IsOneTo MAX_TRIES n × IsNumberOf (word_of matches.now (codes "tries")) n) }
-{
-    number_to(matches, "tries", "number of tries", usize::from(MAX_TRIES))
-}
-
-/// The seconds of `--wait`, if they were given.
-pub(crate) fn wait_of(matches: &ArgMatches<'_>) -> Result<Option<u32>, WordFault>
-    ensures { Reads result (λ wait. IfSome wait (IsOneTo MAX_TIMEOUT)
-        × IsLargeNumberOf (word_of matches.now (codes "wait")) wait) }
-{
-    limit_of(matches, "wait", "seconds of the wait", MAX_TIMEOUT)
-}
-
-/// The seconds of `--timeout`, if they were given.
-pub(crate) fn timeout_of(matches: &ArgMatches<'_>) -> Result<Option<u32>, WordFault>
-    ensures { Reads result (λ timeout. IfSome timeout (IsOneTo MAX_TIMEOUT)
-        × IsLargeNumberOf (word_of matches.now (codes "timeout")) timeout) }
-{
-    limit_of(matches, "timeout", "seconds of the timeout", MAX_TIMEOUT)
-}
-
-/// The number after which a value is stored, if it was given. It is less than `u64::MAX`.
-pub(crate) fn after_of(matches: &ArgMatches<'_>) -> Result<Option<u64>, WordFault>
-    ensures { Reads result (λ after. IfSome after (λ k. k + 1 < 2 ^ 64)
-        × IsLargeNumberOf (word_of matches.now (codes "after")) after) }
-{
-    let Some(word) = matches.get_str("after") else {
-        return Ok(None);
-    };
-    match word.parse::<u64>() {
-        Ok(number) if number < u64::MAX => Ok(Some(number)),
-        _ => Err(WordFault::Rule(
-            "the number after which it is stored is not from 0 to 18446744073709551614",
-        )),
-    }
-}
-
 /// The mode of the file of a socket.
 pub(crate) fn mode_of(matches: &ArgMatches<'_>) -> Result<u16, WordFault>
     ensures { Reads result (λ mode. (mode ≤ MODE_BITS) × IsModeOf (word_of matches.now (codes "socket-mode")) mode) }
 {
-    let Some(word) = matches.get_str("socket-mode") else {
-        return Err(WordFault::Missing {
-            what: "socket-mode",
-        });
-    };
-    match mode_in(word) {
-        Some(mode) => Ok(mode),
-        None => Err(WordFault::Rule("the socket's mode is not an octal number from 0 to 777")),
-    }
-}
-
-/// The mode that the text is, in octal. `None` if it isn't octal, or has other bits than [`MODE_BITS`].
-fn mode_in(word: &str) -> Option<u16>
-    ensures { Finds result (IsMode word.now) }
-{
-    match u16::from_str_radix(word, 8) {
-        Ok(mode) if mode <= MODE_BITS => Some(mode),
-        _ => None,
+    match u16::from_str_radix(text_of(matches, "socket-mode")?, 8) {
+        Ok(mode) if mode <= MODE_BITS => Ok(mode),
+        _ => Err(WordFault::Rule("the socket's mode is not an octal number from 0 to 777")),
     }
 }
 

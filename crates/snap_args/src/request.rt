@@ -1,24 +1,20 @@
 //! The arguments that make up a request.
-ghost use Rattle.std.specs.Prelude.{◌≢◌, ◌<◌, ◌≤◌, ◌∷◌, [], None, Some, codes, length, map};
+ghost use Rattle.std.specs.Prelude.{◌≢◌, ◌≤◌, ◌∷◌, [], None, codes, length, map};
 ghost use Rattle.clap.specs.Words.{Text};
-ghost use Rattle.snap_order.specs.Limits.{MAX_COUNT};
 ghost use Rattle.snap_order.specs.Messages.{IsAskable, max_payload, payload};
 ghost use Rattle.snap_order.specs.Order.{FitsUpdate, IsWithin};
 ghost use Rattle.snap_order.specs.declared.order.CallRequest.{CallRequest};
 ghost use Rattle.snap_order.specs.declared.order.CallRequest.TheVariants as question;
-ghost use Rattle.snap_args.specs.Numbers.{IsNumberOf};
 ghost use Rattle.snap_args.specs.Requests.{IsPartOf, IsPutOf, IsQuestionOf, IsSourceOf, IsUpdateOf};
 ghost use Rattle.snap_args.specs.Requests.{KeepsLimits};
 ghost use Rattle.snap_args.specs.Words.{Reads, word_of, words_of};
 
 use crate::WordFault;
-use crate::numbers::{after_of, mask_of};
+use crate::numbers::{LAST_SEGMENT, large_number_of, mask_of, number_in};
 use crate::words::is;
 use bytes::Bytes;
 use clap::ArgMatches;
-use snap_order::{
-    CallRequest, MAX_COUNT, MAX_UPDATE_VALUE, PutOptions, Request, SegmentSet, Source,
-};
+use snap_order::{CallRequest, MAX_UPDATE_VALUE, PutOptions, Request, SegmentSet, Source};
 use snap_stream::read_hex;
 use std::alloc::Global;
 
@@ -68,7 +64,8 @@ fn plain_question(alloc: Global, words: &[&str]) -> Result<CallRequest, WordFaul
         return Ok(CallRequest::Request(part));
     }
     if words.len() == 2 && is(words[0], "get") {
-        let segment = segment_to_get(words[1])?;
+        let rule = "the segment to get is not a number from 0 to 15";
+        let segment = number_in(words[1], LAST_SEGMENT, rule)? as u8;
         return Ok(CallRequest::Get { segment });
     }
     if words.len() == 4 && is(words[0], "update") {
@@ -89,25 +86,15 @@ fn form_rule(words: &[&str]) -> &'static str {
     "the request is not `put I`, `get I`, `update I NUMBER HEX`, `scan`, `part MASK`, `status` or `health`"
 }
 
-/// Parses the segment of a get, which is less than 16.
-fn segment_to_get(word: &str) -> Result<u8, WordFault>
-    ensures { Reads result (λ i. (i < MAX_COUNT) × IsNumberOf (Some word.now) i) }
-{
-    match word.parse::<u8>() {
-        Ok(segment) if segment < MAX_COUNT => Ok(segment),
-        _ => Err(WordFault::Rule("the segment to get is not a number from 0 to 15")),
-    }
-}
-
 /// Parses a put of this segment, with its options.
 fn put(alloc: Global, segment: &str, matches: &ArgMatches<'_>) -> Result<PutOptions, WordFault>
     ensures { Reads result (λ p. IsWithin (question.Put p) × IsPutOf segment.now
         (word_of matches.now (codes "value")) (word_of matches.now (codes "after")) p) }
 {
-    let Ok(segment) = segment.parse::<u8>() else {
-        return Err(WordFault::Rule("the segment to put is not a number from 0 to 255"));
-    };
-    let after = after_of(matches)?;
+    let rule = "the segment to put is not a number from 0 to 255";
+    let segment = number_in(segment, 255, rule)? as u8;
+    let rule = "the number after which it is stored is not from 0 to 18446744073709551614";
+    let after = large_number_of(matches, "after", u64::MAX - 1, rule)?;
     let value = source_of(alloc, matches)?;
     Ok(PutOptions {
         segment,
@@ -124,8 +111,7 @@ fn source_of(alloc: Global, matches: &ArgMatches<'_>) -> Result<Source, WordFaul
         return Ok(Source::Input);
     };
     if text.len() > MAX_UPDATE_VALUE {
-        let len = text.len();
-        return Err(WordFault::TooLong { len });
+        return Err(WordFault::TooLong(text.len()));
     }
     let bytes = Bytes::copy_from_slice(alloc, text.as_bytes())?;
     Ok(Source::Words(bytes))
@@ -148,25 +134,17 @@ fn part(mask: &str) -> Result<Request, WordFault>
 fn update(alloc: Global, segment: &str, number: &str, value: &str) -> Result<Request, WordFault>
     ensures { Reads result (λ r. (length (payload r) ≤ max_payload) × IsUpdateOf segment.now number.now value.now r) }
 {
-    let Ok(segment) = segment.parse::<u8>() else {
-        return Err(WordFault::Rule("the update's segment is not a number from 0 to 255"));
-    };
-    let Ok(number) = number.parse::<u64>() else {
-        return Err(WordFault::Rule(
-            "the update's number is not a number from 0 to 18446744073709551615",
-        ));
-    };
+    let rule = "the update's segment is not a number from 0 to 255";
+    let segment = number_in(segment, 255, rule)? as u8;
+    let rule = "the update's number is not a number from 0 to 18446744073709551615";
+    let number = number_in(number, u64::MAX, rule)?;
+    let rule = "the update's value is not `-` or two hexadecimal digits for each byte";
     let bytes = match read_hex(alloc, value.as_bytes())? {
         Some(bytes) => bytes,
-        None => {
-            return Err(WordFault::Rule(
-                "the update's value is not `-` or two hexadecimal digits for each byte",
-            ));
-        }
+        None => return Err(WordFault::Rule(rule)),
     };
-    let len = bytes.len();
-    if len > MAX_UPDATE_VALUE {
-        return Err(WordFault::TooLong { len });
+    if bytes.len() > MAX_UPDATE_VALUE {
+        return Err(WordFault::TooLong(bytes.len()));
     }
     let Ok(value) = Bytes::from_vec(bytes) else {
         return Err(WordFault::Memory);

@@ -1,28 +1,32 @@
 //! The arguments of `serve`.
-ghost use Rattle.std.specs.Prelude.{◌≡◌, [], ◌∷◌, IfOk, codes, length, map};
-ghost use Rattle.snap_order.specs.Order.{IsOneTo, IsServable, KeepsLimits};
+ghost use Rattle.std.specs.Prelude.{◌≡◌, IfOk, codes, length, map};
+ghost use Rattle.snap_order.specs.Order.{IsOneTo, IsWithinLimits, KeepsLimits};
 ghost use Rattle.snap_args.specs.Words.{Reads, word_of, words_of};
-ghost use Rattle.snap_args.specs.{Numbers.IsLevelOf, Orders.AreAddressesOf, Orders.IsServiceOf};
+ghost use Rattle.snap_args.specs.{Numbers.IsLevelOf, Orders.AreAddressesOf, Orders.IsServerOf, Orders.IsServiceOf};
 
 use crate::WordFault;
-use crate::numbers::{connections_of, limit_of, mode_of, number_to};
-use crate::words::is;
+use crate::numbers::{large_number_of, limit_of, mode_of, number_to};
+use crate::words::text_of;
 use clap::ArgMatches;
 use snap_order::{
-    Level, MAX_ADDRESSES, MAX_CLIENTS, MAX_COUNT, MAX_IDLE, MAX_SCANNERS, ServeOptions,
+    Level, MAX_ADDRESSES, MAX_CLIENTS, MAX_COUNT, MAX_IDLE, MAX_SCANNERS, Order, ServeOptions,
 };
-use std::alloc::{AllocError, Global};
+use std::alloc::Global;
 
-/// Parses the arguments of a server with files, which are in order of segment.
-pub(crate) fn serving<'a>(
-    alloc: Global,
-    matches: &ArgMatches<'a>,
-) -> Result<ServeOptions<'a>, WordFault>
-    ensures { Reads result (λ s. IsServable s × (words_of matches.now (codes "files") ≡ map (λ f. f.now) s.files.items)
-        × IsServiceOf (word_of matches.now) (words_of matches.now) s) }
+/// Parses the arguments of `serve`: a server with files, which are in order of segment, or with a folder.
+pub(crate) fn serving<'a>(alloc: Global, matches: &ArgMatches<'a>) -> Result<Order<'a>, WordFault>
+    ensures { Reads result (λ order. IsWithinLimits order
+        × IsServerOf (word_of matches.now) (words_of matches.now) order) }
 {
     let files = matches.get_strs("files").unwrap_or(&[]);
     let number = files.len();
+    if let Some(folder) = matches.get_str("dir") {
+        if number > 0 {
+            return Err(WordFault::Rule("FILEs and --dir are given, and a server has either"));
+        }
+        let serving = service_of(alloc, matches, Vec::new(alloc))?;
+        return Ok(Order::ServeFolder { folder, serving });
+    }
     if number == 0 {
         return Err(WordFault::Rule("no FILE and no --dir is given"));
     }
@@ -35,24 +39,7 @@ pub(crate) fn serving<'a>(
         });
     }
     let files = Vec::from_slice(alloc, files)?;
-    service_of(alloc, matches, files)
-}
-
-/// Parses the arguments of a server with a folder, where no files may be given.
-pub(crate) fn folder_serving<'a>(
-    alloc: Global,
-    matches: &ArgMatches<'a>,
-) -> Result<ServeOptions<'a>, WordFault>
-    ensures { Reads result (λ s. KeepsLimits s × (length s.files.items ≡ 0)
-        × (words_of matches.now (codes "files") ≡ []) × IsServiceOf (word_of matches.now) (words_of matches.now) s) }
-{
-    if matches
-        .get_strs("files")
-        .is_some_and(|files| !files.is_empty())
-    {
-        return Err(WordFault::Rule("FILEs and --dir are given, and a server has either"));
-    }
-    service_of(alloc, matches, Vec::new(alloc))
+    Ok(Order::Serve(service_of(alloc, matches, files)?))
 }
 
 /// Parses the other arguments of a server, for these files.
@@ -64,24 +51,17 @@ fn service_of<'a>(
     ensures files { IfOk result (λ s. s.files.items ≡ files.entry.items) }
     ensures read { Reads result (λ s. KeepsLimits s × IsServiceOf (word_of matches.now) (words_of matches.now) s) }
 {
-    let addresses = addresses_of(alloc, matches)?;
-    let socket_mode = mode_of(matches)?;
-    let scanners = number_to(matches, "scanners", "number of scanners", MAX_SCANNERS)?;
-    let connections = connections_of(matches)?;
-    let clients = limit_of(matches, "clients-max", "most clients", MAX_CLIENTS)?;
-    let idle = limit_of(matches, "idle", "idle seconds", MAX_IDLE)?;
-    let log = level_of(matches)?;
-    let http = matches.get_str("http");
+    let rule = "the number of connections is not from 0 to 18446744073709551615";
     Ok(ServeOptions {
-        addresses,
-        socket_mode,
         files,
-        scanners,
-        connections,
-        clients,
-        idle,
-        log,
-        http,
+        addresses: addresses_of(alloc, matches)?,
+        socket_mode: mode_of(matches)?,
+        scanners: number_to(matches, "scanners", "number of scanners", MAX_SCANNERS)?,
+        connections: large_number_of(matches, "connections", u64::MAX, rule)?,
+        clients: limit_of(matches, "clients-max", "most clients", MAX_CLIENTS)?,
+        idle: limit_of(matches, "idle", "idle seconds", MAX_IDLE)?,
+        log: level_of(matches)?,
+        http: matches.get_str("http"),
     })
 }
 
@@ -91,9 +71,7 @@ fn addresses_of<'a>(alloc: Global, matches: &ArgMatches<'a>) -> Result<Vec<&'a s
         × AreAddressesOf (word_of matches.now (codes "address"))
         (words_of matches.now (codes "listen")) (map (λ a. a.now) all.items)) }
 {
-    let Some(address) = matches.get_str("address") else {
-        return Err(WordFault::Missing { what: "address" });
-    };
+    let address = text_of(matches, "address")?;
     let further = matches.get_strs("listen").unwrap_or(&[]);
     if further.len() >= MAX_ADDRESSES {
         return Err(WordFault::Outside {
@@ -102,16 +80,8 @@ fn addresses_of<'a>(alloc: Global, matches: &ArgMatches<'a>) -> Result<Vec<&'a s
             most: MAX_ADDRESSES,
         });
     }
-    Ok(behind(alloc, address, further)?)
-}
-
-/// The text `first`, followed by the others.
-fn behind<'a>(alloc: Global, first: &'a str, others: &[&'a str]) -> Result<Vec<&'a str>, AllocError>
-    ensures { IfOk result (λ all. all.items ≡ first.entry ∷ others.entry.now) }
-{
-    let mut all = Vec::new(alloc);
-    all.push(first)?;
-    all.extend_from_slice(others)?;
+    let mut all = Vec::from_slice(alloc, &[address])?;
+    all.extend_from_slice(further)?;
     Ok(all)
 }
 
@@ -119,20 +89,11 @@ fn behind<'a>(alloc: Global, first: &'a str, others: &[&'a str]) -> Result<Vec<&
 fn level_of(matches: &ArgMatches<'_>) -> Result<Level, WordFault>
     ensures { Reads result (IsLevelOf (word_of matches.now (codes "log"))) }
 {
-    let Some(word) = matches.get_str("log") else {
-        return Err(WordFault::Missing { what: "log" });
-    };
-    if is(word, "error") {
-        return Ok(Level::Error);
+    match text_of(matches, "log")? {
+        "error" => Ok(Level::Error),
+        "warn" => Ok(Level::Warn),
+        "info" => Ok(Level::Info),
+        "debug" => Ok(Level::Debug),
+        _ => Err(WordFault::Rule("the log is not `error`, `warn`, `info` or `debug`")),
     }
-    if is(word, "warn") {
-        return Ok(Level::Warn);
-    }
-    if is(word, "info") {
-        return Ok(Level::Info);
-    }
-    if is(word, "debug") {
-        return Ok(Level::Debug);
-    }
-    Err(WordFault::Rule("the log is not `error`, `warn`, `info` or `debug`"))
 }

@@ -1,19 +1,19 @@
 //! Parses the arguments of the program.
-ghost use Rattle.std.specs.Prelude.{◌≡◌, ◌≢◌, [], ◌↔◌, IfErr, IfOk, IsTrue, codes, map};
+ghost use Rattle.std.specs.Prelude.{◌≡◌, ◌≢◌, [], ◌↔◌, IfErr, IfOk, IsTrue, Some, map};
 ghost use Rattle.clap.specs.Words.{fault_of};
 ghost use Rattle.snap_order.specs.Limits.{MAX_COUNT};
 ghost use Rattle.snap_order.specs.Order.{IsFileWithinLimits, IsOneTo, IsPlace, IsWithinLimits};
 ghost use Rattle.snap_args.specs.Grammar.{grammar_of};
 ghost use Rattle.snap_args.specs.Orders.{IsAskedBy, IsCheckOf, IsFileAskedBy, IsFoundingOf};
-ghost use Rattle.snap_args.specs.Orders.{IsMigrationOf, IsParseFault, IsServerOf, IsTold, Means};
-ghost use Rattle.snap_args.specs.Words.{Reads, word_of, words_of};
+ghost use Rattle.snap_args.specs.Orders.{IsMigrationOf, IsParseFault, IsTold, Means};
+ghost use Rattle.snap_args.specs.{Numbers.IsGiven, Words.Reads, Words.word_of, Words.words_of};
 
 use crate::WordFault;
-use crate::call::{calling, is_given};
+use crate::call::calling;
 use crate::dump::{dumping, loading};
 use crate::grammar::grammar;
-use crate::numbers::{count_of, place};
-use crate::serve::{folder_serving, serving};
+use crate::numbers::{count_of, number_in, place};
+use crate::serve::serving;
 use crate::watch::watching;
 use clap::ArgMatches;
 use clap::error::ErrorKind;
@@ -23,11 +23,6 @@ use std::convert::AsStr;
 
 /// The fault of arguments without a command.
 const NO_COMMAND: WordFault = WordFault::Rule("no command is given");
-
-/// The fault of a slot without `--value`, of `--value` without a slot, and of both with `--json`.
-const SLOT_ALONE: WordFault = WordFault::Rule(
-    "--slot S and --value are given together, and without --json",
-);
 
 /// Parses the arguments of the program, of which the first is its name.
 ///
@@ -62,46 +57,21 @@ fn order_of<'a>(
     ensures { Reads result (λ order. IsWithinLimits order
         × IsAskedBy command.now (word_of matches.now) (words_of matches.now) order) }
 {
-    if is(command, "script") {
-        return Ok(Order::Script);
+    match command {
+        "script" => Ok(Order::Script),
+        "serve" => serving(alloc, matches),
+        "call" => Ok(Order::Call(calling(alloc, matches)?)),
+        "migrate" => Ok(Order::Migrate(migration(matches)?)),
+        "init" => Ok(Order::Init(founding(matches)?)),
+        "doctor" => Ok(Order::Doctor(DoctorOptions {
+            folder: text_of(matches, "folder")?,
+            is_measured: is_given(matches, "measure"),
+        })),
+        "dump" => Ok(Order::Dump(dumping(matches)?)),
+        "load" => Ok(Order::Load(loading(matches)?)),
+        "watch" => Ok(Order::Watch(watching(alloc, matches)?)),
+        _ => Ok(Order::File(file_order(command, matches)?)),
     }
-    if is(command, "serve") {
-        return server_order(alloc, matches);
-    }
-    if is(command, "call") {
-        return Ok(Order::Call(calling(alloc, matches)?));
-    }
-    if is(command, "migrate") {
-        return Ok(Order::Migrate(migration(matches)?));
-    }
-    if is(command, "init") {
-        return Ok(Order::Init(founding(matches)?));
-    }
-    if is(command, "doctor") {
-        return examination(matches);
-    }
-    if is(command, "dump") {
-        return Ok(Order::Dump(dumping(matches)?));
-    }
-    if is(command, "load") {
-        return Ok(Order::Load(loading(matches)?));
-    }
-    if is(command, "watch") {
-        return Ok(Order::Watch(watching(alloc, matches)?));
-    }
-    Ok(Order::File(file_order(command, matches)?))
-}
-
-/// Parses the arguments of `serve`: a server with files, or with a folder.
-fn server_order<'a>(alloc: Global, matches: &ArgMatches<'a>) -> Result<Order<'a>, WordFault>
-    ensures { Reads result (λ order. IsWithinLimits order
-        × IsServerOf (word_of matches.now) (words_of matches.now) order) }
-{
-    let Some(folder) = matches.get_str("dir") else {
-        return Ok(Order::Serve(serving(alloc, matches)?));
-    };
-    let serving = folder_serving(alloc, matches)?;
-    Ok(Order::ServeFolder { folder, serving })
 }
 
 /// Parses the arguments of `format`, `put`, `get` or `check`.
@@ -111,9 +81,7 @@ fn file_order<'a>(command: &str, matches: &ArgMatches<'a>) -> Result<FileOrder<'
     if is(command, "check") {
         return checking(matches);
     }
-    let Some(file) = matches.get_str("file") else {
-        return Err(WordFault::Missing { what: "file" });
-    };
+    let file = text_of(matches, "file")?;
     let (index, count) = place(matches)?;
     let order = match command {
         "format" => FileOrder::Format { file, index, count },
@@ -128,74 +96,61 @@ fn file_order<'a>(command: &str, matches: &ArgMatches<'a>) -> Result<FileOrder<'
 fn checking<'a>(matches: &ArgMatches<'a>) -> Result<FileOrder<'a>, WordFault>
     ensures { Reads result (λ order. IsFileWithinLimits order × IsCheckOf (word_of matches.now) order) }
 {
-    let Some(file) = matches.get_str("file") else {
-        return Err(WordFault::Missing { what: "file" });
-    };
+    let file = text_of(matches, "file")?;
     let is_json = is_given(matches, "json");
     let is_value = is_given(matches, "value");
-    let Some(word) = matches.get_str("slot") else {
-        if is_value {
-            return Err(SLOT_ALONE);
+    match matches.get_str("slot") {
+        None if !is_value => Ok(FileOrder::Check { file, is_json }),
+        Some(word) if is_value && !is_json => {
+            let rule = "the slot is not a number from 0 to 2";
+            let slot = number_in(word, SLOT_COUNT - 1, rule)? as u8;
+            Ok(FileOrder::Slot { file, slot })
         }
-        return Ok(FileOrder::Check { file, is_json });
-    };
-    if !is_value || is_json {
-        return Err(SLOT_ALONE);
-    }
-    match word.parse::<u8>() {
-        Ok(slot) if u64::from(slot) < SLOT_COUNT => Ok(FileOrder::Slot { file, slot }),
-        _ => Err(WordFault::Rule("the slot is not a number from 0 to 2")),
+        _ => Err(WordFault::Rule("--slot S and --value are given together, and without --json")),
     }
 }
 
-/// Whether the command has this name.
-pub(crate) fn is(command: &str, name: &'static str) -> bool
-    ensures { IsTrue result ↔ (command.now ≡ name.now) }
+/// Whether the text is this name.
+pub(crate) fn is(text: &str, name: &'static str) -> bool
+    ensures { IsTrue result ↔ (text.now ≡ name.now) }
 {
-    command == name
+    text == name
+}
+
+/// The text of the argument of this name. Fails if it isn't given.
+pub(crate) fn text_of<'a>(
+    matches: &ArgMatches<'a>,
+    what: &'static str,
+) -> Result<&'a str, WordFault>
+    ensures { Reads result (λ text. word_of matches.now what.now ≡ Some text.now) }
+{
+    matches.get_str(what).ok_or(WordFault::Missing(what))
+}
+
+/// Whether the flag was given.
+pub(crate) fn is_given(matches: &ArgMatches<'_>, name: &'static str) -> bool
+    ensures { IsTrue result ↔ IsGiven (word_of matches.now name.now) }
+{
+    matches!(matches.get_str(name), Some("true"))
 }
 
 /// Parses the arguments of `init`.
 fn founding<'a>(matches: &ArgMatches<'a>) -> Result<InitOptions<'a>, WordFault>
     ensures { Reads result (λ f. IsOneTo MAX_COUNT f.count × IsFoundingOf (word_of matches.now) f) }
 {
-    let Some(folder) = matches.get_str("folder") else {
-        return Err(WordFault::Missing { what: "folder" });
-    };
-    let count = count_of(matches)?;
-    let is_missing_empty = is_given(matches, "missing-empty");
     Ok(InitOptions {
-        folder,
-        count,
-        is_missing_empty,
+        folder: text_of(matches, "folder")?,
+        count: count_of(matches)?,
+        is_missing_empty: is_given(matches, "missing-empty"),
     })
-}
-
-/// Parses the arguments of `doctor`.
-fn examination<'a>(matches: &ArgMatches<'a>) -> Result<Order<'a>, WordFault>
-    ensures { Reads result (λ order. IsWithinLimits order
-        × IsAskedBy (codes "doctor") (word_of matches.now) (words_of matches.now) order) }
-{
-    let Some(folder) = matches.get_str("folder") else {
-        return Err(WordFault::Missing { what: "folder" });
-    };
-    let is_measured = is_given(matches, "measure");
-    Ok(Order::Doctor(DoctorOptions {
-        folder,
-        is_measured,
-    }))
 }
 
 /// Parses the arguments of `migrate`.
 fn migration<'a>(matches: &ArgMatches<'a>) -> Result<MigrateOptions<'a>, WordFault>
     ensures { Reads result (λ m. IsPlace m.index m.count × IsMigrationOf (word_of matches.now) m) }
 {
-    let Some(old) = matches.get_str("old") else {
-        return Err(WordFault::Missing { what: "old" });
-    };
-    let Some(new) = matches.get_str("new") else {
-        return Err(WordFault::Missing { what: "new" });
-    };
+    let old = text_of(matches, "old")?;
+    let new = text_of(matches, "new")?;
     let (index, count) = place(matches)?;
     Ok(MigrateOptions {
         old,

@@ -8,11 +8,12 @@ use Rattle.snap_args.proofs.call.calling.Goals as goal
 pub returns-then-not-lists_segments : goal.returns-then-not-lists_segments
 returns-then-not-lists_segments c = λ memory call is.
     let of = word_of c.args.matches.now in
-    let other : c.in_ok-layout.layout ≢ Lines = grind (arith, common_steps) in
+    let layout = c.in_ok-layout_of in
+    let other : layout.field-0 ≢ Lines = grind (arith, common_steps) in
     let unlisted = sym c.lists_segments.ensures ∙ c.if-not-lists_segments.true in
     elim is.0.layout [
-      | inl lines ↦ not_lines (of (codes "text")) (of (codes "json")) c.in_ok-layout.layout other c.in_ok-layout.ensures
+      | inl lines ↦ not_lines (of (codes "text")) (of (codes "json")) layout.field-0 other layout.ensures
           (subst (IsLayoutOf (of (codes "text")) (of (codes "json"))) lines is.1.layout)
-      | inr listed ↦ (let asks = c.in_ok-question in
-          one_listing _ _ _ asks.question call.question asks.ensures.1 is.1.request unlisted listed)
+      | inr listed ↦ (let asks = c.in_ok-question_of in
+          one_listing _ _ _ asks.field-0 call.question asks.ensures.1 is.1.request unlisted listed)
     ]

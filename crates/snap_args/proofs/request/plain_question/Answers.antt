@@ -1,4 +1,4 @@
-use Rattle.std.proofs.Common.{◌≡◌, ◌≢◌, None, codes, length, map, arith, refl, rules}
+use Rattle.std.proofs.Common.{◌≡◌, ◌≢◌, ◌<◌, None, codes, length, map, arith, refl, rules}
 use Rattle.std.proofs.{lemmas.Bool.Decides.nat_tests, lemmas.Nat.pow_pos, Math.Pow.pow-lt, lemmas.Grind.common_steps}
 use Rattle.snap_order.specs.declared.order.CallRequest.{CallRequest}
 use Rattle.snap_args.proofs.Requests.{four_words, no_get, no_question, two_words}
@@ -11,7 +11,8 @@ returns-in_err-segment c =
     let two = two_words c.args.words.now _ (codes "get") long (c.is-then-words-eq2-2.ensures.0 c.if-is-5.true) in
     let none : c.in_err-segment.field-0.0 ≢ Memory → (q : CallRequest)
     → KeepsLimits q × IsQuestionOf (map (λ w. w.now) c.args.words.now) None None q → ⊥ =
-    λ other q is. no_get _ _ two (c.in_err-segment.ensures other) q is.0.2 is.1 in
+    λ other q is. no_get _ _ two (λ i get. c.in_err-segment.ensures other i (omega (arith, get.0), get.1)) q
+    is.0.2 is.1 in
     search rules
 
 pub returns-then-is-5 : goal.returns-then-is-5
@@ -19,7 +20,8 @@ returns-then-is-5 c =
     let long : length c.args.words.now ≡ 2 = grind (arith, nat_tests) in
     let two = two_words c.args.words.now _ (codes "get") long (c.is-then-words-eq2-2.ensures.0 c.if-is-5.true) in
     let read = c.in_ok-segment.ensures in
-    ((omega arith, (pow_pos c.in_ok-segment.segment, pow-lt {j = 16} read.0), read.0), ((_, two, read.1), (refl, refl)))
+    let below : c.in_ok-segment.field-0 < 16 = omega (arith, read.0) in
+    ((omega arith, (pow_pos c.in_ok-segment.field-0, pow-lt {j = 16} below), below), ((_, two, read.1), (refl, refl)))
 
 pub returns-in_err-update : goal.returns-in_err-update
 returns-in_err-update c =
