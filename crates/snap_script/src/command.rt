@@ -15,24 +15,18 @@ impl ScriptEnd {
     pub fn report<E: Write>(&self, alloc: Global, errors: &mut E) -> Exit
         ensures { result.status ≡ status_of self.now }
     {
-        match self {
-            ScriptEnd::Done => Exit {
-                status: Status::Done,
-                is_told: true,
-            },
-            ScriptEnd::BadLine { .. } | ScriptEnd::TooLong { .. } => Exit {
-                status: Status::Misused,
-                is_told: complain(alloc, errors, self),
-            },
-            ScriptEnd::NoMemory => Exit {
-                status: Status::Refused,
-                is_told: complain_of_refusal(errors, Refusal::NoMemory),
-            },
-            ScriptEnd::ReadFailed(_) | ScriptEnd::WriteFailed(_) => Exit {
-                status: Status::Failed,
-                is_told: complain(alloc, errors, self),
-            },
-        }
+        let status = match self {
+            ScriptEnd::Done => Status::Done,
+            ScriptEnd::BadLine { .. } | ScriptEnd::TooLong { .. } => Status::Misused,
+            ScriptEnd::NoMemory => Status::Refused,
+            ScriptEnd::ReadFailed(_) | ScriptEnd::WriteFailed(_) => Status::Failed,
+        };
+        let is_told = match self {
+            ScriptEnd::Done => true,
+            ScriptEnd::NoMemory => complain_of_refusal(errors, Refusal::NoMemory),
+            _ => complain(alloc, errors, self),
+        };
+        Exit { status, is_told }
     }
 }
 

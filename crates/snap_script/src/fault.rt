@@ -1,7 +1,7 @@
 //! The faults of a script's lines.
 
 use crate::verb::Verb;
-use crate::words::{cut, is};
+use crate::words::cut;
 use std::fmt;
 
 /// Why a line can't be read. It prints as what was expected there.
@@ -21,11 +21,9 @@ impl LineFault {
     /// The fault of a later line that is no event's.
     pub(crate) fn of(line: &[u8]) -> LineFault {
         let (word, _) = cut(line, b' ');
-        if is(word, "world") {
-            return LineFault::SecondWorld;
-        }
         match Verb::named(word) {
             Some(verb) => LineFault::Form(verb),
+            None if matches!(word, b"world") => LineFault::SecondWorld,
             None => LineFault::UnknownWord,
         }
     }

@@ -10,7 +10,7 @@ use snap_world::World;
 use std::alloc::{AllocError, Global};
 
 /// Why a line wasn't done.
-#[derive(Clone, Copy, Debug, Drop, PartialEq, Eq)]
+#[derive(Drop)]
 pub(crate) enum InterpreterFault {
     /// It can't be read.
     Fault(LineFault),

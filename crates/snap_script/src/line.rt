@@ -5,7 +5,7 @@ ghost use Rattle.snap_script.specs.Words.{Finds, words_of, IsNumber};
 ghost use Rattle.snap_script.specs.Line.{IsWorldLine, IsEventLine, IsActor, TakesNumber, HasForm};
 
 use crate::verb::Verb;
-use crate::words::{cut, fill, is, mask, number, one_part, two_parts};
+use crate::words::{cut, fill, mask, number, one_part, two_parts};
 use snap_history::MAX_COUNT;
 use snap_stream::read_hex;
 use snap_world::{Actor, Event};
@@ -16,10 +16,9 @@ pub(crate) fn world_line(line: &[u8]) -> Option<(usize, usize)>
     ensures { MatchOption result ((n s : ℕ) → IsWorldLine line.now n s → ⊥)
         (λ world. IsWorldLine line.now world.0 world.1) }
 {
-    let (word, rest) = cut(line, b' ');
-    if !is(word, "world") {
+    let (b"world", rest) = cut(line, b' ') else {
         return None;
-    }
+    };
     let (segments, scanners) = two_parts(rest?, b' ')?;
     let segments = small_number(segments)?;
     let scanners = small_number(scanners)?;

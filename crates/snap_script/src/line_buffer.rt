@@ -118,6 +118,5 @@ fn write_flushed<W: Write>(writer: &mut W, bytes: &[u8]) -> io::Result<()>
     ensures beginning { AppendsBeginning (W.contents writer.old) (W.contents writer.new) bytes.now }
 {
     write_whole(writer, bytes)?;
-    writer.flush()?;
-    Ok(())
+    writer.flush()
 }

@@ -1,7 +1,7 @@
 //! Prints replies.
 ghost use Rattle.std.specs.Prelude.{◌≡◌, ◌++◌, flat_map, codes, OnOk};
 ghost use Rattle.std.specs.Fmt.{decimal};
-ghost use Rattle.snap_script.specs.Text.{entry_text, kind_text, line_text, reply_text, value_text, world_text};
+ghost use Rattle.snap_script.specs.Text.{entry_text, line_text, reply_text, value_text, world_text};
 
 use itoa::Buffer;
 use snap_stream::put_hex;
@@ -15,7 +15,11 @@ pub(crate) fn print_reply(out: &mut Vec<u8>, reply: &Reply) -> Result<(), AllocE
     match reply {
         Reply::Begun => put(out, b"begun\n"),
         Reply::Number(number) => put_number(out, b"number ", *number),
-        Reply::Called(kind) => put_kind(out, *kind),
+        Reply::Called(Kind::Write(Write::Close)) => put(out, b"called close\n"),
+        Reply::Called(Kind::Write(Write::Body)) => put(out, b"called body\n"),
+        Reply::Called(Kind::Write(Write::Open)) => put(out, b"called open\n"),
+        Reply::Called(Kind::Sync) => put(out, b"called sync\n"),
+        Reply::Called(Kind::Read) => put(out, b"called read\n"),
         Reply::DeviceFailed => put(out, b"device failed\n"),
         Reply::Shown => put(out, b"shown\n"),
         Reply::Stored(number) => put_number(out, b"stored ", *number),
@@ -59,19 +63,6 @@ fn put_number(out: &mut Vec<u8>, text: &[u8], number: u64) -> Result<(), AllocEr
     put(out, text)?;
     put(out, digits.format(number).as_bytes())?;
     put(out, b"\n")
-}
-
-/// Appends the line of a device call.
-fn put_kind(out: &mut Vec<u8>, kind: Kind) -> Result<(), AllocError>
-    ensures { OnOk result (out.new.items ≡ out.old.items ++ line_text (codes "called " ++ kind_text kind)) }
-{
-    match kind {
-        Kind::Write(Write::Close) => put(out, b"called close\n"),
-        Kind::Write(Write::Body) => put(out, b"called body\n"),
-        Kind::Write(Write::Open) => put(out, b"called open\n"),
-        Kind::Sync => put(out, b"called sync\n"),
-        Kind::Read => put(out, b"called read\n"),
-    }
 }
 
 /// Appends the line of a memory.

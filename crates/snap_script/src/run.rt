@@ -1,10 +1,10 @@
 //! A script, run while it is read.
-ghost use Rattle.std.specs.Prelude.{◌≡◌, ◌<◌, IfOk, length, vec_len};
+ghost use Rattle.std.specs.Prelude.{◌<◌, length};
 ghost use Rattle.snap_script.specs.Script.{Runs};
 
 use crate::fault::LineFault;
 use crate::line_buffer::LineBuffer;
-use std::alloc::{AllocError, Global};
+use std::alloc::Global;
 use std::io::{self, Read, Write};
 use std::sync::Wait;
 use thiserror::Error;
@@ -61,7 +61,7 @@ pub fn script<X: Wait, R: Read, W: Write>(
     ensures { Runs (R.remaining reader.old) (R.remaining reader.new)
         (W.contents writer.old) (W.contents writer.new) result }
 {
-    let Ok(mut piece) = zero_bytes(alloc, PIECE) else {
+    let Ok(mut piece) = vec![in alloc; 0u8; PIECE] else {
         return ScriptEnd::NoMemory;
     };
     run_pieces(rt, alloc, reader, writer, &mut piece)
@@ -92,11 +92,4 @@ fn run_pieces<X: Wait, R: Read, W: Write>(
         }
     }
     unreachable!()
-}
-
-/// `len` zero bytes.
-fn zero_bytes(alloc: Global, len: usize) -> Result<Vec<u8>, AllocError>
-    ensures { IfOk result (λ bytes. vec_len bytes ≡ len) }
-{
-    vec![in alloc; 0u8; len]
 }

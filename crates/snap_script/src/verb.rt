@@ -1,8 +1,6 @@
 //! The first words of event lines.
 ghost use Rattle.std.specs.Prelude.{◌≡◌, ◌≢◌, MatchOption};
 
-use crate::words::is;
-
 /// The first word of an event's line.
 #[derive(Clone, Copy, Debug, Drop, PartialEq, Eq)]
 pub enum Verb {
@@ -43,36 +41,22 @@ impl Verb {
     pub(crate) fn named(word: &[u8]) -> Option<Verb>
         ensures { MatchOption result ((v : Verb) → name_of v ≢ word.now) (λ v. name_of v ≡ word.now) }
     {
-        let verb = if is(word, "begin") {
-            Verb::Begin
-        } else if is(word, "look") {
-            Verb::Look
-        } else if is(word, "show") {
-            Verb::Show
-        } else if is(word, "ack") {
-            Verb::Acknowledge
-        } else if is(word, "scan") {
-            Verb::Scan
-        } else if is(word, "pick") {
-            Verb::Pick
-        } else if is(word, "answer") {
-            Verb::Answer
-        } else if is(word, "call") {
-            Verb::Call
-        } else if is(word, "fail") {
-            Verb::Fail
-        } else if is(word, "crash") {
-            Verb::Crash
-        } else if is(word, "restart") {
-            Verb::Restart
-        } else if is(word, "recall") {
-            Verb::RestartCall
-        } else if is(word, "refail") {
-            Verb::RestartFail
-        } else if is(word, "serve") {
-            Verb::Serve
-        } else {
-            return None;
+        let verb = match word {
+            b"begin" => Verb::Begin,
+            b"look" => Verb::Look,
+            b"show" => Verb::Show,
+            b"ack" => Verb::Acknowledge,
+            b"scan" => Verb::Scan,
+            b"pick" => Verb::Pick,
+            b"answer" => Verb::Answer,
+            b"call" => Verb::Call,
+            b"fail" => Verb::Fail,
+            b"crash" => Verb::Crash,
+            b"restart" => Verb::Restart,
+            b"recall" => Verb::RestartCall,
+            b"refail" => Verb::RestartFail,
+            b"serve" => Verb::Serve,
+            _ => return None,
         };
         Some(verb)
     }

@@ -13,7 +13,7 @@ use snap_world::SegmentSet;
 use std::alloc::{AllocError, Global};
 
 /// Whether `word` is this name.
-pub(crate) fn is(word: &[u8], name: &str) -> bool
+fn is(word: &[u8], name: &str) -> bool
     ensures { IsTrue result ↔ (name.now ≡ word.now) }
 {
     name.as_bytes() == word
