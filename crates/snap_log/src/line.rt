@@ -31,28 +31,16 @@ fn push_shown(line: &mut String, text: &str) -> Result<(), AllocError> {
     Ok(())
 }
 
-/// Appends a character, escaped if it is hidden.
+/// Appends a character. It is escaped if it is a control character, or one that ends a line in Unicode.
 fn push_char(line: &mut String, c: char) -> Result<(), AllocError> {
-    if is_hidden(c) {
-        push_hidden(line, c)
-    } else {
-        line.push(c)
-    }
-}
-
-/// Appends the escape of a character: a letter or its number.
-fn push_hidden(line: &mut String, c: char) -> Result<(), AllocError> {
     match c {
         '\n' => line.push_str("\\n"),
         '\r' => line.push_str("\\r"),
         '\t' => line.push_str("\\t"),
-        _ => write!(line, "\\u{{{:x}}}", u32::from(c)),
+        '\u{2028}' | '\u{2029}' => write!(line, "\\u{{{:x}}}", u32::from(c)),
+        _ if c.is_control() => write!(line, "\\u{{{:x}}}", u32::from(c)),
+        _ => line.push(c),
     }
-}
-
-/// Whether a character is escaped: a control character, or one that ends a line in Unicode.
-fn is_hidden(c: char) -> bool {
-    c.is_control() || ('\u{2028}'..='\u{2029}').contains(&c)
 }
 
 #[cfg(test)]

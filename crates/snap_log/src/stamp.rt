@@ -20,21 +20,14 @@ pub(crate) fn stamp<R: Clock>(rt: &R, destination: Destination) -> InlineText<RO
     }
 }
 
-/// The beginning of a line: for the journal the priority of its level, else this time.
+/// The beginning of a line: for the journal the priority of its level, as a number of syslog's, else this time.
 pub(crate) fn beginning<'a>(destination: Destination, level: Level, time: &'a str) -> &'a str {
-    match destination {
-        Destination::Journal => priority_of(level),
-        Destination::Other => time,
-    }
-}
-
-/// The priority of a level as the journal expects it at the start of a line: a number of syslog's.
-fn priority_of(level: Level) -> &'static str {
-    match level {
-        Level::Error => "<3>",
-        Level::Warn => "<4>",
-        Level::Info => "<6>",
-        Level::Debug | Level::Trace => "<7>",
+    match (destination, level) {
+        (Destination::Other, _) => time,
+        (Destination::Journal, Level::Error) => "<3>",
+        (Destination::Journal, Level::Warn) => "<4>",
+        (Destination::Journal, Level::Info) => "<6>",
+        (Destination::Journal, Level::Debug | Level::Trace) => "<7>",
     }
 }
 
