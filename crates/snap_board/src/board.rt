@@ -71,15 +71,11 @@ impl<S: Service + Drop, X: FactSource + Drop> Board<S, X> {
     {
         let method = request.method().as_str();
         if method != "GET" && method != "HEAD" {
-            return Ok(PageAnswer::fixed(
-                StatusCode::METHOD_NOT_ALLOWED,
-                ContentKind::Text,
-                METHODS,
-            ));
+            return Ok(PageAnswer::words(StatusCode::METHOD_NOT_ALLOWED, METHODS));
         }
         match Page::of(request.uri().path()) {
             Some(page) => self.show(page),
-            None => Ok(PageAnswer::fixed(StatusCode::NOT_FOUND, ContentKind::Text, PATHS)),
+            None => Ok(PageAnswer::words(StatusCode::NOT_FOUND, PATHS)),
         }
     }
 
@@ -94,31 +90,21 @@ impl<S: Service + Drop, X: FactSource + Drop> Board<S, X> {
             Page::Home => Ok(PageAnswer::fixed(StatusCode::OK, ContentKind::Html, HOME)),
             Page::Style => Ok(PageAnswer::fixed(StatusCode::OK, ContentKind::Css, STYLE)),
             Page::Script => Ok(PageAnswer::fixed(StatusCode::OK, ContentKind::Script, SCRIPT)),
-            Page::Live => Ok(PageAnswer::fixed(StatusCode::OK, ContentKind::Text, WELL)),
+            Page::Live => Ok(PageAnswer::words(StatusCode::OK, WELL)),
             Page::History => {
                 let text = self.surroundings.history().document(self.alloc)?;
                 PageAnswer::made(StatusCode::OK, ContentKind::Json, text)
             }
-            Page::Scan => self.show_scan(),
+            Page::Scan => match self.service.answer(&snap_frame::Request::Scan, 0) {
+                Some(Reply::Snapshot(values)) => {
+                    let text = scan_document(self.alloc, &values)?;
+                    PageAnswer::made(StatusCode::OK, ContentKind::Json, text)
+                }
+                reply => refuse(self.alloc, &reply),
+            },
             Page::Metrics | Page::Health | Page::Ready | Page::Status | Page::Stats => {
                 self.show_statuses(page)
             }
-        }
-    }
-
-    /// Answers with a scan.
-    fn show_scan(&mut self) -> Result<PageAnswer, AllocError>
-        ensures answers { IfOk result (λ a.
-            pages.AnswersPage S.gives Page.Scan self.old.service a.status a.content self.new.service) }
-        ensures asks { pages.MayAsk S.gives (Some requests.Scan) self.old.service self.new.service }
-        ensures same { self.new.surroundings ≡ self.old.surroundings }
-    {
-        match self.service.answer(&snap_frame::Request::Scan, 0) {
-            Some(Reply::Snapshot(values)) => {
-                let text = scan_document(self.alloc, &values)?;
-                PageAnswer::made(StatusCode::OK, ContentKind::Json, text)
-            }
-            reply => refuse(self.alloc, &reply),
         }
     }
 
@@ -144,9 +130,14 @@ impl<S: Service + Drop, X: FactSource + Drop> Board<S, X> {
         match page {
             Page::Health => {
                 let text = health_document(self.alloc, statuses)?;
-                PageAnswer::made(health_status(statuses), ContentKind::Json, text)
+                let status = status_if_down(is_any_fenced(statuses));
+                PageAnswer::made(status, ContentKind::Json, text)
             }
-            Page::Ready => Ok(tell_readiness(statuses)),
+            Page::Ready => {
+                let is_down = are_all_fenced(statuses);
+                let words = if is_down { ALL_FENCED } else { WELL };
+                Ok(PageAnswer::words(status_if_down(is_down), words))
+            }
             Page::Status => {
                 let text = status_document(self.alloc, statuses)?;
                 PageAnswer::made(StatusCode::OK, ContentKind::Json, text)
@@ -170,16 +161,7 @@ impl<S: Service + Drop, X: FactSource + Drop> Board<S, X> {
         PageAnswer::made(StatusCode::OK, ContentKind::Metrics, text.into_bytes())
     }
 
-    /// Adds the date of the answer, if the clock can be read and memory for it doesn't run out.
-    fn put_date(&self, response: &mut Response)
-        ensures { response.new.body ≡ response.old.body }
-    {
-        if let Some(date) = self.date() {
-            let _ = response.add_header(header::DATE, date);
-        }
-    }
-
-    /// The date, in the format of HTTP.
+    /// The date, in the format of HTTP. `None` if the clock can't be read, or memory runs out.
     fn date(&self) -> Option<HeaderValue> {
         let seconds = self.surroundings.now_millis()? / 1_000;
         let date = HttpDate::from_unix_secs(seconds).ok()?;
@@ -187,63 +169,39 @@ impl<S: Service + Drop, X: FactSource + Drop> Board<S, X> {
     }
 }
 
-/// The status of the answer about health: 503 if a segment is fenced.
-fn health_status(statuses: &[SegmentStatus]) -> StatusCode
-    ensures { result ≡ (if list_any (λ s. s.is_fenced) statuses.now then 503 else 200) }
-{
-    if is_any_fenced(statuses) {
-        StatusCode::SERVICE_UNAVAILABLE
-    } else {
-        StatusCode::OK
-    }
-}
-
-/// Whether at least one of the segments is fenced.
 fn is_any_fenced(statuses: &[SegmentStatus]) -> bool
     ensures { result ≡ list_any (λ s. s.is_fenced) statuses.now }
 {
     statuses.iter().any(|status| status.is_fenced)
 }
 
-/// Answers whether any segment takes updates: the status is 503 if all are fenced.
-fn tell_readiness(statuses: &[SegmentStatus]) -> PageAnswer
-    ensures { result.status ≡ (if list_all (λ s. s.is_fenced) statuses.now then 503 else 200) }
-{
-    if are_all_fenced(statuses) {
-        PageAnswer::fixed(
-            StatusCode::SERVICE_UNAVAILABLE,
-            ContentKind::Text,
-            ALL_FENCED,
-        )
-    } else {
-        PageAnswer::fixed(StatusCode::OK, ContentKind::Text, WELL)
-    }
-}
-
-/// Whether all segments are fenced.
 fn are_all_fenced(statuses: &[SegmentStatus]) -> bool
     ensures { result ≡ list_all (λ s. s.is_fenced) statuses.now }
 {
     statuses.iter().all(|status| status.is_fenced)
 }
 
+/// Status 503 if the server is down in this respect, else 200.
+fn status_if_down(is_down: bool) -> StatusCode
+    ensures { result ≡ (if is_down then 503 else 200) }
+{
+    if is_down {
+        StatusCode::SERVICE_UNAVAILABLE
+    } else {
+        StatusCode::OK
+    }
+}
+
 /// Answers with the service's refusal, or that it gave no reply.
 fn refuse(alloc: Global, reply: &Option<Reply>) -> Result<PageAnswer, AllocError>
     ensures { IfOk result (λ a. a.status ≡ 503) }
 {
+    let status = StatusCode::SERVICE_UNAVAILABLE;
     let Some(Reply::Refused { why, .. }) = reply else {
-        return Ok(PageAnswer::fixed(
-            StatusCode::SERVICE_UNAVAILABLE,
-            ContentKind::Text,
-            NO_ANSWER,
-        ));
+        return Ok(PageAnswer::words(status, NO_ANSWER));
     };
     let line = format!(in alloc; "{why}\n")?;
-    PageAnswer::made(
-        StatusCode::SERVICE_UNAVAILABLE,
-        ContentKind::Text,
-        line.into_bytes(),
-    )
+    PageAnswer::made(status, ContentKind::Text, line.into_bytes())
 }
 
 impl<S: Service + Drop, X: FactSource + Drop> http_server::Service for Board<S, X> {
@@ -260,7 +218,9 @@ impl<S: Service + Drop, X: FactSource + Drop> http_server::Service for Board<S, 
         request: &Request<Bytes>,
         response: &mut Response,
     ) -> Result<(), AllocError> {
-        self.put_date(response);
+        if let Some(date) = self.date() {
+            let _ = response.add_header(header::DATE, date);
+        }
         match self.answer(request) {
             Ok(answer) => {
                 if fill(response, answer).is_err() {

@@ -49,18 +49,13 @@ impl<'a> ServerFacts<'a> {
     /// The milliseconds since a segment's last update; 0 if that is in the future, since the clock
     /// was set back. `None` if either time isn't known.
     pub(crate) fn age(&self, segment: &SegmentSnapshot) -> Option<u64> {
-        match (self.time, segment.updated) {
-            (Some(now), Some(then)) => Some(now.saturating_sub(then)),
-            _ => None,
-        }
+        Some(self.time?.saturating_sub(segment.updated?))
     }
 }
 
 /// Converts a duration to milliseconds, at most 2^64 - 1.
 pub(crate) fn millis_of(time: Duration) -> u64 {
-    time.as_secs()
-        .saturating_mul(1_000)
-        .saturating_add(u64::from(time.subsec_millis()))
+    u64::try_from(time.as_millis()).unwrap_or(u64::MAX)
 }
 
 /// The name of a segment: its file's name without the extension. `None` if the path has no file name.

@@ -31,7 +31,6 @@ pub(crate) fn figures_document(alloc: Global, facts: &ServerFacts) -> Result<Vec
     end(writer)
 }
 
-/// Writes the facts about the server.
 fn put_server(writer: &mut Writer, facts: &ServerFacts) -> Result<(), AllocError> {
     put_text(writer, "version", Some(facts.version))?;
     put_number(writer, "uptime_milliseconds", facts.uptime)?;
@@ -47,7 +46,6 @@ fn put_server(writer: &mut Writer, facts: &ServerFacts) -> Result<(), AllocError
     put_object(writer, "connections", &connections)
 }
 
-/// Writes the counts of requests.
 fn put_requests(writer: &mut Writer, counts: &RequestCounts) -> Result<(), AllocError> {
     put_object(writer, "requests", &kinds(counts))?;
     put_number(writer, "scan_looks", Some(counts.looks))?;
@@ -66,7 +64,6 @@ fn put_requests(writer: &mut Writer, counts: &RequestCounts) -> Result<(), Alloc
     writer.end_array()
 }
 
-/// Writes the name, the status and the metrics of a segment.
 fn put_segment(
     writer: &mut Writer,
     facts: &ServerFacts,
@@ -92,7 +89,6 @@ fn put_segment(
     writer.end_object()
 }
 
-/// Writes a histogram.
 fn put_times(writer: &mut Writer, name: &str, times: &HistogramSnapshot) -> Result<(), AllocError> {
     writer.key(name)?;
     writer.begin_object()?;

@@ -2,7 +2,6 @@
 
 use crate::document::{begin, begin_list, end, put_number};
 use crate::facts::millis_of;
-use json::Writer;
 use snap_metrics::{BOUNDS, Counter, MetricsSnapshot, SegmentSnapshot};
 use std::alloc::{AllocError, Global};
 use std::array;
@@ -19,38 +18,6 @@ struct Sample {
     scans: Counter,
     /// The histogram of the stores of all segments, as in a [`HistogramSnapshot`](snap_metrics::HistogramSnapshot).
     stores: [Counter; BOUNDS + 1],
-}
-
-impl Sample {
-    fn new() -> Sample {
-        Sample {
-            uptime: Counter::new(),
-            scans: Counter::new(),
-            stores: array::from_fn(|_| Counter::new()),
-        }
-    }
-
-    fn set(&self, reading: &MetricsSnapshot, uptime: Duration) {
-        let requests = &reading.requests;
-        self.uptime.set(millis_of(uptime));
-        self.scans
-            .set(requests.scans.saturating_add(requests.parts));
-        for (place, count) in self.stores.iter().enumerate() {
-            count.set(stored_at(&reading.segments, place));
-        }
-    }
-
-    fn put(&self, writer: &mut Writer) -> Result<(), AllocError> {
-        writer.begin_object()?;
-        put_number(writer, "uptime_milliseconds", Some(self.uptime.get()))?;
-        put_number(writer, "scans", Some(self.scans.get()))?;
-        begin_list(writer, "store_counts")?;
-        for count in &self.stores {
-            writer.u64(count.get())?;
-        }
-        writer.end_array()?;
-        writer.end_object()
-    }
 }
 
 /// The number of stores of all segments in this bucket of the histogram.
@@ -85,10 +52,18 @@ impl History {
     /// Takes a sample at `uptime`, the time since the server's start. It replaces the oldest one if there are 181.
     pub fn take(&self, reading: &MetricsSnapshot, uptime: Duration) {
         let taken = self.taken.get();
-        if let Some(sample) = self.samples.get((taken % SAMPLES) as usize) {
-            sample.set(reading, uptime);
-            self.taken.add(1);
+        let Some(sample) = self.samples.get((taken % SAMPLES) as usize) else {
+            return;
+        };
+        let requests = &reading.requests;
+        sample.uptime.set(millis_of(uptime));
+        sample
+            .scans
+            .set(requests.scans.saturating_add(requests.parts));
+        for (place, count) in sample.stores.iter().enumerate() {
+            count.set(stored_at(&reading.segments, place));
         }
+        self.taken.add(1);
     }
 
     /// Makes a JSON document of the samples, on one line, the oldest first.
@@ -98,7 +73,16 @@ impl History {
         let taken = self.taken.get();
         for number in taken.saturating_sub(SAMPLES)..taken {
             if let Some(sample) = self.samples.get((number % SAMPLES) as usize) {
-                sample.put(&mut writer)?;
+                writer.begin_object()?;
+                let uptime = sample.uptime.get();
+                put_number(&mut writer, "uptime_milliseconds", Some(uptime))?;
+                put_number(&mut writer, "scans", Some(sample.scans.get()))?;
+                begin_list(&mut writer, "store_counts")?;
+                for count in &sample.stores {
+                    writer.u64(count.get())?;
+                }
+                writer.end_array()?;
+                writer.end_object()?;
             }
         }
         writer.end_array()?;
@@ -109,7 +93,11 @@ impl History {
 fn empty_samples(alloc: Global) -> Result<Vec<Sample>, AllocError> {
     let mut samples = Vec::with_capacity(alloc, SAMPLES as usize)?;
     for _ in 0..SAMPLES {
-        samples.push(Sample::new())?;
+        samples.push(Sample {
+            uptime: Counter::new(),
+            scans: Counter::new(),
+            stores: array::from_fn(|_| Counter::new()),
+        })?;
     }
     Ok(samples)
 }

@@ -35,22 +35,17 @@ process_max_fds gauge Descriptors that may be open.
 snapd_segment_info gauge The name of the segment, which is its file's, always 1.
 ";
 
-/// The kind of a metric, and its line of help.
-fn words_of(name: &str) -> Option<(&'static str, &'static str)> {
+/// Appends the head of a metric: the two lines before its samples.
+pub(crate) fn put_head(out: &mut String, name: &str) -> Result<(), AllocError> {
     for metric in METRICS.lines() {
         if let Some((own, words)) = metric.split_once(' ') {
             if own == name {
-                return words.split_once(' ');
+                let (kind, help) = words.split_once(' ').unwrap_or(("", ""));
+                return write!(out, "# HELP {name} {help}\n# TYPE {name} {kind}\n");
             }
         }
     }
-    None
-}
-
-/// Appends the head of a metric: the two lines before its samples.
-pub(crate) fn put_head(out: &mut String, name: &str) -> Result<(), AllocError> {
-    let (kind, help) = words_of(name).unwrap_or(("", ""));
-    write!(out, "# HELP {name} {help}\n# TYPE {name} {kind}\n")
+    Ok(())
 }
 
 /// The unit of a number: one, or a fraction of a second.

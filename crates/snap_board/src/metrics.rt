@@ -20,30 +20,24 @@ pub(crate) fn metrics_text(
     usage: &Usage,
 ) -> Result<String, AllocError> {
     let mut out = String::new(alloc);
-    put_server(&mut out, facts)?;
-    put_requests(&mut out, &facts.reading.requests)?;
-    put_segments(&mut out, facts)?;
-    put_process(&mut out, facts, usage)?;
-    put_names(&mut out, facts.files)?;
-    Ok(out)
-}
-
-/// Appends the facts about the server.
-fn put_server(out: &mut String, facts: &ServerFacts) -> Result<(), AllocError> {
-    put_version(out, "snapd_info", facts.version)?;
     let reading = facts.reading;
+    put_version(&mut out, "snapd_info", facts.version)?;
     put_singles(
-        out,
+        &mut out,
         &[
             ("snapd_uptime_seconds", facts.uptime, Millisecond),
             ("snapd_resident_memory_bytes", facts.resident, Whole),
             ("snapd_connections_total", Some(reading.accepted), Whole),
             ("snapd_connections_open", Some(reading.open), Whole),
         ],
-    )
+    )?;
+    put_requests(&mut out, &reading.requests)?;
+    put_segments(&mut out, facts)?;
+    put_process(&mut out, facts, usage)?;
+    put_names(&mut out, facts.files)?;
+    Ok(out)
 }
 
-/// Appends the version of the program.
 fn put_version(out: &mut String, name: &str, version: &str) -> Result<(), AllocError> {
     put_head(out, name)?;
     writeln!(out, "{name}{{version=\"{}\"}} 1", Escaped(version))
@@ -91,7 +85,6 @@ pub(crate) fn refusal_at(place: usize) -> Option<Refusal> {
     Refusal::of_code(code)
 }
 
-/// Appends the metrics and the status of each segment.
 fn put_segments(out: &mut String, facts: &ServerFacts) -> Result<(), AllocError> {
     put_each(out, "snapd_updates_total", facts)?;
     put_each(out, "snapd_repeats_total", facts)?;
@@ -170,7 +163,11 @@ fn put_histogram(
     for (place, count) in times.counts.iter().enumerate() {
         within = within.saturating_add(*count);
         write!(out, "{name}_bucket{{segment=\"{segment}\",le=\"")?;
-        put_bound(out, place)?;
+        if place < BOUNDS {
+            write!(out, "{}", Amount(bound(place), Microsecond))?;
+        } else {
+            out.push_str("+Inf")?;
+        }
         writeln!(out, "\"}} {within}")?;
     }
     let total = Amount(times.total, Nanosecond);
@@ -178,16 +175,6 @@ fn put_histogram(
     writeln!(out, "{name}_count{{segment=\"{segment}\"}} {within}")
 }
 
-/// Appends the bound of a bucket, in seconds.
-fn put_bound(out: &mut String, place: usize) -> Result<(), AllocError> {
-    if place < BOUNDS {
-        write!(out, "{}", Amount(bound(place), Microsecond))
-    } else {
-        out.push_str("+Inf")
-    }
-}
-
-/// Appends the metrics of the process.
 fn put_process(out: &mut String, facts: &ServerFacts, usage: &Usage) -> Result<(), AllocError> {
     put_version(out, "snapd_build_info", facts.version)?;
     put_singles(
@@ -205,7 +192,6 @@ fn put_process(out: &mut String, facts: &ServerFacts, usage: &Usage) -> Result<(
     )
 }
 
-/// Appends the name of each segment.
 fn put_names(out: &mut String, files: &[&str]) -> Result<(), AllocError> {
     put_head(out, "snapd_segment_info")?;
     for (segment, file) in files.iter().enumerate() {

@@ -13,7 +13,7 @@ const POLICY: &str =
         form-action 'none'; frame-ancestors 'none'";
 
 /// The kind of a content.
-#[derive(Clone, Copy, Debug, PartialEq, Eq)]
+#[derive(Clone, Copy)]
 pub(crate) enum ContentKind {
     Html,
     Css,
@@ -56,6 +56,13 @@ impl PageAnswer {
             kind,
             content: Bytes::from_static(content),
         }
+    }
+
+    /// An answer of some constant words.
+    pub(crate) fn words(status: StatusCode, content: &'static [u8]) -> PageAnswer
+        ensures { result.status ≡ status }
+    {
+        PageAnswer::fixed(status, ContentKind::Text, content)
     }
 
     /// An answer with a text that was made for it.

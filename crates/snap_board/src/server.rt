@@ -4,29 +4,26 @@
 //! The crate `http_server` reads requests and encodes responses; this module moves the bytes, and closes connections
 //! without progress. A peer that sends nothing, reads nothing or sends no HTTP is closed within seconds, and blocks no
 //! other peer.
+ghost use Rattle.std.specs.Prelude.{◌≡◌, ◌↔◌, IsNone};
 ghost use Rattle.snap_board.specs.Answered.{Answered};
 
 mod connection;
 mod connections;
-mod listener;
-mod stop;
 
 use connections::Connections;
 pub use connections::MAX_CONNECTIONS;
 use http_server::Service;
-use listener::HttpListener;
 use mio::net::TcpListener;
-use mio::{Events, Poll, Token};
+use mio::{Events, Interest, Poll, Token, Waker};
 use std::alloc::Global;
 use std::hash::RandomState;
-use std::io;
+use std::io::{self, ErrorKind};
 use std::net::Net;
 use std::random::RandomSource;
 use std::rt::Clock;
-use std::sync::Wait;
+use std::sync::atomic::{AtomicBool, Ordering};
+use std::sync::{Arc, Wait};
 use std::time::{Duration, Instant};
-pub use stop::StopHandle;
-use stop::{StopReceiver, stop_pair};
 
 /// The tokens of the waker and of the listener. A connection's token is its key.
 const WAKER: Token = Token(usize::MAX);
@@ -38,6 +35,9 @@ const MAX_EVENTS: usize = 64;
 
 /// The most connections that are accepted between two waits.
 const MAX_ACCEPTS: u32 = 16;
+
+/// The pause after a failed accept, in milliseconds.
+const ACCEPT_REST: u64 = 100;
 
 /// The seconds between two runs of the [`Beat`], and so the longest wait. Idle connections are closed as often.
 const BEAT_REST: u64 = 1;
@@ -53,38 +53,57 @@ impl Beat for () {
     fn beat(&self) {}
 }
 
+/// Wakes the thread of a server, which then reads `is_set`.
+#[derive(Drop)]
+struct StopSignal {
+    waker: Waker,
+    is_set: AtomicBool,
+}
+
+/// A handle that stops a server.
+#[derive(Drop)]
+pub struct StopHandle {
+    signal: Arc<StopSignal, Global>,
+}
+
+impl StopHandle {
+    /// Makes [`serve`](HttpServer::serve) return once it has served the connections that are
+    /// ready. It may be called from any thread, and more than once.
+    pub fn stop(&self) {
+        self.signal.is_set.store(true, Ordering::SeqCst);
+        // If the wake fails the server stops at the next event.
+        let _ = self.signal.waker.wake();
+    }
+}
+
 /// An HTTP server at one address.
 #[derive(Drop)]
 pub struct HttpServer {
     poll: Poll,
     /// The events of the last wait. Allocated at the start, so that a wait allocates nothing.
     events: Events,
-    listener: HttpListener,
+    listener: TcpListener,
+    /// How long the next accept may have to wait. `None` if no connection waits for one: the system reports waiting
+    /// connections only once, so the server accepts until none is left.
+    accept_rest: Option<Duration>,
     connections: Connections,
-    stopping: StopReceiver,
+    /// A wake is lost once its waker is dropped, so the server keeps it alive too.
+    stopping: Arc<StopSignal, Global>,
     /// The time of the last wait.
     time: Instant,
     /// The time of the last run of the [`Beat`].
     beaten: Instant,
 }
 
-/// Lets each connection with an event take its steps.
-fn take_events<S: Service>(
-    events: &Events,
-    poll: &Poll,
-    listener: &mut HttpListener,
-    connections: &mut Connections,
-    service: &mut S,
-    now: Instant,
-)
-    ensures { Answered S.answers service.old service.new }
+/// How long the next accept has to wait after one failed with an error of this kind; `None` if no connection waits.
+fn rest_after(kind: ErrorKind) -> Option<Duration>
+    ensures { IsNone result ↔ (kind ≡ ErrorKind.WouldBlock) }
 {
-    for event in events {
-        match event.token() {
-            WAKER => {}
-            LISTENER => listener.mark_ready(),
-            Token(key) => connections.go_on(poll.registry(), key, service, now),
-        }
+    match kind {
+        ErrorKind::WouldBlock => None,
+        // The client has closed, or a signal arrived.
+        ErrorKind::ConnectionAborted | ErrorKind::Interrupted => Some(Duration::ZERO),
+        _ => Some(Duration::from_millis(ACCEPT_REST)),
     }
 }
 
@@ -98,20 +117,26 @@ impl HttpServer {
     ) -> io::Result<(HttpServer, StopHandle)> {
         let poll = Poll::new(rt)?;
         let events = Events::with_capacity(alloc, MAX_EVENTS)?;
-        let (stopping, stop) = stop_pair(poll.registry(), alloc, WAKER)?;
-        let listener = HttpListener::new(poll.registry(), LISTENER, listener)?;
+        let waker = Waker::new(poll.registry(), WAKER)?;
+        let is_set = AtomicBool::new(false);
+        let stopping = Arc::new(alloc, StopSignal { waker, is_set })?;
+        let signal = Arc::try_clone(&stopping)?;
+        let mut listener = listener;
+        poll.registry()
+            .register(&mut listener, LISTENER, Interest::READABLE)?;
         let keys = RandomState::new(rt)?;
         let now = Instant::now(rt)?;
         let server = HttpServer {
             poll,
             events,
             listener,
+            accept_rest: Some(Duration::ZERO),
             connections: Connections::new(alloc, keys),
             stopping,
             time: now,
             beaten: now,
         };
-        Ok((server, stop))
+        Ok((server, StopHandle { signal }))
     }
 
     /// Answers requests by this service until it is stopped; then it returns `Ok`, and pending
@@ -127,40 +152,27 @@ impl HttpServer {
         ensures { Answered S.answers service.old service.new }
     {
         for _ in rt.forever() {
-            if self.stopping.is_requested() {
+            if self.stopping.is_set.load(Ordering::SeqCst) {
                 return Ok(());
             }
             self.wait()?;
-            self.look_at_clock(rt);
+            // If the clock can't be read, no time has passed.
+            self.time = Instant::now(rt).unwrap_or(self.time);
             self.keep_time(beat);
-            take_events(
-                &self.events,
-                &self.poll,
-                &mut self.listener,
-                &mut self.connections,
-                service,
-                self.time,
-            );
+            self.take_events(service);
             self.accept_waiting();
             self.connections.let_slow_go(self.time);
         }
         unreachable!()
     }
 
-    /// Waits for events.
+    /// Waits for events, at most until the next accept or the next run of the [`Beat`].
     fn wait(&mut self) -> io::Result<()> {
-        let most = self.longest_wait();
+        let beat_rest = Duration::from_secs(BEAT_REST).saturating_sub(
+            self.time.duration_since(self.beaten),
+        );
+        let most = self.accept_rest.unwrap_or(beat_rest);
         self.poll.poll(&mut self.events, Some(most))
-    }
-
-    /// The longest wait for events.
-    fn longest_wait(&self) -> Duration {
-        match self.listener.rest() {
-            Some(rest) => rest,
-            None => Duration::from_secs(BEAT_REST).saturating_sub(
-                self.time.duration_since(self.beaten),
-            ),
-        }
     }
 
     /// Runs `beat` if a second has passed.
@@ -171,21 +183,38 @@ impl HttpServer {
         }
     }
 
-    /// Reads the clock. If that fails, no time has passed.
-    fn look_at_clock<X: Clock>(&mut self, rt: &X) {
-        if let Ok(now) = Instant::now(rt) {
-            self.time = now;
+    /// Lets each connection with an event take its steps.
+    fn take_events<S: Service>(&mut self, service: &mut S)
+        ensures { Answered S.answers service.old service.new }
+    {
+        for event in &self.events {
+            match event.token() {
+                WAKER => {}
+                LISTENER => self.accept_rest = Some(Duration::ZERO),
+                Token(key) => self
+                    .connections
+                    .go_on(self.poll.registry(), key, service, self.time),
+            }
         }
     }
 
-    /// Accepts the waiting connections, [`MAX_ACCEPTS`] at most.
+    /// Accepts the waiting connections, [`MAX_ACCEPTS`] at most. After a failed accept the next one is tried later, and
+    /// the other connections aren't affected.
     fn accept_waiting(&mut self) {
         for _ in 0..MAX_ACCEPTS {
-            let Some(stream) = self.listener.next() else {
+            if self.accept_rest.is_none() {
                 return;
-            };
-            self.connections
-                .welcome(self.poll.registry(), stream, self.time);
+            }
+            match self.listener.accept() {
+                Ok((stream, _)) => {
+                    self.connections
+                        .welcome(self.poll.registry(), stream, self.time);
+                }
+                Err(error) => {
+                    self.accept_rest = rest_after(error.kind());
+                    return;
+                }
+            }
         }
     }
 }

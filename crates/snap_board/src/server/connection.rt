@@ -1,5 +1,5 @@
 //! One connection of an HTTP server.
-ghost use Rattle.std.specs.Prelude.{◌≡◌, ◌+◌, ◌<◌, ◌↔◌, true, false};
+ghost use Rattle.std.specs.Prelude.{◌≡◌, ◌+◌, ◌≤◌, ◌↔◌, true};
 ghost use Rattle.snap_board.specs.Answered.{Answered};
 
 use http_server::{Config, Connection, Service};
@@ -10,7 +10,7 @@ use std::alloc::Global;
 use std::hash::RandomState;
 use std::io::{self, ErrorKind, Read};
 use std::net::Shutdown;
-use std::time::{Duration, Instant};
+use std::time::Instant;
 
 /// The most steps that a connection takes in a row, so that one peer can't starve the others.
 const STEPS: u32 = 32;
@@ -18,28 +18,25 @@ const STEPS: u32 = 32;
 /// The limit of a request's head in bytes, and of each part of it that has a limit of its own.
 const MAX_HEAD: usize = 8 * 1024;
 
-/// The limit of a request's body in bytes. No path takes a body.
-const MAX_BODY: usize = 1024;
-
-/// The bytes of pending output above which no request is read.
-const MAX_PENDING: usize = 1024;
-
 /// The least space that a read gets, in bytes.
 const READ_SIZE: usize = 1024;
 
+/// The limits of a connection, in bytes.
+const LIMITS: Config = Config {
+    limits: Limits {
+        max_head_len: MAX_HEAD,
+        max_extensions_len: MAX_HEAD,
+        max_trailers_len: MAX_HEAD,
+    },
+    // No path takes a body.
+    max_body_len: 1024,
+    // With more pending output no request is read.
+    max_pending: 1024,
+    read_size: READ_SIZE,
+};
+
 /// The most bytes that are read and dropped after the last response, if the peer still sends.
 const MAX_DRAINED: usize = 64 * 1024;
-
-/// The result of a step.
-#[derive(Clone, Copy, Debug, PartialEq, Eq, Drop)]
-pub(crate) enum Step {
-    /// There may be more to do at once.
-    Again,
-    /// The connection waits for its peer.
-    Waits,
-    /// The connection has ended.
-    Over,
-}
 
 /// A connection: a non-blocking socket, with the bytes that were read and those to be written.
 #[derive(Drop)]
@@ -47,34 +44,11 @@ pub(crate) struct HttpConnection {
     stream: TcpStream,
     connection: Connection,
     /// The time of its last progress.
-    moved: Instant,
+    pub(crate) moved: Instant,
     /// Whether the writing side is closed. Bytes that still arrive are read and dropped: a close
     /// with unread bytes would discard what the peer hasn't read yet.
     leaves: bool,
     drained: usize,
-}
-
-/// The limits of a connection.
-fn config() -> Config {
-    Config {
-        limits: Limits {
-            max_head_len: MAX_HEAD,
-            max_extensions_len: MAX_HEAD,
-            max_trailers_len: MAX_HEAD,
-        },
-        max_body_len: MAX_BODY,
-        max_pending: MAX_PENDING,
-        read_size: READ_SIZE,
-    }
-}
-
-/// Maps an error of a read or write to the result of the step.
-fn step_after(error: &io::Error) -> Step {
-    match error.kind() {
-        ErrorKind::WouldBlock => Step::Waits,
-        ErrorKind::Interrupted => Step::Again,
-        _ => Step::Over,
-    }
 }
 
 impl HttpConnection {
@@ -87,7 +61,7 @@ impl HttpConnection {
     ) -> HttpConnection {
         HttpConnection {
             stream,
-            connection: Connection::new(alloc, keys, config()),
+            connection: Connection::new(alloc, keys, LIMITS),
             moved: now,
             leaves: false,
             drained: 0,
@@ -96,53 +70,43 @@ impl HttpConnection {
 
     /// Registers the socket, so that the system reports under `token` when it is readable or writable.
     pub(crate) fn register(&mut self, registry: &Registry, token: Token) -> io::Result<()> {
-        registry.register(
-            &mut self.stream,
-            token,
-            Interest::READABLE | Interest::WRITABLE,
-        )
+        let events = Interest::READABLE | Interest::WRITABLE;
+        registry.register(&mut self.stream, token, events)
     }
 
-    /// Makes the system report again that the socket is readable or writable, if it already is.
-    pub(crate) fn report_again(&mut self, registry: &Registry, token: Token) -> io::Result<()> {
-        registry.reregister(
-            &mut self.stream,
-            token,
-            Interest::READABLE | Interest::WRITABLE,
-        )
-    }
-
-    /// The time since its last progress.
-    pub(crate) fn rest(&self, now: Instant) -> Duration {
-        now.duration_since(self.moved)
-    }
-
-    /// Reads, answers and writes as far as its socket allows, [`STEPS`] steps at most.
-    pub(crate) fn go_on<S: Service>(&mut self, service: &mut S, now: Instant) -> Step
+    /// Reads, answers and writes as far as its socket allows, [`STEPS`] steps at most. Returns whether the connection
+    /// stays open. If there may be more to do, the system reports again that the socket is readable or writable.
+    pub(crate) fn go_on<S: Service>(
+        &mut self,
+        registry: &Registry,
+        token: Token,
+        service: &mut S,
+        now: Instant,
+    ) -> bool
         ensures { Answered S.answers service.old service.new }
     {
         'steps: for _ in 0..STEPS {
             match self.step(service) {
-                Step::Again => self.moves(now),
-                Step::Waits => return Step::Waits,
-                Step::Over => return Step::Over,
+                Ok(true) => {}
+                Ok(false) => return false,
+                Err(error) => match error.kind() {
+                    ErrorKind::WouldBlock => return true,
+                    ErrorKind::Interrupted => {}
+                    _ => return false,
+                },
+            }
+            // Reads after the last response are no progress.
+            if !self.leaves {
+                self.moved = now;
             }
         }
-        Step::Again
+        let events = Interest::READABLE | Interest::WRITABLE;
+        registry.reregister(&mut self.stream, token, events).is_ok()
     }
 
-    /// Records progress. Reads after the last response don't count.
-    fn moves(&mut self, now: Instant)
-        ensures stays { self.old.leaves ≡ false → self.new ≡ record self.old { moved = now } }
-        ensures leaves { self.old.leaves ≡ true → self.new ≡ self.old }
-    {
-        if !self.leaves {
-            self.moved = now;
-        }
-    }
-
-    /// Takes one step: answers what has arrived, and then reads or writes once.
-    fn step<S: Service>(&mut self, service: &mut S) -> Step
+    /// Takes one step: answers what has arrived, and then reads or writes once. Returns whether there may be more to
+    /// do; if not, the connection has ended.
+    fn step<S: Service>(&mut self, service: &mut S) -> io::Result<bool>
         ensures { Answered S.answers service.old service.new }
     {
         if self.leaves {
@@ -150,57 +114,30 @@ impl HttpConnection {
         }
         self.connection.advance(service);
         if self.connection.wants_write() {
-            return self.write();
+            return Ok(self.connection.write_to(&mut self.stream)? > 0);
         }
         if self.connection.is_done() {
-            self.leave();
-            return Step::Again;
+            // All is written, and the peer reads the end of the stream. If this fails the peer has closed, and the
+            // next read finds that.
+            self.leaves = true;
+            let _ = self.stream.shutdown(Shutdown::Write);
+            return Ok(true);
         }
-        self.read()
-    }
-
-    fn read(&mut self) -> Step {
-        match self.connection.read_from(&mut self.stream) {
-            Ok(_) => Step::Again,
-            Err(error) => step_after(&error),
-        }
-    }
-
-    fn write(&mut self) -> Step {
-        match self.connection.write_to(&mut self.stream) {
-            Ok(0) => Step::Over,
-            Ok(_) => Step::Again,
-            Err(error) => step_after(&error),
-        }
-    }
-
-    /// Closes the writing side: all is written, and the peer reads the end of the stream.
-    fn leave(&mut self)
-        ensures { self.new.leaves ≡ true }
-    {
-        self.leaves = true;
-        // If it fails the peer has closed, and the next read finds that.
-        let _ = self.stream.shutdown(Shutdown::Write);
+        self.connection.read_from(&mut self.stream)?;
+        Ok(true)
     }
 
     /// Reads once after the last response, and drops the bytes, until the peer has closed too.
-    fn drain(&mut self) -> Step {
-        let mut piece = [0u8; READ_SIZE];
-        match self.stream.read(&mut piece) {
-            Ok(0) => Step::Over,
-            Ok(count) => self.count_drained(count),
-            Err(error) => step_after(&error),
-        }
+    fn drain(&mut self) -> io::Result<bool> {
+        let count = self.stream.read(&mut [0u8; READ_SIZE])?;
+        Ok(count > 0 && self.may_drain(count))
     }
 
-    fn count_drained(&mut self, count: usize) -> Step
-        ensures { (result ≡ Step.Over) ↔ (MAX_DRAINED < self.old.drained + count) }
+    /// Counts bytes that were dropped. Returns whether more may be.
+    fn may_drain(&mut self, count: usize) -> bool
+        ensures { (result ≡ true) ↔ (self.old.drained + count ≤ MAX_DRAINED) }
     {
         self.drained = self.drained.saturating_add(count);
-        if self.drained > MAX_DRAINED {
-            Step::Over
-        } else {
-            Step::Again
-        }
+        self.drained <= MAX_DRAINED
     }
 }

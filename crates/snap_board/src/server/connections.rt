@@ -3,7 +3,7 @@ ghost use Rattle.std.specs.Prelude.{◌≤◌};
 ghost use Rattle.slab.specs.Slab.{slab_len};
 ghost use Rattle.snap_board.specs.{Answered.Answered, declared.server.connections.TheConstants.MAX_CONNECTIONS};
 
-use super::connection::{HttpConnection, Step};
+use super::connection::HttpConnection;
 use http_server::Service;
 use mio::net::TcpStream;
 use mio::{Registry, Token};
@@ -40,7 +40,7 @@ impl Connections {
     /// Adds a connection. If memory for it runs out, or the system can't register it, it is closed;
     /// the others aren't affected.
     pub(crate) fn welcome(&mut self, registry: &Registry, stream: TcpStream, now: Instant) {
-        self.make_room(now);
+        self.make_room();
         if self.connections.len() >= MAX_CONNECTIONS || self.connections.reserve(1).is_err() {
             return;
         }
@@ -52,31 +52,16 @@ impl Connections {
     }
 
     /// If the table is full, closes the connection whose last progress was longest ago.
-    fn make_room(&mut self, now: Instant)
+    fn make_room(&mut self)
         ensures { slab_len self.new.connections ≤ slab_len self.old.connections }
     {
         if self.connections.len() < MAX_CONNECTIONS {
             return;
         }
-        if let Some(key) = self.slowest(now) {
+        let slowest = self.connections.iter().min_by_key(|entry| entry.1.moved);
+        if let Some((key, _)) = slowest {
             self.connections.try_remove(key);
         }
-    }
-
-    /// The key of the connection whose last progress was longest ago.
-    fn slowest(&self, now: Instant) -> Option<usize> {
-        let mut slowest = None;
-        let mut longest = Duration::ZERO;
-        for key in 0..self.connections.capacity() {
-            if let Some(connection) = self.connections.get(key) {
-                let rest = connection.rest(now);
-                if slowest.is_none() || rest > longest {
-                    slowest = Some(key);
-                    longest = rest;
-                }
-            }
-        }
-        slowest
     }
 
     /// Lets a connection take its steps, and drops it if it has ended.
@@ -92,12 +77,7 @@ impl Connections {
         let Some(connection) = self.connections.get_mut(key) else {
             return;
         };
-        let is_over = match connection.go_on(service, now) {
-            Step::Again => connection.report_again(registry, Token(key)).is_err(),
-            Step::Waits => false,
-            Step::Over => true,
-        };
-        if is_over {
+        if !connection.go_on(registry, Token(key), service, now) {
             self.connections.try_remove(key);
         }
     }
@@ -107,16 +87,13 @@ impl Connections {
         ensures { slab_len self.new.connections ≤ slab_len self.old.connections }
     {
         for key in 0..self.connections.capacity() {
-            if self.is_slow(key, now) {
+            let is_slow = match self.connections.get(key) {
+                Some(it) => now.duration_since(it.moved) >= Duration::from_secs(MAX_REST),
+                None => false,
+            };
+            if is_slow {
                 self.connections.try_remove(key);
             }
-        }
-    }
-
-    fn is_slow(&self, key: usize, now: Instant) -> bool {
-        match self.connections.get(key) {
-            Some(connection) => connection.rest(now) >= Duration::from_secs(MAX_REST),
-            None => false,
         }
     }
 }

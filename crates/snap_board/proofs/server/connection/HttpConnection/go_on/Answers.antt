@@ -8,12 +8,17 @@ pub steps-preserved : goal.steps-preserved
 steps-preserved g c = answered_joins g.S.Service.answers c.args.service.now c.steps.service c.step.new.service
     c.steps.invariant c.step.ensures
 
-pub returns-in-Waits : goal.returns-in-Waits
-returns-in-Waits g c =
+pub returns-in-Ok-false : goal.returns-in-Ok-false
+returns-in-Ok-false g c =
     answered_joins g.S.Service.answers c.args.service.now c.steps.service c.step.new.service
     c.steps.invariant c.step.ensures
 
-pub returns-in-Over : goal.returns-in-Over
-returns-in-Over g c =
+pub returns-in-WouldBlock : goal.returns-in-WouldBlock
+returns-in-WouldBlock g c =
+    answered_joins g.S.Service.answers c.args.service.now c.steps.service c.step.new.service
+    c.steps.invariant c.step.ensures
+
+pub returns-in_default : goal.returns-in_default
+returns-in_default g c =
     answered_joins g.S.Service.answers c.args.service.now c.steps.service c.step.new.service
     c.steps.invariant c.step.ensures

@@ -1,5 +1,5 @@
 use Rattle.snap_board.proofs.Calls.{answered_joins}
-use Rattle.snap_board.proofs.server.take_events.Goals as goal
+use Rattle.snap_board.proofs.server.HttpServer.take_events.Goals as goal
 
 pub loop-event-preserved : goal.loop-event-preserved
 loop-event-preserved g c =
