@@ -1,15 +1,12 @@
 //! Sends the request of a call and prints the reply.
-ghost use Rattle.std.specs.Prelude.{◌≡◌, ◌^◌, ◌<◌, ◌≤◌, ℕ, List, IfSome, MatchOption, length};
+ghost use Rattle.std.specs.Prelude.{◌≡◌, ◌≤◌, ℕ, List, IfSome, MatchOption, length};
 ghost use Rattle.snap_client.specs.Again.{TriesIn};
 ghost use Rattle.snap_frame.specs.Messages.{IsAskable, max_payload, payload};
-ghost use Rattle.snap_order.specs.Limits.{MAX_COUNT, MAX_TRIES};
+ghost use Rattle.snap_order.specs.Limits.{MAX_TRIES};
 ghost use Rattle.snap_order.specs.Order.{IsCallable, IsWithin, request_of};
-ghost use Rattle.snap_order.specs.declared.status.Status.TheVariants as status;
-ghost use Rattle.snap_client_commands.specs.Ends.{Asks, EndsAsked, EndsGot, EndsRead, HasFailed, IsOnlyValue};
-ghost use Rattle.snap_client_commands.specs.Ends.{IsRead, IsRefused, Prints, PrintsInPlace, answer_status};
-ghost use Rattle.snap_client_commands.specs.Ends.{tries_of};
+ghost use Rattle.snap_client_commands.specs.Ends.{EndsAsked, EndsRead, HasFailed, IsOnlyValue, IsRead, IsRefused};
+ghost use Rattle.snap_client_commands.specs.Ends.{PrintsInPlace, answer_status, tries_of};
 ghost use Rattle.snap_client_commands.specs.Puts.{Does, ReadsInput};
-ghost use Rattle.snap_client_commands.specs.Text.{stored_line};
 
 use crate::line::{detailed_line, stored_line};
 use crate::print::{answer_of, is_any_fenced};
@@ -63,44 +60,11 @@ pub fn ask<
 {
     match &order.question {
         CallRequest::Put(put) => store(alloc, order, put, connect, input, writer, errors),
-        question => ask_once(alloc, order, question, connect, writer, errors),
+        question => {
+            let answer = answer_from(alloc, question, tries_of(order), connect);
+            end(alloc, order, question, order.layout, answer, writer, errors)
+        }
     }
-}
-
-/// Sends the request of a call other than a put, and ends with its answer. It uses the order's address, tries and
-/// output format.
-pub(crate) fn ask_once<
-    R: Read + Drop,
-    C: Write + Drop,
-    F: FnMut() -> Option<(R, C)>,
-    W: Write,
-    E: Write,
->(
-    alloc: Global,
-    order: &CallOptions<'_>,
-    question: &CallRequest,
-    connect: &mut F,
-    writer: &mut W,
-    errors: &mut E,
-) -> Exit
-    requires limits { IsCallable order.now }
-    requires fits { length (payload (request_of question.now)) ≤ max_payload }
-    requires askable { IsAskable (request_of question.now) }
-    requires within { IsWithin question.now }
-    requires callable { F.IsAlwaysCallable connect.old }
-    ensures { Asks order.now.layout (tries_of order.now) F.step R.remaining C.contents question.now connect.old result
-        connect.new (W.contents writer.old) (W.contents writer.new) }
-{
-    let answer = answer_from(alloc, question, tries_of(order), connect);
-    end(
-        alloc,
-        order.address,
-        question,
-        order.layout,
-        answer,
-        writer,
-        errors,
-    )
 }
 
 /// The most connections for each request of the order. `None` if it waits, and `connect` decides.
@@ -155,28 +119,18 @@ pub(crate) fn answer_from<R: Read + Drop, C: Write + Drop, F: FnMut() -> Option<
     match question {
         CallRequest::Request(request) => answer_to(alloc, request, tries, connect),
         CallRequest::Get { segment } => {
-            let request = Request::Part(set_of(*segment));
-            answer_to(alloc, &request, tries, connect)
+            let bits = 1u16 << *segment;
+            answer_to(alloc, &Request::Part(SegmentSet { bits }), tries, connect)
         }
         CallRequest::Health => answer_to(alloc, &Request::Status, tries, connect),
         CallRequest::Put(_) => answer_to(alloc, &Request::Status, tries, connect),
     }
 }
 
-/// The set of this segment alone.
-fn set_of(segment: u8) -> SegmentSet
-    requires { segment < MAX_COUNT }
-    ensures { result.bits ≡ 2 ^ segment }
-{
-    SegmentSet {
-        bits: 1u16 << segment,
-    }
-}
-
 /// Ends a call with the answer to its request.
 pub(crate) fn end<W: Write, E: Write>(
     alloc: Global,
-    address: &str,
+    order: &CallOptions<'_>,
     question: &CallRequest,
     layout: OutputFormat,
     answer: Result<Reply, ClientFault>,
@@ -187,17 +141,23 @@ pub(crate) fn end<W: Write, E: Write>(
 {
     match answer {
         Ok(Reply::Refused { why, detail }) => refuse(why, detail, errors),
-        Ok(Reply::Stored(number)) => say_stored(alloc, number, writer, errors),
-        Ok(reply) => print_read(alloc, address, question, layout, &reply, writer, errors),
+        Ok(Reply::Stored(number)) => {
+            let line = stored_line(number);
+            let before = format_args!("stored {number}, but ");
+            let text = line.as_str().as_bytes();
+            print_whole(alloc, Status::Done, text, &before, writer, errors)
+        }
+        Ok(reply) => print_read(alloc, order, question, layout, &reply, writer, errors),
         Err(ClientFault::NoMemory) => stop(errors),
-        Err(fault) => give_up(alloc, address, fault, errors),
+        Err(fault) => give_up(alloc, order.address, fault, errors),
     }
 }
 
 /// Prints the reply to a read. Of a get it prints the value alone.
+#[tactic(auto, unfolding(crate::specs::Ends::Prints))]
 fn print_read<W: Write, E: Write>(
     alloc: Global,
-    address: &str,
+    order: &CallOptions<'_>,
     question: &CallRequest,
     layout: OutputFormat,
     reply: &Reply,
@@ -208,28 +168,18 @@ fn print_read<W: Write, E: Write>(
     ensures { EndsRead layout question.now reply.now result (W.contents writer.old) (W.contents writer.new) }
 {
     match (question, reply) {
-        (CallRequest::Get { segment }, Reply::Part(values)) => {
-            print_value(alloc, address, *segment, values, writer, errors)
+        (CallRequest::Get { segment }, Reply::Part(values)) => match only_value(*segment, values) {
+            Some(value) => print_whole(alloc, Status::Done, value, &"", writer, errors),
+            None => give_up(alloc, order.address, ClientFault::BadReply, errors),
+        },
+        _ => {
+            let Ok(text) = answer_of(alloc, question, layout, reply) else {
+                return stop(errors);
+            };
+            let status = status_of(question, reply);
+            print_whole(alloc, status, text.as_slice(), &"", writer, errors)
         }
-        _ => print(alloc, question, layout, reply, writer, errors),
     }
-}
-
-/// Prints the value of this segment, if the reply has no other one.
-fn print_value<W: Write, E: Write>(
-    alloc: Global,
-    address: &str,
-    segment: u8,
-    values: &[NamedValue],
-    writer: &mut W,
-    errors: &mut E,
-) -> Exit
-    ensures { EndsGot segment values.now result (W.contents writer.old) (W.contents writer.new) }
-{
-    let Some(value) = only_value(segment, values) else {
-        return give_up(alloc, address, ClientFault::BadReply, errors);
-    };
-    print_whole(alloc, Status::Done, value, writer, errors)
 }
 
 /// The value of this segment. `None` unless it is the only value.
@@ -248,85 +198,34 @@ fn status_of(question: &CallRequest, reply: &Reply) -> Status
     ensures { result ≡ answer_status question.now reply.now }
 {
     match (question, reply) {
-        (CallRequest::Health, Reply::Status(statuses)) => {
-            if is_any_fenced(statuses) {
-                Status::Refused
-            } else {
-                Status::Done
-            }
+        (CallRequest::Health, Reply::Status(statuses)) if is_any_fenced(statuses) => {
+            Status::Refused
         }
         _ => Status::Done,
     }
 }
 
-/// Prints the number under which an update was stored. The line takes no memory.
-fn say_stored<W: Write, E: Write>(
-    alloc: Global,
-    number: u64,
-    writer: &mut W,
-    errors: &mut E,
-) -> Exit
-    ensures { PrintsInPlace status.Done (stored_line number) result (W.contents writer.old) (W.contents writer.new) }
-{
-    let line = stored_line(number);
-    let Err(error) = write_whole(writer, line.as_str().as_bytes()) else {
-        return Exit {
-            status: Status::Done,
-            is_told: true,
-        };
-    };
-    let is_told = complain(
-        alloc,
-        errors,
-        &format_args!("stored {number}, but standard output: {error}"),
-    );
-    Exit {
-        status: Status::Failed,
-        is_told,
-    }
-}
-
-/// Prints the reply to a read.
-#[tactic(auto, unfolding(crate::specs::Ends::Prints))]
-fn print<W: Write, E: Write>(
-    alloc: Global,
-    question: &CallRequest,
-    layout: OutputFormat,
-    reply: &Reply,
-    writer: &mut W,
-    errors: &mut E,
-) -> Exit
-    requires { IsRead reply.now }
-    ensures { Prints (answer_status question.now reply.now) layout question.now reply.now
-        result (W.contents writer.old) (W.contents writer.new) }
-{
-    let Ok(text) = answer_of(alloc, question, layout, reply) else {
-        return stop(errors);
-    };
-    let status = status_of(question, reply);
-    print_whole(alloc, status, text.as_slice(), writer, errors)
-}
-
-/// Prints the text, and ends with this status, or as failed if `writer` fails.
-fn print_whole<W: Write, E: Write>(
+/// Prints the text without memory, and ends with this status. If `writer` fails, the complaint begins with `before`.
+fn print_whole<T: Display, W: Write, E: Write>(
     alloc: Global,
     status: Status,
     text: &[u8],
+    before: &T,
     writer: &mut W,
     errors: &mut E,
 ) -> Exit
     ensures { PrintsInPlace status text.now result (W.contents writer.old) (W.contents writer.new) }
 {
-    let Err(error) = write_whole(writer, text) else {
-        return Exit {
+    match write_whole(writer, text) {
+        Ok(()) => Exit {
             status,
             is_told: true,
-        };
-    };
-    let is_told = complain(alloc, errors, &format_args!("standard output: {error}"));
-    Exit {
-        status: Status::Failed,
-        is_told,
+        },
+        Err(error) => fail(
+            alloc,
+            &format_args!("{before}standard output: {error}"),
+            errors,
+        ),
     }
 }
 
@@ -335,13 +234,9 @@ pub(crate) fn refuse<E: Write>(why: Refusal, detail: u64, errors: &mut E) -> Exi
     ensures { IsRefused result }
 {
     let line = detailed_line(why, detail);
-    let is_told = match write_whole(errors, line.as_str().as_bytes()) {
-        Ok(()) => true,
-        Err(_) => false,
-    };
     Exit {
         status: Status::Refused,
-        is_told,
+        is_told: write_whole(errors, line.as_str().as_bytes()).is_ok(),
     }
 }
 
@@ -381,10 +276,9 @@ pub(crate) fn give_up<E: Write>(
 pub(crate) fn fail<T: Display, E: Write>(alloc: Global, text: &T, errors: &mut E) -> Exit
     ensures { HasFailed result }
 {
-    let is_told = complain(alloc, errors, text);
     Exit {
         status: Status::Failed,
-        is_told,
+        is_told: complain(alloc, errors, text),
     }
 }
 

@@ -23,21 +23,12 @@ fn append(text: LineText, part: &str) -> LineText
     text.and_str(part, part.len())
 }
 
-/// The text followed by a number.
-fn append_number(text: LineText, number: u64) -> LineText
-    requires { length (inline_text text) + 20 < LINE_LEN }
-    ensures text { inline_text result ≡ inline_text text ++ decimal number }
-    ensures len { length (inline_text result) ≤ length (inline_text text) + 20 }
-{
-    append(text, Buffer::new().format(number))
-}
-
 /// The line of a stored number.
 pub(crate) fn stored_line(number: u64) -> LineText
     ensures { inline_text result ≡ stored_line number }
 {
     let text = append(LineText::new(), "stored ");
-    let text = append_number(text, number);
+    let text = append(text, Buffer::new().format(number));
     append(text, "\n")
 }
 

@@ -4,7 +4,7 @@ ghost use Rattle.snap_stream.specs.Hex.{hex_text};
 ghost use Rattle.snap_json.specs.Each.{each_from};
 ghost use Rattle.snap_order.specs.declared.order.OutputFormat.TheVariants.{Lines};
 ghost use Rattle.snap_client_commands.specs.Ends.{IsRead};
-ghost use Rattle.snap_client_commands.specs.Text.{Shows, ShowsEach, fence_text, is_any_fenced, named_line};
+ghost use Rattle.snap_client_commands.specs.Text.{Shows, fence_text, is_any_fenced, named_line};
 ghost use Rattle.snap_client_commands.specs.Text.{segment_text, status_line, value_line, value_text};
 
 use bytes::Bytes;
@@ -25,10 +25,18 @@ pub(crate) fn answer_of(
     requires { IsRead reply.now }
     ensures { IfOk result (λ text. Shows layout question.now reply.now text.items) }
 {
-    match layout {
-        OutputFormat::Json => document_of(alloc, question, reply),
-        OutputFormat::Lines | OutputFormat::Text => lines_of(alloc, question, layout, reply),
+    if let OutputFormat::Json = layout {
+        return document_of(alloc, question, reply);
     }
+    let mut out = Vec::new(alloc);
+    match (question, reply) {
+        (CallRequest::Health, Reply::Status(statuses)) => put_health(&mut out, statuses)?,
+        (_, Reply::Snapshot(values)) => put_values(alloc, &mut out, layout, values)?,
+        (_, Reply::Part(values)) => put_part(alloc, &mut out, layout, values)?,
+        (_, Reply::Status(statuses)) => put_statuses(&mut out, statuses)?,
+        (_, Reply::Stored(_) | Reply::Refused { .. }) => unreachable!(),
+    }
+    Ok(out)
 }
 
 /// The JSON document of the reply to a call's request.
@@ -44,53 +52,11 @@ fn document_of(alloc: Global, question: &CallRequest, reply: &Reply) -> Result<V
     }
 }
 
-/// The lines of the reply to a call's request.
-fn lines_of(
-    alloc: Global,
-    question: &CallRequest,
-    layout: OutputFormat,
-    reply: &Reply,
-) -> Result<Vec<u8>, AllocError>
-    requires { IsRead reply.now }
-    ensures { IfOk result (λ text. Shows layout question.now reply.now text.items) }
-{
-    match (question, reply) {
-        (CallRequest::Health, Reply::Status(statuses)) => health_of(alloc, statuses),
-        _ => text_of(alloc, layout, reply),
-    }
-}
-
-/// The lines of a server's health.
-fn health_of(alloc: Global, statuses: &[SegmentStatus]) -> Result<Vec<u8>, AllocError> {
-    let mut out = Vec::new(alloc);
-    if is_any_fenced(statuses) {
-        put_fences(&mut out, statuses)?;
-    } else {
-        out.extend_from_slice(b"healthy\n")?;
-    }
-    Ok(out)
-}
-
 /// Whether one of the segments is fenced.
 pub(crate) fn is_any_fenced(statuses: &[SegmentStatus]) -> bool
     ensures { result ≡ is_any_fenced statuses.now }
 {
     statuses.iter().any(|status| status.is_fenced)
-}
-
-/// The lines of the reply to a read.
-fn text_of(alloc: Global, layout: OutputFormat, reply: &Reply) -> Result<Vec<u8>, AllocError>
-    requires { IsRead reply.now }
-    ensures { IfOk result (λ text. layout ≡ Lines → ShowsEach reply.now text.items) }
-{
-    let mut out = Vec::new(alloc);
-    match reply {
-        Reply::Snapshot(values) => put_values(alloc, &mut out, layout, values)?,
-        Reply::Part(values) => put_part(alloc, &mut out, layout, values)?,
-        Reply::Status(statuses) => put_statuses(&mut out, statuses)?,
-        Reply::Stored(_) | Reply::Refused { .. } => unreachable!(),
-    }
-    Ok(out)
 }
 
 /// Appends a line for each segment's value.
@@ -143,8 +109,11 @@ fn put_status(out: &mut Vec<u8>, index: usize, status: &SegmentStatus) -> Result
     out.extend_from_slice(b"\n")
 }
 
-/// Appends a line for each segment that is fenced.
-fn put_fences(out: &mut Vec<u8>, statuses: &[SegmentStatus]) -> Result<(), AllocError> {
+/// Appends a line for each segment that is fenced, or one that says that none is.
+fn put_health(out: &mut Vec<u8>, statuses: &[SegmentStatus]) -> Result<(), AllocError> {
+    if !is_any_fenced(statuses) {
+        return out.extend_from_slice(b"healthy\n");
+    }
     let mut digits = Buffer::new();
     for (index, status) in statuses.iter().enumerate() {
         if status.is_fenced {

@@ -7,7 +7,7 @@ ghost use Rattle.snap_order.specs.declared.order.OutputFormat.TheVariants.{Lines
 ghost use Rattle.snap_order.specs.declared.order.CallRequest.TheVariants as question;
 ghost use Rattle.snap_order.specs.declared.order.Source.TheVariants as sources;
 ghost use Rattle.snap_order.specs.request.Request.TheVariants.{Update};
-ghost use Rattle.snap_client_commands.specs.Ends.{Asks, HasFailed, tries_of};
+ghost use Rattle.snap_client_commands.specs.Ends.{Asks, tries_of};
 ghost use Rattle.snap_client_commands.specs.Puts.{EndsLacking, GoesOn, HasValue, MayLack, Puts, ReadsInput};
 ghost use Rattle.snap_client_commands.specs.Puts.{Stores, TellsNumber};
 ghost use Rattle.snap_client_commands.specs.declared.put.NoValue.TheVariants.{NoMemory};
@@ -86,10 +86,7 @@ fn value_from<I: Read>(alloc: Global, input: &mut I) -> Result<Bytes, NoValue>
 {
     // One byte more than a value may have shows that the input is too long.
     let mut bytes = [0u8; MAX_VALUE_LEN + 1];
-    let len = match read_up_to(input, &mut bytes) {
-        Ok(len) => len,
-        Err(error) => return Err(NoValue::Failed(error)),
-    };
+    let len = read_up_to(input, &mut bytes).map_err(NoValue::Failed)?;
     if len > MAX_VALUE_LEN {
         return Err(NoValue::TooLong);
     }
@@ -101,10 +98,7 @@ fn copy_of(alloc: Global, bytes: &[u8]) -> Result<Bytes, NoValue>
     ensures value { IfOk result (λ v. v ≡ bytes.now) }
     ensures lack { IfErr result (λ lack. lack ≡ NoMemory) }
 {
-    match Bytes::copy_from_slice(alloc, bytes) {
-        Ok(value) => Ok(value),
-        Err(_) => Err(NoValue::NoMemory),
-    }
+    Bytes::copy_from_slice(alloc, bytes).map_err(|_| NoValue::NoMemory)
 }
 
 /// Complains that there is no value, and says why.
@@ -135,39 +129,16 @@ fn store_value<R: Read + Drop, C: Write + Drop, F: FnMut() -> Option<(R, C)>, W:
     ensures { Stores (tries_of order.now) F.step R.remaining C.contents put.now.after
         put.now.segment value connect.old result connect.new (W.contents writer.old) (W.contents writer.new) }
 {
+    let segment = put.segment;
     match put.after {
         Some(number) => update(
-            alloc,
-            order,
-            put.segment,
-            number,
-            value,
-            connect,
-            writer,
-            errors,
+            alloc, order, segment, number, value, connect, writer, errors,
         ),
-        None => store_next(alloc, order, put.segment, value, connect, writer, errors),
+        None => {
+            let told = answer_to(alloc, &Request::Status, tries_of(order), connect);
+            go_on(alloc, order, segment, value, told, connect, writer, errors)
+        }
     }
-}
-
-/// Asks for the numbers of all segments, and stores the value after that of its segment.
-fn store_next<R: Read + Drop, C: Write + Drop, F: FnMut() -> Option<(R, C)>, W: Write, E: Write>(
-    alloc: Global,
-    order: &CallOptions<'_>,
-    segment: u8,
-    value: Bytes,
-    connect: &mut F,
-    writer: &mut W,
-    errors: &mut E,
-) -> Exit
-    requires limits { IsCallable order.now }
-    requires fits { length value ≤ MAX_UPDATE_VALUE }
-    requires callable { F.IsAlwaysCallable connect.old }
-    ensures { Stores (tries_of order.now) F.step R.remaining C.contents None segment value
-        connect.old result connect.new (W.contents writer.old) (W.contents writer.new) }
-{
-    let told = answer_to(alloc, &Request::Status, tries_of(order), connect);
-    go_on(alloc, order, segment, value, told, connect, writer, errors)
 }
 
 /// Stores the value after the segment's number in the answer. If the server has no such segment, or
@@ -198,15 +169,8 @@ fn go_on<R: Read + Drop, C: Write + Drop, F: FnMut() -> Option<(R, C)>, W: Write
         },
         told => {
             let question = CallRequest::Request(Request::Status);
-            end(
-                alloc,
-                order.address,
-                &question,
-                OutputFormat::Lines,
-                told,
-                writer,
-                errors,
-            )
+            let layout = OutputFormat::Lines;
+            end(alloc, order, &question, layout, told, writer, errors)
         }
     }
 }
@@ -248,37 +212,16 @@ fn update<R: Read + Drop, C: Write + Drop, F: FnMut() -> Option<(R, C)>, W: Writ
         value,
     });
     match answer_from(alloc, &question, tries_of(order), connect) {
-        Err(fault) if fault.may_pass() => give_up_behind(
-            alloc,
-            order.address,
-            fault,
-            number,
-            errors,
-        ),
-        answer => end(
-            alloc,
-            order.address,
-            &question,
-            OutputFormat::Lines,
-            answer,
-            writer,
-            errors,
-        ),
+        Err(fault) if fault.may_pass() => {
+            let address = order.address;
+            let text = format_args!(
+                "{address}: {fault}: send it again with --after {number}, since an update is stored once"
+            );
+            fail(alloc, &text, errors)
+        }
+        answer => {
+            let layout = OutputFormat::Lines;
+            end(alloc, order, &question, layout, answer, writer, errors)
+        }
     }
-}
-
-/// Complains that there is no answer to a put's update, and advises to put again with `--after` this number.
-fn give_up_behind<E: Write>(
-    alloc: Global,
-    address: &str,
-    fault: ClientFault,
-    number: u64,
-    errors: &mut E,
-) -> Exit
-    ensures { HasFailed result }
-{
-    let text = format_args!(
-        "{address}: {fault}: send it again with --after {number}, since an update is stored once"
-    );
-    fail(alloc, &text, errors)
 }

@@ -28,20 +28,7 @@ pub fn fetch<R: Read + Drop, C: Write + Drop, F: FnMut() -> Option<(R, C)>, E: W
     // One scan was sent on at most that many connections, and these are the values of its answer.
     ensures { Fetches tries F.step R.remaining C.contents connect.old result connect.new }
 {
-    let answer = answer_to(alloc, &Request::Scan, tries, connect);
-    values_of(alloc, address, answer, errors)
-}
-
-/// The values of the answer to a scan, or how the program ends without them.
-fn values_of<E: Write>(
-    alloc: Global,
-    address: &str,
-    answer: Result<Reply, ClientFault>,
-    errors: &mut E,
-) -> Result<Vec<SegmentValue>, Exit>
-    ensures { EndsFetch answer result }
-{
-    match answer {
+    match answer_to(alloc, &Request::Scan, tries, connect) {
         Ok(Reply::Snapshot(values)) => Ok(values),
         Ok(Reply::Refused { why, detail }) => Err(refuse(why, detail, errors)),
         Ok(_) => Err(give_up(alloc, address, ClientFault::BadReply, errors)),

@@ -8,14 +8,10 @@
 
 mod exchange;
 mod print;
-mod row;
-mod segments;
 mod terminal;
 mod track;
 
-pub use exchange::{WatchFault, look};
+pub use exchange::{Row, WatchFault, look, set_of};
 pub use print::{Form, changes};
-pub use row::Row;
-pub use segments::set_of;
 pub use terminal::{Panel, drawing};
 pub use track::{Track, followed};

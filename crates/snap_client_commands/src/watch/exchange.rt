@@ -1,13 +1,43 @@
 //! One poll of a server.
-ghost use Rattle.std.specs.Prelude.{◌<◌, IfSome};
+ghost use Rattle.std.specs.Prelude.{◌≡◌, ◌↔◌, ◌<◌, ℕ, All, Contains, IfSome, IsNone, [], MatchOption};
+ghost use Rattle.snap_frame.specs.Sets.{Names};
 
-use crate::watch::row::Row;
 use bytes::Bytes;
 use snap_client::{Client, ClientFault};
 use snap_frame::{Reply, SegmentSet, SegmentStatus};
 use snap_stream::Refusal;
 use std::alloc::{AllocError, Global};
 use std::io::{Read, Write};
+
+/// One segment on a board.
+#[derive(Debug, PartialEq, Eq, Drop)]
+pub struct Row {
+    /// The segment's index.
+    pub segment: usize,
+    /// The segment's number.
+    pub number: u64,
+    /// Whether the segment is fenced: it takes no new update until the server's next start.
+    pub is_fenced: bool,
+    /// The value of that number.
+    pub value: Bytes,
+}
+
+/// The set of these segments, each less than 16. `None` if there are none, which means all segments of the server.
+pub fn set_of(segments: &[u8]) -> Option<SegmentSet>
+    requires below { All (λ s. s < 16) segments.now }
+    ensures none { IsNone result ↔ (segments.now ≡ []) }
+    ensures some { IfSome result (λ set. 0 < set.bits) }
+    ensures names { IfSome result (λ set. (k : ℕ) → (Names set.bits k ↔ Contains segments.now k)) }
+{
+    if segments.is_empty() {
+        return None;
+    }
+    let mut bits = 0u16;
+    for segment in segments {
+        bits |= 1u16 << *segment;
+    }
+    Some(SegmentSet { bits })
+}
 
 /// The reason why a poll returned no rows.
 #[derive(Clone, Copy, Debug, PartialEq, Eq)]
@@ -65,7 +95,11 @@ pub fn look<R: Read, W: Write>(
         }
         return Ok(rows);
     }
-    match ask_values(client, watched)? {
+    let reply = match watched {
+        Some(set) => client.scan_some(set)?,
+        None => client.scan()?,
+    };
+    match reply {
         Reply::Snapshot(values) => {
             for (segment, value) in values.iter().enumerate() {
                 put_row(&mut rows, &statuses, segment, value.number, &value.value)?;
@@ -84,28 +118,12 @@ pub fn look<R: Read, W: Write>(
 
 /// Whether no number has changed: every watched segment has a row, with the number in `statuses`.
 fn is_settled(watched: Option<SegmentSet>, shown: &[Row], statuses: &[SegmentStatus]) -> bool {
-    let count = match watched {
-        Some(set) => set.len(),
-        None => statuses.len(),
-    };
+    let count = watched.map_or(statuses.len(), |set| set.len());
     shown.len() == count
         && shown.iter().all(|row| match statuses.get(row.segment) {
             Some(status) => status.number == row.number,
             None => false,
         })
-}
-
-/// Requests the values of the watched segments.
-fn ask_values<R: Read, W: Write>(
-    client: &mut Client<R, W>,
-    watched: Option<SegmentSet>,
-) -> Result<Reply, ClientFault>
-    requires { IfSome watched (λ set. 0 < set.bits) }
-{
-    match watched {
-        Some(set) => client.scan_some(set),
-        None => client.scan(),
-    }
 }
 
 /// Appends the row of a segment, with its fence in `statuses`.
@@ -116,10 +134,7 @@ fn put_row(
     number: u64,
     value: &Bytes,
 ) -> Result<(), AllocError> {
-    let is_fenced = match statuses.get(segment) {
-        Some(status) => status.is_fenced,
-        None => false,
-    };
+    let is_fenced = statuses.get(segment).is_some_and(|status| status.is_fenced);
     rows.push(Row {
         segment,
         number,

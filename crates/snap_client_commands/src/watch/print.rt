@@ -1,9 +1,9 @@
 //! The text of the rows that changed.
 
 use crate::print::{put_fence, put_segment, put_shown};
-use crate::watch::row::{Row, is_shown};
-use base64::engine::general_purpose::STANDARD;
+use crate::watch::exchange::Row;
 use json::Writer;
+use snap_json::put_bytes;
 use snap_order::OutputFormat;
 use std::alloc::{AllocError, Global};
 
@@ -26,7 +26,10 @@ pub fn changes(
 ) -> Result<Vec<u8>, AllocError> {
     let mut text = Vec::new(alloc);
     for row in rows {
-        if !is_shown(shown, row) {
+        let is_shown = shown.iter().any(|one| {
+            one.segment == row.segment && one.number == row.number && one.is_fenced == row.is_fenced
+        });
+        if !is_shown {
             match form {
                 Form::Lines => put_line(alloc, &mut text, row)?,
                 Form::Objects => text = append_object(alloc, text, row)?,
@@ -44,7 +47,7 @@ fn put_line(alloc: Global, out: &mut Vec<u8>, row: &Row) -> Result<(), AllocErro
     put_shown(alloc, out, OutputFormat::Text, row.value.as_slice())
 }
 
-/// Appends a row as an object. Its value is text if it is UTF-8, and else in base64.
+/// Appends a row as an object.
 fn append_object(alloc: Global, text: Vec<u8>, row: &Row) -> Result<Vec<u8>, AllocError> {
     let mut writer = Writer::new(text);
     writer.begin_object()?;
@@ -54,17 +57,7 @@ fn append_object(alloc: Global, text: Vec<u8>, row: &Row) -> Result<Vec<u8>, All
     writer.u64(row.number)?;
     writer.key("fenced")?;
     writer.boolean(row.is_fenced)?;
-    match str::from_utf8(row.value.as_slice()) {
-        Ok(text) => {
-            writer.key("text")?;
-            writer.string(text)?;
-        }
-        Err(_) => {
-            let text = STANDARD.encode(alloc, row.value.as_slice())?;
-            writer.key("base64")?;
-            writer.string(text.as_str())?;
-        }
-    }
+    put_bytes(alloc, &mut writer, row.value.as_slice())?;
     writer.end_object()?;
     Ok(writer.into_inner())
 }

@@ -1,6 +1,6 @@
 //! The board in a terminal.
 
-use crate::watch::row::Row;
+use crate::watch::exchange::Row;
 use crate::watch::track::Track;
 use snap_json::quote;
 use snap_stream::put_hex;
@@ -132,16 +132,13 @@ fn age_text(alloc: Global, age: Option<u64>) -> Result<String, AllocError> {
     let Some(seconds) = age else {
         return String::from_str(alloc, "-");
     };
-    let (minutes, hours, days) = (seconds / 60, seconds / 3_600, seconds / 86_400);
-    if minutes == 0 {
-        format!(in alloc; "{seconds}s")
-    } else if hours == 0 {
-        format!(in alloc; "{minutes}m")
-    } else if days == 0 {
-        format!(in alloc; "{hours}h")
-    } else {
-        format!(in alloc; "{days}d")
-    }
+    let (count, unit) = match seconds {
+        ..60 => (seconds, 's'),
+        ..3_600 => (seconds / 60, 'm'),
+        ..86_400 => (seconds / 3_600, 'h'),
+        _ => (seconds / 86_400, 'd'),
+    };
+    format!(in alloc; "{count}{unit}")
 }
 
 /// A number of tenths as a decimal number, or `-`.

@@ -1,6 +1,6 @@
 //! The age and rate of each segment, from the numbers that a watch has seen.
 
-use crate::watch::row::Row;
+use crate::watch::exchange::Row;
 use std::alloc::{AllocError, Global};
 
 /// The least time over which a rate is taken, once that much has passed, in milliseconds.

@@ -1,6 +1,6 @@
 use Rattle.std.proofs.Common.{◌↔◌, ◌<◌, Contains, take, ℕ}
 use Rattle.snap_frame.specs.Sets.{Names}
-use Rattle.snap_client_commands.proofs.watch.segments.set_of.Given as goal
+use Rattle.snap_client_commands.proofs.watch.exchange.set_of.Given as goal
 
 -- the set names the segments so far, and isn't empty after the first one
 abbrev pub invariant-loop-segment : goal.invariant-loop-segment

@@ -1,5 +1,5 @@
 use Rattle.snap_client_commands.proofs.Tried.{tries_leave, tries_say}
-use Rattle.snap_client_commands.proofs.put.store_next.Goals as goal
+use Rattle.snap_client_commands.proofs.put.store_value.Goals as goal
 
 pub go_on-requires-clause-told : goal.go_on-requires-clause-told
 go_on-requires-clause-told g c = tries_say _ _ _ _ _ _ _ _ c.answer_to-told.ensures
@@ -7,8 +7,8 @@ go_on-requires-clause-told g c = tries_say _ _ _ _ _ _ _ _ c.answer_to-told.ensu
 pub go_on-requires-clause-callable : goal.go_on-requires-clause-callable
 go_on-requires-clause-callable g c = tries_leave g.F.FnMut _ _ _ _ _ _ _ c.requires.callable c.answer_to-told.ensures
 
-pub returns : goal.returns
-returns g c = (
+pub returns-in-None : goal.returns-in-None
+returns-in-None g c = rw c.in-None.is (
   c.answer_to-told.result,
   c.answer_to-told.new.connect,
   rw c.tries_of.ensures.value at c.answer_to-told.ensures,

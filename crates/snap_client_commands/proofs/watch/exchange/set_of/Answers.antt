@@ -2,7 +2,7 @@ use Rattle.std.proofs.Common.{◌≡◌, ◌↔◌, ◌∙◌, Contains, List, a
 use Rattle.std.proofs.{Math.Seq.take-length, lemmas.List.take_more}
 use Rattle.snap_frame.specs.Sets.{Names}
 use Rattle.snap_client_commands.proofs.WatchSets.{names_more, some_named, with}
-use Rattle.snap_client_commands.proofs.watch.segments.set_of.Goals as goal
+use Rattle.snap_client_commands.proofs.watch.exchange.set_of.Goals as goal
 
 pub loop-segment-preserved : goal.loop-segment-preserved
 loop-segment-preserved c =
