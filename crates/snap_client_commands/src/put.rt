@@ -1,5 +1,5 @@
 //! Puts: gets the value, asks for the current number, and sends the update.
-ghost use Rattle.std.specs.Prelude.{◌≡◌, ◌+◌, ◌^◌, ◌<◌, ◌≤◌, IfErr, IfOk, None, length};
+ghost use Rattle.std.specs.Prelude.{◌≡◌, ◌+◌, ◌^◌, ◌<◌, ◌≤◌, IfErr, IfOk, length};
 ghost use Rattle.snap_frame.specs.Messages.{IsInLimits};
 ghost use Rattle.snap_order.specs.Limits.{MAX_UPDATE_VALUE};
 ghost use Rattle.snap_order.specs.Order.{FitsUpdate, IsCallable, IsWithin};
@@ -9,7 +9,7 @@ ghost use Rattle.snap_order.specs.declared.order.Source.TheVariants as sources;
 ghost use Rattle.snap_order.specs.request.Request.TheVariants.{Update};
 ghost use Rattle.snap_client_commands.specs.Ends.{Asks, tries_of};
 ghost use Rattle.snap_client_commands.specs.Puts.{EndsLacking, GoesOn, HasValue, MayLack, Puts, ReadsInput};
-ghost use Rattle.snap_client_commands.specs.Puts.{Stores, TellsNumber};
+ghost use Rattle.snap_client_commands.specs.Puts.{TellsNumber};
 ghost use Rattle.snap_client_commands.specs.declared.put.NoValue.TheVariants.{NoMemory};
 
 use crate::call::{answer_from, answer_to, end, fail, refuse, refuse_here, stop, tries_of};
@@ -59,9 +59,19 @@ pub(crate) fn store<
         (I.remaining input.old) connect.old result connect.new (W.contents writer.old) (W.contents writer.new) }
     ensures unread { (ReadsInput (question.Put put.now) → ⊥) → input.new ≡ input.old }
 {
-    match value_of(alloc, &put.value, input) {
-        Ok(value) => store_value(alloc, order, put, value, connect, writer, errors),
-        Err(lack) => say_lack(alloc, lack, errors),
+    let value = match value_of(alloc, &put.value, input) {
+        Ok(value) => value,
+        Err(lack) => return say_lack(alloc, lack, errors),
+    };
+    let segment = put.segment;
+    match put.after {
+        Some(number) => update(
+            alloc, order, segment, number, value, connect, writer, errors,
+        ),
+        None => {
+            let told = answer_to(alloc, &Request::Status, tries_of(order), connect);
+            go_on(alloc, order, segment, value, told, connect, writer, errors)
+        }
     }
 }
 
@@ -109,35 +119,6 @@ fn say_lack<E: Write>(alloc: Global, lack: NoValue, errors: &mut E) -> Exit
         NoValue::TooLong => refuse_here(Refusal::TooLong, errors),
         NoValue::NoMemory => stop(errors),
         NoValue::Failed(error) => fail(alloc, &format_args!("standard input: {error}"), errors),
-    }
-}
-
-/// Stores this value after the number of the order, or after the current one.
-fn store_value<R: Read + Drop, C: Write + Drop, F: FnMut() -> Option<(R, C)>, W: Write, E: Write>(
-    alloc: Global,
-    order: &CallOptions<'_>,
-    put: &PutOptions,
-    value: Bytes,
-    connect: &mut F,
-    writer: &mut W,
-    errors: &mut E,
-) -> Exit
-    requires limits { IsCallable order.now }
-    requires within { IsWithin (question.Put put.now) }
-    requires fits { length value ≤ MAX_UPDATE_VALUE }
-    requires callable { F.IsAlwaysCallable connect.old }
-    ensures { Stores (tries_of order.now) F.step R.remaining C.contents put.now.after
-        put.now.segment value connect.old result connect.new (W.contents writer.old) (W.contents writer.new) }
-{
-    let segment = put.segment;
-    match put.after {
-        Some(number) => update(
-            alloc, order, segment, number, value, connect, writer, errors,
-        ),
-        None => {
-            let told = answer_to(alloc, &Request::Status, tries_of(order), connect);
-            go_on(alloc, order, segment, value, told, connect, writer, errors)
-        }
     }
 }
 

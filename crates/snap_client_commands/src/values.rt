@@ -1,7 +1,7 @@
 //! Fetches the values of a server for a dump.
 ghost use Rattle.std.specs.Prelude.{◌≤◌, IfSome};
 ghost use Rattle.snap_order.specs.Limits.{MAX_TRIES};
-ghost use Rattle.snap_client_commands.specs.Fetch.{EndsFetch, Fetches};
+ghost use Rattle.snap_client_commands.specs.Fetch.{Fetches};
 
 use crate::call::{answer_to, give_up, refuse, stop};
 use snap_client::ClientFault;

@@ -1,5 +1,5 @@
 //! One poll of a server.
-ghost use Rattle.std.specs.Prelude.{◌≡◌, ◌↔◌, ◌<◌, ℕ, All, Contains, IfSome, IsNone, [], MatchOption};
+ghost use Rattle.std.specs.Prelude.{◌≡◌, ◌↔◌, ◌<◌, ℕ, All, Contains, IfSome, IsNone, []};
 ghost use Rattle.snap_frame.specs.Sets.{Names};
 
 use bytes::Bytes;
