@@ -205,7 +205,8 @@ fn status_of(question: &CallRequest, reply: &Reply) -> Status
     }
 }
 
-/// Prints the text without memory, and ends with this status. If `writer` fails, the complaint begins with `before`.
+/// Prints the text, which takes no memory, and ends with this status. If `writer` fails, the complaint begins with
+/// `before`.
 fn print_whole<T: Display, W: Write, E: Write>(
     alloc: Global,
     status: Status,

@@ -1,4 +1,4 @@
-//! One poll of a server.
+//! One poll of a server: the segments that are watched, and the rows that it returns.
 ghost use Rattle.std.specs.Prelude.{◌≡◌, ◌↔◌, ◌<◌, ℕ, All, Contains, IfSome, IsNone, []};
 ghost use Rattle.snap_frame.specs.Sets.{Names};
 
