@@ -8,7 +8,7 @@ ghost use Rattle.snap_disk.specs.Device.{Device};
 ghost use Rattle.snap_slot.specs.{declared.layout.TheConstants.FILE_LEN, Layout.IsFileOf, States.IsEither};
 ghost use Rattle.snap_history.specs.{declared.limits.TheConstants.MAX_COUNT, Limits.IsShort};
 ghost use Rattle.snap_segment.specs.Creation.{IsFresh};
-ghost use Rattle.snap_file_commands.specs.Commands.{CountsEnd, EndsCheck, EndsGet, EndsMaking, EndsOrder, EndsPut};
+ghost use Rattle.snap_file_commands.specs.Commands.{CountsEnd, EndsCheck, EndsMaking, EndsOrder, EndsPut};
 ghost use Rattle.snap_file_commands.specs.Commands.{EndsStore, OrderLeaves, PutLeaves};
 ghost use Rattle.snap_file_commands.specs.Effects.{AnyCrashLeaves, LeavesNoMore, MakingKeeps, OrderKeeps, PutKeeps};
 ghost use Rattle.snap_file_commands.specs.Effects.{StoreKeeps};
@@ -20,9 +20,9 @@ use snap_disk::{Disk, Refusal};
 use snap_history::MAX_VALUE_LEN;
 use snap_json::findings_document;
 use snap_order::{FileOrder, Status};
-use snap_segment::{Findings, Segment, check, format};
+use snap_segment::{Segment, check, format};
 use snap_stream::{read_up_to, write_whole};
-use std::alloc::{AllocError, Global};
+use std::alloc::Global;
 use std::io::{Read, Write};
 
 /// Runs the command of the order on its device, and returns the device with how the command ended. Its output goes to
@@ -65,7 +65,13 @@ pub fn act<D: Disk, R: Read, W: Write>(
             (disk, end)
         }
         FileOrder::Put { index, count, .. } => put(alloc, disk, index, count, reader, writer),
-        FileOrder::Get { index, count, .. } => get(alloc, disk, index, count, writer),
+        FileOrder::Get { index, count, .. } => match Segment::open(alloc, disk, index, count) {
+            Ok(segment) => match write_whole(writer, segment.value()) {
+                Ok(()) => (segment.into_device(), Ok(Status::Done)),
+                Err(error) => (segment.into_device(), Err(CommandFault::Output(error))),
+            },
+            Err((why, disk)) => (disk, Err(CommandFault::Refused(why))),
+        },
         FileOrder::Check { is_json, .. } => {
             let end = check_file(alloc, &mut disk, is_json, writer);
             (disk, end)
@@ -99,10 +105,8 @@ pub(crate) fn format_file<D: Disk, W: Write>(
     // The line is made first, so that the file stays as it is if memory runs out.
     let line = format!(in alloc; "formatted {index} of {count}\n")?;
     format(disk, index, count)?;
-    match write_whole(writer, line.as_bytes()) {
-        Ok(()) => Ok(Status::Done),
-        Err(error) => Err(CommandFault::Output(error)),
-    }
+    write_whole(writer, line.as_bytes()).map_err(CommandFault::Output)?;
+    Ok(Status::Done)
 }
 
 /// Stores what the reader has.
@@ -176,34 +180,6 @@ fn store<D: Disk, W: Write>(
     }
 }
 
-/// Prints the value that the device holds.
-fn get<D: Disk, W: Write>(
-    alloc: Global,
-    disk: D,
-    index: u8,
-    count: u8,
-    writer: &mut W,
-) -> (D, Result<Status, CommandFault>)
-    requires below { index < count }
-    requires few { count ≤ MAX_COUNT }
-    requires headroom { D.failure_count disk < 2 ^ 64 - 1 }
-    ensures honest { D.is_honest result.0 → D.is_honest disk }
-    ensures count { CountsEnd result.1 (D.failure_count disk) (D.failure_count result.0) }
-    ensures ends { EndsGet (D.is_honest result.0) index count (D.device disk)
-        (W.contents writer.old) (W.contents writer.new) result.1 }
-    ensures wrong_length { length (D.device disk).bytes ≢ FILE_LEN → result.0 ≡ disk }
-    ensures any_time { LeavesNoMore D.Disk disk result.0 }
-{
-    let segment = match Segment::open(alloc, disk, index, count) {
-        Ok(segment) => segment,
-        Err((why, disk)) => return (disk, Err(CommandFault::Refused(why))),
-    };
-    match write_whole(writer, segment.value()) {
-        Ok(()) => (segment.into_device(), Ok(Status::Done)),
-        Err(error) => (segment.into_device(), Err(CommandFault::Output(error))),
-    }
-}
-
 /// Prints the findings. If they have no answer, the status says so.
 fn check_file<D: Disk, W: Write>(
     alloc: Global,
@@ -219,23 +195,16 @@ fn check_file<D: Disk, W: Write>(
     ensures any_time { LeavesNoMore D.Disk disk.old disk.new }
 {
     let findings = check(disk)?;
-    let text = text_of(alloc, &findings, is_json)?;
+    let text = if is_json {
+        findings_document(alloc, &findings)?
+    } else {
+        findings.to_string(alloc)?.into_bytes()
+    };
     let status = if findings.answer.is_some() {
         Status::Done
     } else {
         Status::Refused
     };
-    match write_whole(writer, &text) {
-        Ok(()) => Ok(status),
-        Err(error) => Err(CommandFault::Output(error)),
-    }
-}
-
-/// The findings as they are printed: in lines, or as a JSON document.
-fn text_of(alloc: Global, findings: &Findings, is_json: bool) -> Result<Vec<u8>, AllocError> {
-    if is_json {
-        findings_document(alloc, findings)
-    } else {
-        Ok(findings.to_string(alloc)?.into_bytes())
-    }
+    write_whole(writer, &text).map_err(CommandFault::Output)?;
+    Ok(status)
 }

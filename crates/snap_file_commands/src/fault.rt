@@ -2,7 +2,7 @@
 ghost use Rattle.std.specs.Prelude.{◌≡◌};
 ghost use Rattle.snap_file_commands.specs.Commands.{status_at, status_of};
 
-use crate::second_line::line_behind;
+use crate::remedy::line_behind;
 use snap_disk::Refusal;
 use snap_order::{Exit, FileOrder, Status};
 use snap_slot::SlotFault;
@@ -97,15 +97,13 @@ impl CommandFault {
     ) -> Exit
         ensures { result.status ≡ status_of self.now }
     {
-        match self {
-            CommandFault::Refused(why) => {
-                let more = line_behind(alloc, order, len, *why, cause);
-                let is_told = complain_twice(errors, *why, more);
-                let status = Status::Refused;
-                Exit { status, is_told }
-            }
-            _ => self.report(alloc, errors),
-        }
+        let CommandFault::Refused(why) = self else {
+            return self.report(alloc, errors);
+        };
+        let more = line_behind(alloc, order, len, *why, cause);
+        let is_told = complain_twice(errors, *why, more);
+        let status = Status::Refused;
+        Exit { status, is_told }
     }
 }
 

@@ -10,14 +10,14 @@ ghost use Rattle.snap_history.specs.declared.limits.TheConstants.{MAX_COUNT};
 ghost use Rattle.snap_segment.specs.{Calls.Counts, Creation.IsFresh};
 ghost use Rattle.snap_file_commands.specs.Commands.{CountsEnd};
 ghost use Rattle.snap_file_commands.specs.Effects.{AnyCrashLeaves, LeavesNoMore, StoreKeeps};
-ghost use Rattle.snap_file_commands.specs.Foundation.{AreEmpty, EndsFounding, EndsKeeping, IsBlank, IsEmptySlot};
+ghost use Rattle.snap_file_commands.specs.Foundation.{EndsFounding, EndsKeeping, IsBlank, IsEmptySlot};
 ghost use Rattle.snap_file_commands.specs.Foundation.{SaysBlank, refusal_of_formatted};
 
 use crate::CommandFault;
 use crate::commands::format_file;
 use snap_disk::{Disk, Refusal};
 use snap_order::Status;
-use snap_segment::{Findings, Header, Segment, Slot, check};
+use snap_segment::{Header, Segment, Slot, check};
 use snap_stream::write_whole;
 use std::alloc::Global;
 use std::io::Write;
@@ -77,19 +77,13 @@ fn is_blank<D: Disk>(disk: &mut D) -> Result<bool, Refusal>
         → (result ≡ Err Refusal.WrongFile) × (disk.new ≡ disk.old) }
 {
     let findings = check(disk)?;
+    let (first, second, third) = findings.slots;
+    let is_empty = is_empty_slot(first) && is_empty_slot(second) && is_empty_slot(third);
     match findings.header {
-        Header::Closed if is_empty(&findings) => Ok(true),
+        Header::Closed if is_empty => Ok(true),
         Header::Closed => Err(Refusal::Unformatted),
         Header::Open { .. } | Header::Wrong => Ok(false),
     }
-}
-
-/// Whether no slot has a value, but that of a fresh file.
-fn is_empty(findings: &Findings) -> bool
-    ensures { IsTrue result ↔ AreEmpty findings.now }
-{
-    let (first, second, third) = findings.slots;
-    is_empty_slot(first) && is_empty_slot(second) && is_empty_slot(third)
 }
 
 /// Whether the slot has no value, or that of a fresh file. A crash during a format may leave it bad.

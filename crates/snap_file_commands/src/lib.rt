@@ -22,7 +22,6 @@ mod loads;
 mod loss;
 mod migration;
 mod remedy;
-mod second_line;
 mod segment_name;
 mod segment_order;
 mod slot_value;

@@ -60,8 +60,6 @@ pub fn load<D: Disk, W: Write>(
     // The line is made first, so that the file stays as it is if memory runs out.
     let line = format!(in alloc; "loaded {index} of {count} number {number}\n")?;
     create(disk, index, count, number, of.value)?;
-    match write_whole(writer, line.as_bytes()) {
-        Ok(()) => Ok(Status::Done),
-        Err(error) => Err(CommandFault::Output(error)),
-    }
+    write_whole(writer, line.as_bytes()).map_err(CommandFault::Output)?;
+    Ok(Status::Done)
 }

@@ -10,8 +10,7 @@ ghost use Rattle.snap_file_commands.specs.Migration.{CountsMigration, EndsMigrat
 ghost use Rattle.snap_file_commands.specs.Migration.{MigrationReads, migration_status_of};
 
 use crate::CommandFault;
-use crate::remedy::{of_new, of_old};
-use crate::second_line::line_behind_role;
+use crate::remedy::line_of_migration;
 use itoa::Buffer;
 use snap_disk::{Disk, Refusal};
 use snap_order::{Exit, MigrateOptions, Status};
@@ -19,12 +18,6 @@ use snap_segment::{Which, migrate};
 use snap_stream::{SystemReason, complain_twice, write_whole};
 use std::alloc::{AllocError, Global};
 use std::io::Write;
-
-/// Follows the name of the old file in a message, if it was refused.
-const AS_OLD: &str = "refused as the old file: ";
-
-/// Follows the name of the new file in a message, if it was refused.
-const AS_NEW: &str = "refused as the new file: ";
 
 /// Why a migration ended early.
 #[derive(Drop)]
@@ -56,18 +49,12 @@ impl MigrationFault {
     {
         match self {
             MigrationFault::OfFile { which, why } => {
-                let why = *why;
-                let more = match which {
-                    Which::Old => {
-                        let text = of_old(alloc, order, why);
-                        line_behind_role(alloc, order.old, AS_OLD, why, causes.old, text)
-                    }
-                    Which::New => {
-                        let text = of_new(alloc, order, why);
-                        line_behind_role(alloc, order.new, AS_NEW, why, causes.new, text)
-                    }
+                let cause = match which {
+                    Which::Old => causes.old,
+                    Which::New => causes.new,
                 };
-                let is_told = complain_twice(errors, why, more);
+                let more = line_of_migration(alloc, order, *which, *why, cause);
+                let is_told = complain_twice(errors, *why, more);
                 let status = Status::Refused;
                 Exit { status, is_told }
             }
@@ -84,8 +71,8 @@ impl MigrationFault {
 pub fn act_pair<O: Disk, N: Disk, W: Write>(
     alloc: Global,
     order: &MigrateOptions<'_>,
-    old: O,
-    new: N,
+    mut old: O,
+    mut new: N,
     writer: &mut W,
 ) -> (O, N, Result<Status, MigrationFault>)
     requires place { IsPlace order.now.index order.now.count }
@@ -116,7 +103,6 @@ pub fn act_pair<O: Disk, N: Disk, W: Write>(
     ensures new_any_time { O.is_honest result.0 → AnyCrashLeaves N.Disk new result.1
         (MigrationLeaves order.now.index order.now.count (O.device old) (N.device new)) }
 {
-    let (mut old, mut new) = (old, new);
     let (index, count) = (order.index, order.count);
     // The line's memory is taken first, so that the files stay as they are if it runs out.
     let Ok(mut line) = line_for(alloc, index, count) else {

@@ -1,20 +1,88 @@
-//! The advice about a file that was refused: what is wrong with it, and what to do. Advice that a server prints too is
-//! in `snap_order`.
+//! The line after that of a refusal: which file it was, the system's reason or what is wrong with the file, and what to
+//! do. Advice that a server prints too is in `snap_order`.
 
 use snap_disk::Refusal;
 use snap_order::{
     FileOrder, MigrateOptions, empty_remedy, format_command, old_format_remedy, unformatted_remedy,
 };
-use snap_segment::OLD_FILE_LEN;
+use snap_segment::{OLD_FILE_LEN, Which};
 use snap_slot::FILE_LEN;
+use snap_stream::SystemReason;
 use std::alloc::{AllocError, Global};
 
-/// For a file that isn't the order's, by its length.
-pub(crate) fn of_wrong(
+/// The line after that of a refusal of the order's file, which has `len` bytes. It is empty if the
+/// refusal isn't of the file. `None` means that memory ran out.
+pub(crate) fn line_behind<C: SystemReason>(
     alloc: Global,
     order: &FileOrder<'_>,
     len: u64,
-) -> Result<String, AllocError> {
+    why: Refusal,
+    cause: &C,
+) -> Option<String> {
+    let file = order.file();
+    let text = match why {
+        Refusal::DeviceFailed => of_failed(alloc, cause),
+        Refusal::WrongFile => of_wrong(alloc, order, len),
+        // Its slots may still hold a value, which a format erases.
+        Refusal::Unformatted => {
+            unformatted_remedy(alloc, words_of_format(alloc, order).ok()?.as_str())
+        }
+        Refusal::Damaged => {
+            format!(in alloc; "its slots give no answer: see snapd check {file}")
+        }
+        Refusal::AlreadyFormatted => of_formatted(alloc, file),
+        _ => return Some(String::new(alloc)),
+    };
+    let text = text.ok()?;
+    format!(in alloc; "snapd: {file}: {text}\n").ok()
+}
+
+/// The line after that of a refusal of one of a migration's files. `None` means that memory ran out.
+pub(crate) fn line_of_migration<C: SystemReason>(
+    alloc: Global,
+    order: &MigrateOptions<'_>,
+    which: Which,
+    why: Refusal,
+    cause: &C,
+) -> Option<String> {
+    let (file, role) = match which {
+        Which::Old => (order.old, "old"),
+        Which::New => (order.new, "new"),
+    };
+    let (index, count) = (order.index, order.count);
+    let text = match (which, why) {
+        (_, Refusal::DeviceFailed) => of_failed(alloc, cause),
+        // No command can make the old file again.
+        (Which::Old, Refusal::Damaged) => {
+            format!(in alloc; "its slots give no answer: look for a backup")
+        }
+        (Which::Old, Refusal::Unformatted) => format!(in alloc;
+            "it was never formatted, or its header is gone: look for a backup"
+        ),
+        (Which::Old, _) => format!(in alloc;
+            "it isn't the file of segment {index} of {count} with the {OLD_FILE_LEN} bytes of the old format"
+        ),
+        (Which::New, Refusal::AlreadyFormatted) => of_formatted(alloc, file),
+        (Which::New, _) => format!(in alloc;
+            "it is neither empty nor of the {FILE_LEN} bytes of a segment file: give another path"
+        ),
+    };
+    let text = text.ok()?;
+    format!(in alloc; "snapd: {file}: refused as the {role} file: {text}\n").ok()
+}
+
+/// The advice about a device that failed, after the system's reason, if that is known.
+fn of_failed<C: SystemReason>(alloc: Global, cause: &C) -> Result<String, AllocError> {
+    match cause.text(alloc) {
+        Some(said) => format!(in alloc; "{said}: look after its disk, and try again"),
+        None => {
+            format!(in alloc; "a call of its device failed: look after its disk, and try again")
+        }
+    }
+}
+
+/// For a file that isn't the order's, by its length.
+fn of_wrong(alloc: Global, order: &FileOrder<'_>, len: u64) -> Result<String, AllocError> {
     match (len, *order) {
         // It has no byte, and so nothing to lose.
         (0, _) => empty_remedy(alloc, words_of_format(alloc, order)?.as_str()),
@@ -29,46 +97,9 @@ pub(crate) fn of_wrong(
     }
 }
 
-/// For a file whose header's gate is closed. Its slots may still hold a value, which a format erases.
-pub(crate) fn of_unformatted(alloc: Global, order: &FileOrder<'_>) -> Result<String, AllocError> {
-    unformatted_remedy(alloc, words_of_format(alloc, order)?.as_str())
-}
-
 /// For a file that is a segment's already.
-pub(crate) fn of_formatted(alloc: Global, file: &str) -> Result<String, AllocError> {
+fn of_formatted(alloc: Global, file: &str) -> Result<String, AllocError> {
     format!(in alloc; "it is formatted already: see snapd check {file}")
-}
-
-/// For a migration's old file. No command can make it again.
-pub(crate) fn of_old(
-    alloc: Global,
-    order: &MigrateOptions<'_>,
-    why: Refusal,
-) -> Result<String, AllocError> {
-    let (index, count) = (order.index, order.count);
-    match why {
-        Refusal::Damaged => format!(in alloc; "its slots give no answer: look for a backup"),
-        Refusal::Unformatted => format!(in alloc;
-            "it was never formatted, or its header is gone: look for a backup"
-        ),
-        _ => format!(in alloc;
-            "it isn't the file of segment {index} of {count} with the {OLD_FILE_LEN} bytes of the old format"
-        ),
-    }
-}
-
-/// For a migration's new file.
-pub(crate) fn of_new(
-    alloc: Global,
-    order: &MigrateOptions<'_>,
-    why: Refusal,
-) -> Result<String, AllocError> {
-    match why {
-        Refusal::AlreadyFormatted => of_formatted(alloc, order.new),
-        _ => format!(in alloc;
-            "it is neither empty nor of the {FILE_LEN} bytes of a segment file: give another path"
-        ),
-    }
 }
 
 /// The command that formats the order's file, with letters for a place that the order doesn't name.

@@ -58,7 +58,14 @@ pub fn order_files(alloc: Global, places: &[SegmentPlace]) -> Result<Vec<usize>,
 {
     let count = common_count(places)?;
     let seats = seat_files(alloc, places, count)?;
-    seated(alloc, places, &seats, count)
+    let mut order = Vec::with_capacity(alloc, seats.len())?;
+    for index in 0..count {
+        let Some(file) = seats[usize::from(index)] else {
+            return Err(FolderFault::Missing { index, count });
+        };
+        order.push(file).map_err(|_| FolderFault::NoMemory)?;
+    }
+    Ok(order)
 }
 
 /// The number of segments, which is the same in each file's header.
@@ -101,31 +108,4 @@ fn seat_files(
         seats[index] = Some(second);
     }
     Ok(seats)
-}
-
-/// The files in order, if each segment has one.
-fn seated(
-    alloc: Global,
-    places: &[SegmentPlace],
-    seats: &[Option<usize>],
-    count: u8,
-) -> Result<Vec<usize>, FolderFault>
-    requires same { All (IsOneOf count) places.now }
-    requires few { count ≤ MAX_COUNT }
-    requires some { 0 < length places.now }
-    requires seats { IsSeating places.now count (length places.now) seats.now }
-    ensures order { IfOk result (λ order. IsOrderOf places.now order.items) }
-    ensures size { IfOk result (λ order. length order.items ≡ count) }
-    ensures fault { IfErr result (IsFaultOf places.now) }
-{
-    let mut order = Vec::with_capacity(alloc, seats.len())?;
-    for index in 0..count {
-        let Some(file) = seats[usize::from(index)] else {
-            return Err(FolderFault::Missing { index, count });
-        };
-        if order.push(file).is_err() {
-            return Err(FolderFault::NoMemory);
-        }
-    }
-    Ok(order)
 }

@@ -41,10 +41,9 @@ impl From<AllocError> for DumpFault {
     }
 }
 
-/// The beginning of a dump of any version.
+/// What a dump of any version begins with, and the version after it.
 const BEGINNING: &[u8] = b"{\"format\":\"snapd dump\",\"version\":";
 
-/// The version that follows it.
 const VERSION: &[u8] = b"1,";
 
 /// The last line before and after the digest.
@@ -63,36 +62,22 @@ pub(crate) fn fault_of(text: &[u8]) -> DumpFault {
     if BEGINNING.starts_with(text) {
         return DumpFault::CutOff;
     }
-    if !text.starts_with(BEGINNING) {
-        return DumpFault::NoDump;
-    }
-    let behind = &text[BEGINNING.len()..];
-    if VERSION.starts_with(behind) {
-        return DumpFault::CutOff;
-    }
-    if !behind.starts_with(VERSION) {
-        return DumpFault::OtherVersion;
-    }
-    let Some((lines, digits)) = parts(text) else {
-        return DumpFault::CutOff;
-    };
-    if is_digest(lines, digits) {
-        DumpFault::Foreign
-    } else {
-        DumpFault::Changed
+    match text.strip_prefix(BEGINNING) {
+        None => DumpFault::NoDump,
+        Some(behind) if VERSION.starts_with(behind) => DumpFault::CutOff,
+        Some(behind) if !behind.starts_with(VERSION) => DumpFault::OtherVersion,
+        Some(_) => match parts(text) {
+            None => DumpFault::CutOff,
+            Some((lines, digits)) if is_digest(lines, digits) => DumpFault::Foreign,
+            Some(_) => DumpFault::Changed,
+        },
     }
 }
 
 /// The lines before the last one, and the digits in the last one. `None` if that doesn't have its form.
 fn parts(text: &[u8]) -> Option<(&[u8], &[u8])> {
-    if text.len() < LAST_LINE {
-        return None;
-    }
-    let (lines, last) = text.split_at(text.len() - LAST_LINE);
-    if !last.starts_with(BEFORE) || !last.ends_with(BEHIND) {
-        return None;
-    }
-    Some((lines, &last[BEFORE.len()..BEFORE.len() + DIGITS]))
+    let (lines, last) = text.split_at(text.len().checked_sub(LAST_LINE)?);
+    Some((lines, last.strip_prefix(BEFORE)?.strip_suffix(BEHIND)?))
 }
 
 /// Whether these digits are the digest of the lines.

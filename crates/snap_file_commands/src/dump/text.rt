@@ -1,8 +1,8 @@
 //! Writes dumps.
-ghost use Rattle.std.specs.Prelude.{◌≡◌, ◌++◌, ◌∷◌, [], IfOk, OnOk};
+ghost use Rattle.std.specs.Prelude.{◌≡◌, ◌++◌, ◌∷◌, [], IfOk};
 ghost use Rattle.json.specs.Print.{print};
 ghost use Rattle.snap_json.specs.Each.{each_from};
-ghost use Rattle.snap_file_commands.specs.Document.{comma_before, dump_text, head_tokens, last_line, row};
+ghost use Rattle.snap_file_commands.specs.Document.{dump_text, head_tokens, last_line, row};
 
 use json::Writer;
 use sha2::{Digest, Sha256};
@@ -66,19 +66,11 @@ fn with_value(
 ) -> Result<Vec<u8>, AllocError>
     ensures { IfOk result (λ lines. lines.items ≡ text.items ++ row index value.now) }
 {
-    push_comma(&mut text, index)?;
-    text.push(b'\n')?;
-    append_value(alloc, text, index, value.number, value.value.as_slice())
-}
-
-/// Appends the comma that ends the line before this segment's, if that is a segment's too.
-fn push_comma(text: &mut Vec<u8>, index: usize) -> Result<(), AllocError>
-    ensures { OnOk result (text.new.items ≡ text.old.items ++ comma_before index) }
-{
     if index > 0 {
         text.push(b',')?;
     }
-    Ok(())
+    text.push(b'\n')?;
+    append_value(alloc, text, index, value.number, value.value.as_slice())
 }
 
 /// Appends the last line, which has the digest of the lines before it.

@@ -6,4 +6,4 @@ use Rattle.snap_file_commands.proofs.slot_value.value_in.Goals as goal
 pub returns-in-Closed-clause-flaw : goal.returns-in-Closed-clause-flaw
 returns-in-Closed-clause-flaw c =
     let closed = c.in-Closed.ensures in
-    absurd (closed.closed (gate_block-same closed.gate OPEN_GATE (sym closed.is ∙ c.open_gate-gate.ensures)))
+    absurd (closed.closed (gate_block-same closed.gate OPEN_GATE (sym closed.is ∙ c.open_gate.ensures)))

@@ -1,0 +1,15 @@
+use Rattle.std.proofs.Common.{◌<◌, ◌∙◌, None, Some, ap, arith, get_or, length}
+use Rattle.std.proofs.lemmas.Option.{slice_get-get_or}
+use Rattle.snap_json.proofs.Growth.{same_place}
+use Rattle.snap_file_commands.proofs.segment_order.order_files.Goals as goal
+
+pub returns-clause-within : goal.returns-clause-within
+returns-clause-within c = λ k d below.
+    let order = c.loop-index.order.items in
+    let seats = c.in_ok-seats.seats.items in
+    let inv = c.loop-index.invariant in
+    let seating = c.in_ok-seats.ensures.seats in
+    let early : k < c.loop-index.index = omega (arith, below, inv.0) in
+    let inside : k < length seats = omega (arith, early, seating.size, c.loop-index.auto.index-end) in
+    let sits = slice_get-get_or seats k None inside ∙ ap Some (inv.2 k early) in
+    rw (same_place order k d 0 below) (seating.back k (get_or order k 0) sits).0
