@@ -1,7 +1,7 @@
 //! The lines that a server prints once it is ready.
 ghost use Rattle.std.specs.Prelude.{◌≡◌, IfOk, string_bytes};
 ghost use Rattle.std.specs.Io.KnownBytes.{Appends};
-ghost use Rattle.snap_serve.specs.Serve.{listening_line, listening_text};
+ghost use Rattle.snap_serve.specs.Serve.{listening_text};
 ghost use Rattle.snap_stream.specs.Streams.{AppendsBeginning};
 
 use crate::report::print_line;
@@ -23,17 +23,9 @@ pub(crate) fn lines_of(alloc: Global, endpoints: &[Endpoint]) -> Result<String, 
 {
     let mut lines = String::new(alloc);
     'places: for endpoint in endpoints {
-        let line = line_of(alloc, endpoint)?;
-        lines.push_str(&line)?;
+        write!(lines, "listening {endpoint}\n")?;
     }
     Ok(lines)
-}
-
-/// Makes the line of one address.
-fn line_of(alloc: Global, endpoint: &Endpoint) -> Result<String, AllocError>
-    ensures { IfOk result (λ line. string_bytes line ≡ listening_line endpoint.now) }
-{
-    format!(in alloc; "listening {endpoint}\n")
 }
 
 impl<W: Write, H: ServerObserver + Drop> Announce<W> for Announcement<H> {

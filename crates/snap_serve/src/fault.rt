@@ -80,10 +80,7 @@ impl HostFault {
 
 /// The address at this index of the command line.
 fn address_at<'a>(order: &ServeOptions<'a>, place: usize) -> &'a str {
-    match order.addresses.get(place) {
-        Some(address) => *address,
-        None => "",
-    }
+    order.addresses.get(place).map_or("", |address| *address)
 }
 
 /// The advice after an address that couldn't be bound.
@@ -143,10 +140,7 @@ fn remedy_line<C: SystemReason>(
 fn line_of(alloc: Global, file: &str, text: &String) -> Option<String>
     ensures { IfSome result (λ line. string_bytes line ≡ file_line file.now (string_bytes text.now)) }
 {
-    match format!(in alloc; "snapd: {file}: {text}\n") {
-        Ok(line) => Some(line),
-        Err(_) => None,
-    }
+    format!(in alloc; "snapd: {file}: {text}\n").ok()
 }
 
 /// The advice after a file's refusal. `len` is the file's length in bytes.
@@ -159,73 +153,27 @@ fn remedy_of<C: SystemReason>(
     why: Refusal,
     len: u64,
 ) -> Result<String, AllocError> {
-    match why {
-        Refusal::WrongFile => of_wrong(alloc, file, segment, count, len),
-        Refusal::Unformatted => of_unformatted(alloc, file, segment, count),
-        Refusal::DeviceFailed => of_failed(alloc, cause_of(alloc, causes, segment)),
-        _ => format!(in alloc; "it doesn't hold a segment's number: see snapd check {file}"),
-    }
-}
-
-/// The advice about a file that isn't this segment's, by its length.
-fn of_wrong(
-    alloc: Global,
-    file: &str,
-    segment: usize,
-    count: usize,
-    len: u64,
-) -> Result<String, AllocError> {
-    match len {
-        0 => of_empty(alloc, file, segment, count),
-        OLD_FILE_LEN => old_format_remedy(alloc, file),
-        _ => of_another(alloc, file, segment, count),
-    }
-}
-
-/// The advice about an empty file: a `format` that was interrupted leaves one.
-fn of_empty(alloc: Global, file: &str, segment: usize, count: usize) -> Result<String, AllocError> {
-    let command = words_of_format(alloc, file, segment, count)?;
-    empty_remedy(alloc, command.as_str())
-}
-
-/// The advice about a file that is another segment's, or no segment's.
-fn of_another(
-    alloc: Global,
-    file: &str,
-    segment: usize,
-    count: usize,
-) -> Result<String, AllocError> {
-    format!(in alloc; "it isn't the file of segment {segment} of {count}: see snapd check {file}")
-}
-
-/// The advice about a file whose header's gate is closed.
-fn of_unformatted(
-    alloc: Global,
-    file: &str,
-    segment: usize,
-    count: usize,
-) -> Result<String, AllocError> {
-    let command = words_of_format(alloc, file, segment, count)?;
-    unformatted_remedy(alloc, command.as_str())
-}
-
-/// The command that formats a file as this segment's.
-fn words_of_format(
-    alloc: Global,
-    file: &str,
-    segment: usize,
-    count: usize,
-) -> Result<String, AllocError> {
-    format_command(alloc, file, segment as u64, count as u64)
-}
-
-/// The advice about a file whose device failed, with the system's message.
-fn of_failed(alloc: Global, cause: Option<String>) -> Result<String, AllocError> {
-    match cause {
-        Some(cause) => format!(in alloc; "{cause}: look after its disk, and start again"),
-        None => format!(in alloc;
-            "a call of its device failed: look after its disk, and start again"
+    match (why, len) {
+        // A `format` that was interrupted leaves an empty file.
+        (Refusal::WrongFile, 0) => {
+            let command = format_command(alloc, file, segment as u64, count as u64)?;
+            empty_remedy(alloc, command.as_str())
+        }
+        (Refusal::WrongFile, OLD_FILE_LEN) => old_format_remedy(alloc, file),
+        (Refusal::WrongFile, _) => format!(in alloc;
+            "it isn't the file of segment {segment} of {count}: see snapd check {file}"
         ),
+        (Refusal::Unformatted, _) => {
+            let command = format_command(alloc, file, segment as u64, count as u64)?;
+            unformatted_remedy(alloc, command.as_str())
+        }
+        (Refusal::DeviceFailed, _) => match cause_of(alloc, causes, segment) {
+            Some(cause) => format!(in alloc; "{cause}: look after its disk, and start again"),
+            None => format!(in alloc;
+                "a call of its device failed: look after its disk, and start again"
+            ),
+        },
+        _ => format!(in alloc; "it doesn't hold a segment's number: see snapd check {file}"),
     }
 }
 

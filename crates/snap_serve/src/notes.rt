@@ -8,7 +8,14 @@ use snap_session::End;
 /// of a connection is logged for debugging, except if memory ran out, which is a warning.
 pub fn log_note<L: Log>(log: &L, note: &ServerEvent) {
     match *note {
-        ServerEvent::Ended(ended) => log_end(log, ended),
+        ServerEvent::Ended(Closed { peer, how }) => {
+            let text = text_of(how);
+            if how == CloseReason::Session(End::NoMemory) {
+                warn!(log; target: "connection", "{peer} {text}");
+            } else {
+                debug!(log; target: "connection", "{peer} {text}");
+            }
+        }
         ServerEvent::Full { open } => warn!(log; target: "accept",
             "{open} connections are open, and there is no room for more: callers wait"
         ),
@@ -17,16 +24,6 @@ pub fn log_note<L: Log>(log: &L, note: &ServerEvent) {
         ServerEvent::Deaf => warn!(log; target: "accept",
             "the listener fails: no more connections are taken, and the server stops"
         ),
-    }
-}
-
-fn log_end<L: Log>(log: &L, ended: Closed) {
-    let Closed { peer, how } = ended;
-    let text = text_of(how);
-    if how == CloseReason::Session(End::NoMemory) {
-        warn!(log; target: "connection", "{peer} {text}");
-    } else {
-        debug!(log; target: "connection", "{peer} {text}");
     }
 }
 

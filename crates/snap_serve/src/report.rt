@@ -21,13 +21,8 @@ pub(crate) fn print_report<W: Write>(
     ensures failed { IfErr result
         (PrintFails (W.contents writer.old) (W.contents writer.new) (report_text report.now)) }
 {
-    let Ok(text) = report.to_string(alloc) else {
-        return Err(HostFault::NoMemory);
-    };
-    match print_line(&text, writer) {
-        Ok(()) => Ok(()),
-        Err(error) => Err(HostFault::Output(error)),
-    }
+    let text = report.to_string(alloc).map_err(|_| HostFault::NoMemory)?;
+    print_line(&text, writer).map_err(HostFault::Output)
 }
 
 /// Prints how many connections were served.
@@ -39,13 +34,8 @@ pub(crate) fn print_served<W: Write>(
     ensures whole { OnOk result (Appends (W.contents writer.old) (W.contents writer.new) (served_line served)) }
     ensures failed { IfErr result (PrintFails (W.contents writer.old) (W.contents writer.new) (served_line served)) }
 {
-    let Ok(line) = format!(in alloc; "served {served}\n") else {
-        return Err(HostFault::NoMemory);
-    };
-    match print_line(&line, writer) {
-        Ok(()) => Ok(()),
-        Err(error) => Err(HostFault::Output(error)),
-    }
+    let line = format!(in alloc; "served {served}\n").map_err(|_| HostFault::NoMemory)?;
+    print_line(&line, writer).map_err(HostFault::Output)
 }
 
 /// Prints a whole text and flushes it. No clause says that it is flushed, since a flush doesn't
@@ -54,8 +44,6 @@ pub(crate) fn print_line<W: Write>(text: &String, writer: &mut W) -> io::Result<
     ensures whole { OnOk result (Appends (W.contents writer.old) (W.contents writer.new) (string_bytes text.now)) }
     ensures beginning { AppendsBeginning (W.contents writer.old) (W.contents writer.new) (string_bytes text.now) }
 {
-    match write_whole(writer, text.as_bytes()) {
-        Ok(()) => writer.flush(),
-        Err(error) => Err(error),
-    }
+    write_whole(writer, text.as_bytes())?;
+    writer.flush()
 }

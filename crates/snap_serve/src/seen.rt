@@ -1,12 +1,11 @@
 //! Running a server with an observer.
-ghost use Rattle.std.specs.Prelude.{◌≡◌, ◌-◌, ◌≤◌, Some, IfOk, IfErr, length};
+ghost use Rattle.std.specs.Prelude.{◌≡◌, Some, IfOk, IfErr};
 ghost use Rattle.std.specs.Thread.{IsSync, IsSend};
 ghost use Rattle.snap_session.specs.Asked.{AllAsked};
 ghost use Rattle.snap_server.specs.{Announced.Announced, Deals.GivesSoMany};
 
 use crate::observer::Observer;
-use snap_desk::{Desk, ReadOnlyService, UpdateObserver};
-use snap_disk::Disk;
+use snap_desk::ReadOnlyService;
 use snap_server::{Announce, Gate, Limits, Listen, RunFault, ServerEvent, ServerFault, run};
 use snap_service::Memory;
 use snap_session::{Background, Service};
@@ -14,39 +13,7 @@ use std::alloc::Global;
 use std::net::Net;
 use std::rt::Clock;
 use std::sync::Wait;
-use std::thread;
-use std::thread::Threads;
-
-/// An observer, and the service by which it reads.
-#[derive(Drop)]
-pub(crate) struct ObserverTask<'a, M: Memory, O> {
-    service: ReadOnlyService<M>,
-    observer: &'a O,
-}
-
-/// Takes the last desk for the observer; the others are the workers'. `None` if there is no desk.
-pub(crate) fn take_observer<
-    'a,
-    R: Wait + Copy + Clock,
-    M: Memory,
-    D: Disk + Drop,
-    H: UpdateObserver + Drop,
-    O,
->(
-    desks: &mut Vec<Desk<R, M, D, H>>,
-    observer: &'a O,
-) -> Result<Option<ObserverTask<'a, M, O>>, ServerFault>
-    ensures fewer { length desks.new.items ≤ length desks.old.items - 1 }
-    ensures faults { IfErr result (λ fault. fault ≡ ServerFault.NoMemory) }
-{
-    let Some(desk) = desks.pop() else {
-        return Ok(None);
-    };
-    match desk.into_read_only() {
-        Ok(service) => Ok(Some(ObserverTask { service, observer })),
-        Err(_) => Err(ServerFault::NoMemory),
-    }
-}
+use std::thread::{self, Threads};
 
 /// Serves as [`run`] does, while the observer runs in a thread of its own, which ends once the server has ended.
 pub(crate) fn run_observed<X, L, S, B, M, O, G, N, T, A>(
@@ -55,7 +22,8 @@ pub(crate) fn run_observed<X, L, S, B, M, O, G, N, T, A>(
     listener: L,
     services: Vec<S>,
     backgrounds: Vec<B>,
-    task: ObserverTask<'_, M, O>,
+    service: ReadOnlyService<M>,
+    observer: &O,
     limits: Limits,
     gate: &G,
     note: &N,
@@ -81,7 +49,6 @@ where
     ensures deaf { IfErr result (λ why. why ≡ RunFault.Server ServerFault.AcceptFailed → L.refuses listener) }
     ensures announced { Announced (A.announces announce.now) (A.fails announce.now) to.old result to.new }
 {
-    let ObserverTask { service, observer } = task;
     let (ended, _to) = thread::scope(
         thread::scope_env(),
         rt,

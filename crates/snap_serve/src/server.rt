@@ -6,7 +6,7 @@ ghost use Rattle.snap_history.specs.declared.limits.TheConstants.{MAX_SCANNERS};
 ghost use Rattle.snap_restart.specs.Closed.{AreBack};
 ghost use Rattle.snap_service.specs.Asked.{AreAsOpened};
 ghost use Rattle.snap_serve.specs.Scanners.{HasMetrics, MayServe, MayServeOpened};
-ghost use Rattle.snap_serve.specs.Serve.{EndsHost, EndsServing, IsLengthAt, IsNamed, ListenFails};
+ghost use Rattle.snap_serve.specs.Serve.{EndsServing, IsLengthAt, IsNamed, ListenFails};
 ghost use Rattle.snap_serve.specs.Serve.{TellsItsEnd, addresses_of, failure_of, site_at, unbound_failure};
 
 use crate::announcement::{Announcement, lines_of};
@@ -16,7 +16,7 @@ use crate::observer::Observer;
 use crate::report::{print_report, print_served};
 use crate::runtime::Runtime;
 use crate::server_observer::ServerObserver;
-use crate::stores::serve_store;
+use crate::stores::serve_memory;
 use snap_desk::UpdateObserver;
 use snap_disk::Disk;
 use snap_history::MAX_SCANNERS;
@@ -27,6 +27,7 @@ use snap_server::{BindFault, Gate, Limits, LocalAddress, RunFault, ServerEvent, 
 use snap_stream::SystemReason;
 use std::alloc::Global;
 use std::io::Write;
+use std::marker::Brand;
 use std::time::Duration;
 
 /// The pause after the first fault of the listener, in milliseconds. With the longer pauses after
@@ -100,56 +101,22 @@ where
         (W.contents writer.old) (W.contents writer.new) }
 {
     let causes = environment.causes;
-    match open_and_serve(rt, alloc, order, devices, environment, writer) {
-        Ok(_) => Exit {
-            status: Status::Done,
-            is_told: true,
-        },
-        Err(failure) => failure.report(alloc, order, causes, errors),
-    }
-}
-
-/// Opens the files, prints the report, listens and serves. Returns the number of connections served.
-fn open_and_serve<X, D, B, G, N, H, C, O, W>(
-    rt: &X,
-    alloc: Global,
-    order: &ServeOptions<'_>,
-    devices: Vec<D>,
-    environment: Environment<'_, B, G, N, H, C, O>,
-    writer: &mut W,
-) -> Result<u64, HostFault>
-where
-    X: Runtime,
-    D: Disk + Send + Drop,
-    B: Bind,
-    B::Listener: Drop,
-    G: Gate + Sync,
-    N: Fn(&ServerEvent) + Sync,
-    H: ServerObserver + UpdateObserver + Copy + Send + Drop,
-    C: SystemReason,
-    O: Observer + Sync,
-    W: Write,
-    requires order { IsServable order.now }
-    requires devices { length devices.items ≡ length order.now.files.items }
-    requires headroom { All (λ d. D.failure_count d < 2 ^ 64 - 1) devices.items }
-    requires memory { MayServeOpened D.Disk B.Listener.Listen.may_serve devices.items }
-    requires metrics { order.now.scanners ≤ environment.metrics.now.workers }
-    requires note { N.IsAlwaysCallable environment.note.now }
-    ensures ends { EndsHost D.Disk devices.items
-        (site_at B.Bind B.Listener.LocalAddress B.Listener.Listen environment.entry.bind.now
-        (addresses_of order.now)) order.now.connections (W.contents writer.old) (W.contents writer.new) result }
-{
-    match open_all(
-        alloc,
-        devices,
-        seats_of(order, environment.observer.is_some()),
-    ) {
-        Ok((store, report)) => serve_opened(rt, alloc, order, store, &report, environment, writer),
-        Err(stopped) => Err(HostFault::Refused {
-            segment: stopped.segment,
-            why: stopped.refusal,
-            len: length_at(&stopped.devices, stopped.segment),
-        }),
+    let seats = seats_of(order, environment.observer.is_some());
+    match open_all(alloc, devices, seats) {
+        Ok((store, report)) => {
+            match serve_opened(rt, alloc, order, store, &report, environment, writer) {
+                Ok(_) => Exit {
+                    status: Status::Done,
+                    is_told: true,
+                },
+                Err(failure) => failure.report(alloc, order, causes, errors),
+            }
+        }
+        Err(stopped) => {
+            let len = length_at(&stopped.devices, stopped.segment);
+            let (segment, why) = (stopped.segment, stopped.refusal);
+            HostFault::Refused { segment, why, len }.report(alloc, order, causes, errors)
+        }
     }
 }
 
@@ -218,34 +185,27 @@ where
         Ok(listening) => listening,
         Err(failure) => return Err(failure),
     };
-    let Environment {
-        gate,
-        note,
-        watch,
-        metrics,
-        observer,
-        clients,
-        idle,
-        ..
-    } = environment;
     let limits = Limits {
         connections: order.connections,
-        clients,
+        clients: environment.clients,
         fault_rest: Duration::from_millis(FAULT_REST),
-        idle,
+        idle: environment.idle,
     };
+    let (writers, scanners) = store.into_parts();
+    let watch = environment.watch;
     let announcement = Announcement { lines, watch };
-    let ended = serve_store(
+    let ended = serve_memory::<Brand, X, D, B::Listener, G, N, H, O, Announcement<H>, W>(
         rt,
         alloc,
-        store,
+        writers,
+        scanners,
         listener,
         limits,
-        gate,
-        note,
+        environment.gate,
+        environment.note,
         watch,
-        metrics,
-        observer,
+        environment.metrics,
+        environment.observer,
         &announcement,
         writer,
     );
@@ -298,12 +258,7 @@ where
     ensures failed { IfErr result (ListenFails (site_at B.Bind B.Listener.LocalAddress B.Listener.Listen bind.now
         (map (λ a. a.now) addresses.now.items))) }
 {
-    let listener = match bind.bind(alloc, addresses) {
-        Ok(listener) => listener,
-        Err(unbound) => return Err(unbound_failure(unbound)),
-    };
-    match lines_of(alloc, listener.endpoints()) {
-        Ok(lines) => Ok((listener, lines)),
-        Err(_) => Err(HostFault::NoMemory),
-    }
+    let listener = bind.bind(alloc, addresses).map_err(unbound_failure)?;
+    let lines = lines_of(alloc, listener.endpoints()).map_err(|_| HostFault::NoMemory)?;
+    Ok((listener, lines))
 }

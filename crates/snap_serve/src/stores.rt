@@ -1,29 +1,26 @@
 //! The storer threads, and the workers' desks.
-ghost use Rattle.std.specs.Prelude.{◌≡◌, ◌+◌, ◌≤◌, ◌∷◌, ◌++◌, [], length, Some, IfOk, IfErr, OnOk};
-ghost use Rattle.snap_memory.specs.{Rule.segments, Seat.own_of};
-ghost use Rattle.snap_service.specs.Asked.{AreAsOpened, IsAsOpened};
-ghost use Rattle.snap_service.specs.Memory.{AreWriters, IsOf, number_of};
+ghost use Rattle.std.specs.Prelude.{◌≡◌, ◌≤◌, length, Some, IfOk, IfErr};
+ghost use Rattle.snap_memory.specs.Rule.{segments};
+ghost use Rattle.snap_service.specs.Asked.{AreAsOpened};
+ghost use Rattle.snap_service.specs.Memory.{AreWriters, number_of};
 ghost use Rattle.snap_session.specs.Asked.{AllAsked};
-ghost use Rattle.snap_restart.specs.Closed.{AreBack};
 ghost use Rattle.snap_serve.specs.Handles.{AreHandles};
-ghost use Rattle.snap_serve.specs.Scanners.{AreScanners, HasMetrics, MayServe};
+ghost use Rattle.snap_serve.specs.Scanners.{AreScanners, HasMetrics};
 ghost use Rattle.snap_server.specs.{Announced.Announced, Deals.GivesSoMany};
 
 use crate::counted::CountedListener;
 use crate::observer::Observer;
 use crate::runtime::Runtime;
-use crate::seen::{ObserverTask, run_observed, take_observer};
+use crate::seen::run_observed;
 use snap_desk::{Desk, Outcome, Storer, StorerHandle, UpdateObserver};
 use snap_disk::Disk;
 use snap_memory::Scanner;
 use snap_metrics::{CountingService, Metrics};
-use snap_restart::Store;
 use snap_server::{Announce, Gate, Limits, Listen, RunFault, ServerEvent, ServerFault, run};
 use snap_service::Memory;
 use snap_session::{Background, Completion};
 use snap_writer::Writer;
 use std::alloc::{AllocError, Global};
-use std::marker::Brand;
 use std::rt::Clock;
 use std::sync::Wait;
 
@@ -63,34 +60,16 @@ fn open_stores<R: Wait + Copy, M: Memory, D: Disk + Drop, H: UpdateObserver + Co
     let mut stores = Vec::new(alloc);
     let mut handles = Vec::new(alloc);
     'writers: for writer in writers {
-        add_store::<R, M, D, H>(rt, alloc, writer, watch, &mut stores, &mut handles)?;
+        let segment = writer.segment();
+        let (store, handle) = Storer::new(rt, alloc, writer)?;
+        stores.push(Storing {
+            store,
+            segment,
+            watch,
+        })?;
+        handles.push(handle)?;
     }
     Ok((stores, handles))
-}
-
-/// Adds a storer for this writer of the memory, and its handle.
-fn add_store<R: Wait + Copy, M: Memory, D: Disk + Drop, H: UpdateObserver + Copy + Drop>(
-    rt: R,
-    alloc: Global,
-    writer: Writer<D>,
-    watch: H,
-    stores: &mut Vec<Storing<R, M, D, H>>,
-    handles: &mut Vec<StorerHandle<M, D>>,
-) -> Result<(), AllocError>
-    requires memory { IsOf M.table M.plan writer.seat }
-    requires opened { IsAsOpened writer }
-    ensures stores { OnOk result (length stores.new.items ≡ length stores.old.items + 1) }
-    ensures handles { OnOk result (handles.new.items ≡ handles.old.items ++ own_of writer.seat ∷ []) }
-{
-    let segment = writer.segment();
-    let (store, handle) = Storer::new(rt, alloc, writer)?;
-    stores.push(Storing {
-        store,
-        segment,
-        watch,
-    })?;
-    handles.push(handle)?;
-    Ok(())
 }
 
 /// Makes a desk for each scanner.
@@ -107,52 +86,10 @@ fn open_desks<R: Wait + Copy + Clock, M: Memory, D: Disk + Drop, H: UpdateObserv
 {
     let mut desks = Vec::new(alloc);
     'scanners: for scanner in scanners {
-        desks.push(open_desk(rt, alloc, desks.len(), &handles, scanner, watch)?)?;
+        let desk = Desk::new(rt, alloc, desks.len(), handles.clone()?, scanner, watch);
+        desks.push(desk)?;
     }
     Ok(desks)
-}
-
-/// Makes the desk of this worker, with handles of its own.
-fn open_desk<R: Wait + Copy + Clock, M: Memory, D: Disk + Drop, H: UpdateObserver + Copy + Drop>(
-    rt: R,
-    alloc: Global,
-    worker: usize,
-    handles: &Vec<StorerHandle<M, D>>,
-    scanner: Scanner,
-    watch: H,
-) -> Result<Desk<R, M, D, H>, AllocError>
-    requires handles { AreHandles (segments M.plan) handles.now.items }
-    requires memory { IsOf M.table M.plan scanner }
-{
-    Ok(Desk::new(rt, alloc, worker, handles.clone()?, scanner, watch))
-}
-
-/// Makes the desks and storers of a server over the memory of these writers and scanners.
-fn open_parts<M, X, D, H>(
-    rt: X,
-    alloc: Global,
-    writers: Vec<Writer<D>>,
-    scanners: Vec<Scanner>,
-    watch: H,
-) -> Result<(Vec<Desk<X, M, D, H>>, Vec<Storing<X, M, D, H>>), ServerFault>
-where
-    M: Memory,
-    X: Wait + Clock + Copy,
-    D: Disk + Drop,
-    H: UpdateObserver + Copy + Drop,
-    requires writers { AreWriters M.table M.plan writers.items }
-    requires opened { AreAsOpened writers.items }
-    requires scanners { AreScanners M.table M.plan scanners.items }
-    ensures desks { IfOk result (λ parts. length parts.0.items ≡ length scanners.items) }
-    ensures faults { IfErr result (λ fault. fault ≡ ServerFault.NoMemory) }
-{
-    let Ok((stores, handles)) = open_stores::<X, M, D, H>(rt, alloc, writers, watch) else {
-        return Err(ServerFault::NoMemory);
-    };
-    let Ok(desks) = open_desks::<X, M, D, H>(rt, alloc, handles, scanners, watch) else {
-        return Err(ServerFault::NoMemory);
-    };
-    Ok((desks, stores))
 }
 
 /// Wraps each desk, so that its answers are counted in its worker's metrics.
@@ -171,8 +108,9 @@ fn count_all<'f, S: Drop>(
     Ok(services)
 }
 
-/// Serves the memory of these writers and scanners, as [`run`] does. If there is an observer, it gets the last scanner.
-fn serve_memory<M, X, D, L, G, N, H, O, A, T>(
+/// Serves the memory of these writers and scanners, as [`run`] does: with a worker for each scanner, and a storer
+/// thread for each writer. If there is an observer, it gets the last scanner.
+pub(crate) fn serve_memory<M, X, D, L, G, N, H, O, A, T>(
     rt: &X,
     alloc: Global,
     writers: Vec<Writer<D>>,
@@ -209,69 +147,33 @@ where
     ensures deaf { IfErr result (λ why. why ≡ RunFault.Server ServerFault.AcceptFailed → L.refuses listener) }
     ensures announced { Announced (A.announces announce.now) (A.fails announce.now) to.old result to.new }
 {
-    let (mut desks, stores) = match open_parts::<M, X, D, H>(*rt, alloc, writers, scanners, watch) {
-        Ok(parts) => parts,
-        Err(fault) => return Err(RunFault::Server(fault)),
+    let listener = CountedListener::new(listener, metrics);
+    let Ok((stores, handles)) = open_stores::<X, M, D, H>(*rt, alloc, writers, watch) else {
+        return Err(RunFault::Server(ServerFault::NoMemory));
     };
-    let task = match observer {
-        Some(observer) => match take_observer(&mut desks, observer) {
-            Ok(task) => task,
-            Err(fault) => return Err(RunFault::Server(fault)),
+    let Ok(mut desks) = open_desks::<X, M, D, H>(*rt, alloc, handles, scanners, watch) else {
+        return Err(RunFault::Server(ServerFault::NoMemory));
+    };
+    let seen = match observer {
+        Some(observer) => match desks.pop() {
+            Some(desk) => match desk.into_read_only() {
+                Ok(service) => Some((service, observer)),
+                Err(_) => return Err(RunFault::Server(ServerFault::NoMemory)),
+            },
+            None => None,
         },
         None => None,
     };
     let Ok(services) = count_all(alloc, desks, metrics) else {
         return Err(RunFault::Server(ServerFault::NoMemory));
     };
-    match task {
-        Some(task) => run_observed(
-            rt, alloc, listener, services, stores, task, limits, gate, note, announce, to,
+    match seen {
+        Some((service, observer)) => run_observed(
+            rt, alloc, listener, services, stores, service, observer, limits, gate, note, announce,
+            to,
         ),
         None => run(
             rt, alloc, listener, services, stores, limits, gate, note, announce, to,
         ),
     }
-}
-
-/// Serves this store, as [`run`] does: with a worker for each scanner, and a storer thread for each
-/// writer. If there is an observer, it gets the last scanner.
-pub(crate) fn serve_store<X, D, L, G, N, H, O, A, T>(
-    rt: &X,
-    alloc: Global,
-    store: Store<D>,
-    listener: L,
-    limits: Limits,
-    gate: &G,
-    note: &N,
-    watch: H,
-    metrics: &Metrics,
-    observer: Option<&O>,
-    announce: &A,
-    to: &mut T,
-) -> Result<u64, RunFault>
-where
-    X: Runtime,
-    D: Disk + Send + Drop,
-    L: Listen + Drop,
-    G: Gate + Sync,
-    N: Fn(&ServerEvent) + Sync,
-    H: UpdateObserver + Copy + Send + Drop,
-    O: Observer + Sync,
-    A: Announce<T>,
-    requires back { AreBack store.writers.items store.scanners.items }
-    requires opened { AreAsOpened store.writers.items }
-    requires memory { MayServe L.may_serve store.scanners.items }
-    requires metrics { HasMetrics observer (length store.scanners.items) metrics.now.workers }
-    requires note { N.IsAlwaysCallable note.now }
-    ensures asked { IfOk result (λ k. limits.connections ≡ Some k) }
-    ensures accepted { IfOk result (λ k. (left : L) × GivesSoMany L.accepts k listener left) }
-    ensures deaf { IfErr result (λ why. why ≡ RunFault.Server ServerFault.AcceptFailed → L.refuses listener) }
-    ensures announced { Announced (A.announces announce.now) (A.fails announce.now) to.old result to.new }
-{
-    let (writers, scanners) = store.into_parts();
-    let listener = CountedListener::new(listener, metrics);
-    serve_memory::<Brand, X, D, CountedListener<'_, L>, G, N, H, O, A, T>(
-        rt, alloc, writers, scanners, listener, limits, gate, note, watch, metrics, observer,
-        announce, to,
-    )
 }

@@ -1,4 +1,6 @@
+use Rattle.snap_frame.specs.declared.request.Request.TheVariants.{Update, Scan, Status, Part}
 use Rattle.snap_serve.specs.Serve.{addresses_of, site_at}
+use Rattle.snap_serve.proofs.Memories.{writers_of, scanners_of, serves_first}
 use Rattle.snap_serve.proofs.Written.{IsListening, ended_early, listen_failed, listening, served, served_failed}
 use Rattle.snap_serve.proofs.server.serve_opened.Goals as goal
 use Rattle.snap_serve.proofs.server.serve_opened.Goals.{After-print_served}
@@ -9,12 +11,37 @@ returns-in-Err-listen g c = record {
       c.in-Err-listen.ensures.failed;
 }
 
+pub serve_memory-ended-requires-clause-writers : goal.serve_memory-ended-requires-clause-writers
+serve_memory-ended-requires-clause-writers g c = λ κs within.
+    rw (c.into_parts-writers.ensures.scanners, c.into_parts-writers.ensures.writers)
+    (writers_of c.args.store.writers.items c.args.store.scanners.items c.requires.back)
+
+pub serve_memory-ended-requires-clause-scanners : goal.serve_memory-ended-requires-clause-scanners
+serve_memory-ended-requires-clause-scanners g c = λ κs within. rw c.into_parts-writers.ensures.scanners
+    (scanners_of c.args.store.writers.items c.args.store.scanners.items c.requires.back)
+
+pub serve_memory-ended-requires-clause-opened : goal.serve_memory-ended-requires-clause-opened
+serve_memory-ended-requires-clause-opened g c = λ κs within. rw c.into_parts-writers.ensures.writers c.requires.opened
+
+pub serve_memory-ended-requires-clause-requests : goal.serve_memory-ended-requires-clause-requests
+serve_memory-ended-requires-clause-requests g c = λ κs within. elim [
+  | Update i k v ↦ tt
+  | Scan ↦ tt
+  | Status ↦ tt
+  | Part set ↦ tt
+]
+
+pub serve_memory-ended-requires-clause-memory : goal.serve_memory-ended-requires-clause-memory
+serve_memory-ended-requires-clause-memory g c = λ κs within. rw c.into_parts-writers.ensures.scanners
+    (serves_first g.B.Listener.Listen.may_serve c.args.store.scanners.items c.requires.back.some_scanner
+    c.requires.memory)
+
 -- it printed that it listens, and served
 listens : (g : _) (c : After-print_served g)
     → IsListening (site_at g.B.Bind g.B.Listener.LocalAddress g.B.Listener.Listen
     c.args.environment.bind.now (addresses_of c.args.order.now)) c.in-Ok-listen.listening.0
     c.args.report.now (g.W.Write.contents c.args.writer.now)
-    (g.W.Write.contents c.serve_store-ended.new.to)
+    (g.W.Write.contents c.serve_memory-ended.new.to)
 listens g c = listening _ _ _ c.args.report.now _ (g.W.Write.contents c.print_report.new.writer) _
     c.in-Ok.ensures.whole c.in-Ok-listen.ensures.bound c.in-Ok-ended.ensures.announced
 
@@ -35,7 +62,7 @@ returns-in-Ok-ended g c = record {
 pub returns : goal.returns
 returns g c = record {
   ends = rw c.failure_of.ensures (ended_early g.W.Write.contents _ c.args.order.now.connections
-      c.args.report.now _ c.print_report.new.writer c.serve_store-ended.new.to
+      c.args.report.now _ c.print_report.new.writer c.serve_memory-ended.new.to
       c.in-Ok-listen.listening.0 _ c.in-Ok.ensures.whole c.in-Ok-listen.ensures.bound
       c.in-Err-ended.fault c.in-Err-ended.ensures.announced c.in-Err-ended.ensures.deaf);
 }

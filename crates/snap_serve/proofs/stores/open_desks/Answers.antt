@@ -4,8 +4,8 @@ use Rattle.std.proofs.lemmas.List.{length_push}
 use Rattle.snap_history.proofs.Removals.{taken}
 use Rattle.snap_serve.proofs.stores.open_desks.Goals as goal
 
-pub open_desk-requires-clause-memory : goal.open_desk-requires-clause-memory
-open_desk-requires-clause-memory g c =
+pub new-desk-requires-clause-memory : goal.new-desk-requires-clause-memory
+new-desk-requires-clause-memory g c =
     let ss = c.args.scanners.items in
     let k : ℕ = length c.scanners.yielded in
     let next = taken k ss _ _ _ c.scanners.invariant.rest c.in-Some.ensures.steps.0 in
@@ -25,7 +25,7 @@ scanners-preserved g c =
           let short = ap length c.in-Some.ensures.steps.0 in omega arith);
       within = omega arith;
       desks = (let was = inv.desks in let long = ap length c.in_ok-push.ensures.items in
-          let more = length_push c.scanners.desks.items c.in_ok-open_desk.field-0 in omega arith);
+          let more = length_push c.scanners.desks.items c.new-desk.result in omega arith);
     }
 
 pub returns : goal.returns

@@ -1,5 +1,5 @@
 use Rattle.snap_serve.specs.Scanners.{table_of, plan_of}
-use Rattle.snap_serve.proofs.stores.serve_store.Given as goal
+use Rattle.snap_serve.proofs.server.serve_opened.Given as goal
 
 abbrev pub ghosts-serve_memory : goal.ghosts-serve_memory
 ghosts-serve_memory g a = record {
