@@ -157,13 +157,14 @@ def test_what_no_clause_says_has_a_test_or_says_that_it_has_none(snapd, random):
 
 
 # In these every function was checked for the table.
-GONE_THROUGH = ("snap_server/src", "snap_serve/src", "snapd/src", "snap_devices/src/file.rt")
+GONE_THROUGH = ("snap_server/src", "snap_serve/src", "snapd/src", "snap_file_commands/src/system",
+    "snap_devices/src/file.rt")
 # Functions with no clause of their own that are in no row, by the reason.
 IN_NO_ROW = {
     "its trait's clauses are its own": (
         ("snap_devices/src/file.rt", "failures len from"),
         ("snap_server/src/announce.rt", "announce"), ("snap_server/src/worker.rt", "work_off"),
-        ("snapd/src/folder.rt", "from"), ("snap_server/src/unix.rt", "from"),
+        ("snap_file_commands/src/system/folder.rt", "from"), ("snap_server/src/unix.rt", "from"),
         ("snap_server/src/endpoint.rt", "fmt"), ("snap_server/src/listeners.rt", "endpoints"),
         ("snapd/src/surroundings.rt", "version"),
     ),
@@ -171,7 +172,7 @@ IN_NO_ROW = {
         ("snap_serve/src/bind.rt", "new"), ("snap_server/src/acceptor.rt", "new"),
         ("snap_server/src/connection_limit.rt", "new"), ("snap_server/src/sessions.rt", "places"),
         ("snap_server/src/socket.rt", "new"),
-        ("snapd/src/files.rt", "new place"),
+        ("snap_file_commands/src/system/files.rt", "new place"),
     ),
     "it does nothing, or hands on": (
         ("snap_serve/src/server_observer.rt", "begun ended"), ("snap_serve/src/observer.rt", "look stop"),

@@ -1,4 +1,5 @@
-//! The commands on files, over any device, reader and writer; dumps; the order and names of a folder's files.
+//! The commands on files: over any device, reader and writer, and, in [`system`], on the system's files and folders;
+//! dumps; the order and names of a folder's files.
 //!
 //! [`act`] runs a command on one file (`specs/Commands.antt`): `format`, `put`, `get` or `check`. [`found`] makes one
 //! file for `init`, or keeps it if it is whole (`specs/Foundation.antt`). [`act_pair`] is `migrate`: it converts a file
@@ -25,6 +26,7 @@ mod remedy;
 mod segment_name;
 mod segment_order;
 mod slot_value;
+pub mod system;
 
 pub use commands::act;
 pub use contents::held_value;

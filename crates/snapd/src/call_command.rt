@@ -1,10 +1,10 @@
 //! Calls a server over TCP or a Unix socket.
 ghost use Rattle.snap_order.specs.Order.{IsCallable, IsDumpable};
 
-use crate::complaint::say_of;
 use crate::time_limit::{Course, TimeLimit};
 use crate::tries::Tries;
 use snap_client_commands::ask;
+use snap_file_commands::system::say_of;
 use snap_frame::SegmentValue;
 use snap_order::{CallOptions, DumpOptions, Status, socket_path};
 use std::io::{self, ErrorKind};

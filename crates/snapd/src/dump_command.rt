@@ -3,13 +3,14 @@ ghost use Rattle.std.specs.Prelude.{◌<◌, ◌≤◌, length};
 ghost use Rattle.snap_order.specs.{Limits.MAX_COUNT, Order.IsDumpable};
 
 use crate::call_command::fetch;
-use crate::complaint::{fail_at, fail_in, fail_of, or_stop, print_whole, stop_without_memory};
-use crate::files::{FirstFault, first_faults, open_telling};
-use crate::folder::{FolderReadFault, files_in_order, segment_files};
 use jiff::Timestamp;
 use snap_devices::{FileDisk, FileFault, Lock};
 use snap_disk::Disk;
 use snap_file_commands::dump::{DumpFault, document, read};
+use snap_file_commands::system::{
+    FirstFault, FolderReadFault, fail_at, fail_in, fail_of, files_in_order, first_faults,
+    open_telling, or_stop, print_whole, segment_files, stop_without_memory,
+};
 use snap_file_commands::{CommandFault, held_value};
 use snap_frame::SegmentValue;
 use snap_order::{DumpOptions, DumpSource, FileOrder, Status};

@@ -1,9 +1,9 @@
 //! The program `snapd`: runs the commands on the system's files, sockets, threads and streams.
 //!
-//! `snap_args` parses the arguments. The commands themselves are in `snap_file_commands` (files),
-//! `snap_serve` (a server), `snap_client_commands` (a client) and `snap_script` (scripts), over any device,
-//! reader, writer, listener and connection. This crate connects them to the system. A server's log
-//! goes to standard error (`snap_log`).
+//! `snap_args` parses the arguments. The commands themselves are in `snap_file_commands` (files and folders),
+//! `snap_serve` (a server), `snap_client_commands` (a client) and `snap_script` (scripts). Those of a server, a client
+//! and scripts are over any listener, connection, reader and writer: this crate connects them to the system. A server's
+//! log goes to standard error (`snap_log`).
 #![tactic(auto)]
 
 ghost use Rattle.std.specs.Prelude.{◌≡◌, ◌<◌, ◌≤◌, length};
@@ -11,37 +11,25 @@ ghost use Rattle.snap_order.specs.Limits.{MAX_COUNT};
 ghost use Rattle.snap_order.specs.Order.{IsFileWithinLimits, IsPlace, IsServable, IsWithinLimits, KeepsLimits};
 
 mod call_command;
-mod complaint;
-mod doctor_command;
 mod dump_command;
-mod file_system;
-mod files;
-mod folder;
-mod folder_refusal;
 mod http_view;
-mod init_command;
-mod load_command;
-mod loading_folder;
 mod remedy;
 mod serve_command;
 mod server_log;
-mod store_times;
 mod surroundings;
 mod time_limit;
 mod tries;
 mod watch_command;
 
 use call_command::call;
-use complaint::{fail_in, say, say_of, stop, stop_without_memory};
-use doctor_command::examine;
 use dump_command::dump;
-use files::{FirstFault, take_file, take_pair, too_short_files, writes};
-use folder::{files_in_order, segment_files};
-use init_command::init;
-use load_command::load;
 use serve_command::{say_right_order, serve};
 use snap_args::{WordFault, lack_of, order};
 use snap_disk::Disk;
+use snap_file_commands::system::{
+    FirstFault, examine, fail_in, files_in_order, init, load, say, say_of, segment_files, stop,
+    stop_without_memory, take_file, take_pair, too_short_files, writes,
+};
 use snap_file_commands::{Causes, CommandFault, act, act_pair, finish};
 use snap_order::{DumpOptions, DumpSource, FileOrder, MigrateOptions, Order, ServeOptions, Status};
 use snap_script::play;

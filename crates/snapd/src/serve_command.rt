@@ -4,9 +4,6 @@ ghost use Rattle.std.specs.Thread.{IsSync};
 ghost use Rattle.snap_devices.specs.FileDisk.{IsUncalled};
 ghost use Rattle.snap_order.specs.Order.{IsServable};
 
-use crate::complaint::{fail, fail_at_file, fail_twice, or_stop, say, stop_without_memory};
-use crate::files::{FirstFault, first_faults, open_telling};
-use crate::folder::files_in_order;
 use crate::http_view::{HttpPlace, HttpView, open_http};
 use crate::server_log::{ServerLog, Spaced};
 use crate::surroundings::{Process, millis_since_1970, most_descriptors};
@@ -14,6 +11,10 @@ use log::{LevelFilter, warn};
 use snap_args::is_everywhere;
 use snap_board::MAX_CONNECTIONS;
 use snap_devices::{FileDisk, FileFault, Lock};
+use snap_file_commands::system::{
+    FirstFault, fail, fail_at_file, fail_twice, files_in_order, first_faults, open_telling,
+    or_stop, say, stop_without_memory,
+};
 use snap_log::{Destination, Lines, write_lines};
 use snap_metrics::{Metrics, time_all};
 use snap_order::{Exit, ServeOptions, Status};

@@ -1,10 +1,10 @@
 //! Counts a server's updates, and logs its start, its end and failed stores.
 
-use crate::files::FirstFault;
 use crate::surroundings::{Process, ignores_interrupts};
 use log::{error, info};
 use snap_args::VERSION;
 use snap_disk::Refusal;
+use snap_file_commands::system::FirstFault;
 use snap_log::Lines;
 use snap_serve::{ServerObserver, UpdateObserver};
 use snap_server::{RunFault, ServerFault};

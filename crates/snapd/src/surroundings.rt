@@ -3,6 +3,7 @@
 
 use snap_args::VERSION;
 use snap_board::{Beat, FactSource, History, Usage};
+use snap_file_commands::system::limit_of;
 use snap_log::Lines;
 use snap_metrics::{Metrics, MetricsSnapshot};
 use std::alloc::{AllocError, Global};
@@ -101,15 +102,6 @@ fn processor_time() -> Option<u64> {
 /// The most descriptors that this process may have open.
 pub fn most_descriptors() -> Option<u64> {
     limit_of(libc::RLIMIT_NOFILE)
-}
-
-/// The limit of this process on a resource, by its number at `getrlimit`.
-pub fn limit_of(resource: i32) -> Option<u64> {
-    let mut limit = libc::types::rlimit {
-        rlim_cur: 0,
-        rlim_max: 0,
-    };
-    (libc::getrlimit(resource, &mut limit) == 0).then_some(limit.rlim_cur)
 }
 
 /// A server in this process, as the HTTP thread shows it: with its log, and the samples of the last three minutes.

@@ -1,9 +1,9 @@
 //! The tries of a call: when each begins, how long it may take, and why they failed.
 
 use crate::call_command::link_within;
-use crate::complaint::say_of;
 use crate::remedy::remedy_of;
 use crate::time_limit::{Course, LimitedStream, TimeLimit};
+use snap_file_commands::system::say_of;
 use snap_order::Status;
 use std::time::{Duration, Instant};
 use std::{io, thread};

@@ -3,7 +3,6 @@ ghost use Rattle.std.specs.Prelude.{◌<◌, IfSome};
 ghost use Rattle.snap_order.specs.Order.{IsWatchable};
 
 use crate::call_command::{is_worth_a_try, link_within};
-use crate::complaint::{fail_of, or_stop, refuse, say_of, stop, stop_without_memory};
 use crate::time_limit::{Course, TimeLimit};
 use libc::net::{POLLERR, POLLHUP, poll};
 use libc::types::pollfd;
@@ -12,6 +11,7 @@ use snap_client_commands::watch::{
     Form, Panel, Row, Track, WatchFault, changes, drawing, followed, look, set_of,
 };
 use snap_file_commands::CommandFault;
+use snap_file_commands::system::{fail_of, or_stop, refuse, say_of, stop, stop_without_memory};
 use snap_frame::SegmentSet;
 use snap_order::{Status, WatchOptions};
 use snap_stream::write_whole;

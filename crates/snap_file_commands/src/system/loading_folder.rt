@@ -1,12 +1,12 @@
 //! The folder in which `load` makes its files, before it is renamed.
 
-use crate::complaint::{
+use super::complaint::{
     fail_at, fail_at_folder, fail_of, or_stop, refuse, refuse_of, stop_without_memory,
 };
-use crate::file_system::{MODE, has_locked};
-use crate::folder::{index_of_name, make_folder};
+use super::file_system::{MODE, has_locked};
+use super::folder::{index_of_name, make_folder};
+use crate::MAX_COUNT;
 use snap_devices::{FileFault, sync_folder_of};
-use snap_file_commands::MAX_COUNT;
 use snap_order::Status;
 use std::fs::{self, DirEntry, File};
 use std::io::{self, ErrorKind};

@@ -1,14 +1,14 @@
 //! The command `doctor`: reports on the files of a folder and on their file system.
 ghost use Rattle.std.specs.Prelude.{◌≡◌, IfOk};
 
-use crate::complaint::{stop, stop_without_memory};
-use crate::file_system::{file_system_of, is_taken, keeps_locks, remedy_of, try_as_server};
-use crate::folder::{
+use super::complaint::{stop, stop_without_memory};
+use super::file_system::{file_system_of, is_taken, keeps_locks, remedy_of, try_as_server};
+use super::folder::{
     FolderReadFault, SegmentContents, contents_of, order_of, path_at, segment_files,
 };
-use crate::store_times::{MeasureFault, STORED_LEN, STORES, measure};
+use super::store_times::{MeasureFault, STORED_LEN, STORES, measure};
+use crate::{CommandFault, SegmentPlace};
 use snap_devices::FileFault;
-use snap_file_commands::{CommandFault, SegmentPlace};
 use snap_order::{DoctorOptions, Status};
 use std::fmt::Display;
 use std::io::{self, ErrorKind};

@@ -1,6 +1,6 @@
 //! Refusals of a folder's files, with their messages.
 
-use snap_file_commands::SegmentPlace;
+use crate::SegmentPlace;
 use std::fmt::{self, Display, Formatter, Write};
 
 /// The reason why a folder's files aren't the segments of one server, or not those that are to be

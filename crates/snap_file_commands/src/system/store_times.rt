@@ -1,7 +1,7 @@
 //! Measures how long a store takes in a folder.
 ghost use Rattle.snap_devices.specs.FileDisk.{IsUncalled};
 
-use crate::files::FirstFault;
+use super::files::FirstFault;
 use snap_devices::{FileDisk, FileFault};
 use snap_disk::Disk;
 use snap_segment::{Segment, format};

@@ -7,14 +7,14 @@ ghost use Rattle.snap_frame.specs.Limits.{IsNumber, IsShort};
 ghost use Rattle.snap_order.specs.{Limits.MAX_COUNT, Order.IsLoadable, Order.IsOneTo};
 ghost use Rattle.snap_file_commands.specs.Document.{AreServable, IsKeepable};
 
-use crate::complaint::{fail_at, or_stop, print_whole, refuse_of, stop_without_memory};
-use crate::files::{FirstFault, take_file};
-use crate::folder::segment_path;
-use crate::loading_folder::LoadingFolder;
+use super::complaint::{fail_at, or_stop, print_whole, refuse_of, stop_without_memory};
+use super::files::{FirstFault, take_file};
+use super::folder::segment_path;
+use super::loading_folder::LoadingFolder;
+use crate::dump::{Dump, DumpFault, MAX_DUMP_LEN, read};
+use crate::{LoadedFile, finish};
 use snap_devices::FileFault;
 use snap_disk::Disk;
-use snap_file_commands::dump::{Dump, DumpFault, MAX_DUMP_LEN, read};
-use snap_file_commands::{LoadedFile, finish};
 use snap_frame::SegmentValue;
 use snap_order::{FileOrder, LoadOptions, Status};
 use snap_stream::read_up_to;
@@ -132,7 +132,7 @@ fn make_file(
         number,
         value,
     };
-    let end = snap_file_commands::load(rt.alloc(), &of, &mut disk, &mut rt.stdout());
+    let end = crate::load(rt.alloc(), &of, &mut disk, &mut rt.stdout());
     let len = disk.len();
     Ok(finish(rt.alloc(), &order, len, end, &told, &mut rt.stderr()).status)
 }

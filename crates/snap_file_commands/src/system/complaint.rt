@@ -2,11 +2,11 @@
 ghost use Rattle.std.specs.Prelude.{◌≡◌, IfOk, Ok};
 ghost use Rattle.snap_order.specs.declared.status.Status.TheVariants as status;
 
-use crate::file_system::remedy_of;
-use crate::folder::FolderReadFault;
+use super::file_system::remedy_of;
+use super::folder::FolderReadFault;
+use crate::CommandFault;
 use snap_devices::FileFault;
 use snap_disk::Refusal;
-use snap_file_commands::CommandFault;
 use snap_order::Status;
 use snap_stream::{complain, write_whole};
 use std::alloc::AllocError;

@@ -2,11 +2,11 @@
 ghost use Rattle.std.specs.Prelude.{◌≡◌, length, IfOk};
 ghost use Rattle.snap_devices.specs.FileDisk.{IsUncalled};
 
-use crate::complaint::{fail_at, fail_twice, fail_without};
-use crate::surroundings::limit_of;
+use super::complaint::{fail_at, fail_twice, fail_without};
+use super::file_system::limit_of;
+use crate::{Causes, CommandFault, MigrationFault, words_of_format};
 use snap_devices::{CallFault, FileDisk, FileFault, Lock};
 use snap_disk::{Disk, Refusal};
-use snap_file_commands::{Causes, CommandFault, MigrationFault, words_of_format};
 use snap_order::{FileOrder, MigrateOptions, Status};
 use snap_segment::{OLD_FILE_LEN, Which};
 use snap_slot::FILE_LEN;

@@ -135,3 +135,12 @@ fn remedy_of_want(rt: &HostRuntime, path: &str, command: Option<String>) -> Opti
     let command = command?;
     format!(in rt.alloc(); "{path}: it isn't there: make it by {command}").ok()
 }
+
+/// The limit of this process on a resource, by its number at `getrlimit`.
+pub fn limit_of(resource: i32) -> Option<u64> {
+    let mut limit = libc::types::rlimit {
+        rlim_cur: 0,
+        rlim_max: 0,
+    };
+    (libc::getrlimit(resource, &mut limit) == 0).then_some(limit.rlim_cur)
+}

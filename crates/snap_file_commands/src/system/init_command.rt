@@ -2,16 +2,16 @@
 ghost use Rattle.std.specs.Prelude.{◌<◌, ◌≤◌};
 ghost use Rattle.snap_order.specs.{Limits.MAX_COUNT, Order.IsOneTo};
 
-use crate::complaint::{fail_at_folder, fail_in, or_stop, refuse};
-use crate::files::{FirstFault, take_file};
-use crate::folder::{
+use super::complaint::{fail_at_folder, fail_in, or_stop, refuse};
+use super::files::{FirstFault, take_file};
+use super::folder::{
     FolderReadFault, check_names, findings_of, index_of_name, make_folder, path_at, segment_files,
     segment_path,
 };
-use crate::folder_refusal::{FileRefusal, FolderRefusal};
+use super::folder_refusal::{FileRefusal, FolderRefusal};
+use crate::{finish, found, sign_of_loss};
 use snap_devices::FileFault;
 use snap_disk::Disk;
-use snap_file_commands::{finish, found, sign_of_loss};
 use snap_order::{FileOrder, InitOptions, Status};
 use snap_segment::{Findings, Header, Slot};
 use std::alloc::{AllocError, Global};

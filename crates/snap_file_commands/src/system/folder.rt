@@ -6,14 +6,12 @@ ghost use Rattle.std.specs.Prelude.{◌≡◌, ◌<◌, ◌≤◌, All, IfOk, le
 ghost use Rattle.snap_file_commands.specs.SegmentOrder.{IsFaultOf};
 ghost use Rattle.snap_order.specs.Limits.{MAX_COUNT};
 
-use crate::complaint::fail_at_folder;
-use crate::files::{FirstFault, open_telling};
-use crate::folder_refusal::{FileRefusal, FolderRefusal};
+use super::complaint::fail_at_folder;
+use super::files::{FirstFault, open_telling};
+use super::folder_refusal::{FileRefusal, FolderRefusal};
+use crate::{FolderFault, SegmentPlace, file_name, is_further, is_segment_name, order_files};
 use snap_devices::{FileFault, Lock, sync_folder_of};
 use snap_disk::{Disk, Refusal};
-use snap_file_commands::{
-    FolderFault, SegmentPlace, file_name, is_further, is_segment_name, order_files,
-};
 use snap_order::{OLD_FILE_LEN, Status};
 use snap_segment::{Findings, Header, check};
 use snap_stream::SystemReason;
