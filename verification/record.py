@@ -21,7 +21,7 @@ from tree import TOP, crates_of, proved_crates, texts_of
 LOCK = "proofs.lock"
 HEAD = """\
 # Each crate that was proved whole, from nothing: the digest of all that the proof rests on, the kit's release, the day,
-# and the seconds that it took one processor. `make prove` writes it.
+# and the seconds that its proof took when `make prove`, which writes this, last made it itself, maybe of other sources.
 """
 # A line of the record.
 Proved = namedtuple("Proved", "digest release day seconds")

@@ -1,4 +1,4 @@
-//! Messages on standard error about files and folders that can't be used.
+//! Messages on standard error about why a command ends, above all about files and folders that can't be used.
 ghost use Rattle.std.specs.Prelude.{◌≡◌, IfOk, Ok};
 ghost use Rattle.snap_order.specs.declared.status.Status.TheVariants as status;
 

@@ -1,4 +1,4 @@
-//! The type of a folder's file system, whether its locks work, and what denies this user a path.
+//! The type of a folder's file system, whether its locks work, what denies this user a path, and the process's limits.
 
 use std::fs::{self, File, Metadata, TryLockError};
 use std::io::{self, ErrorKind};
