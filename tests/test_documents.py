@@ -163,22 +163,19 @@ GONE_THROUGH = ("snap_server/src", "snap_serve/src", "snapd/src", "snap_file_com
 IN_NO_ROW = {
     "its trait's clauses are its own": (
         ("snap_devices/src/file.rt", "failures len from"),
-        ("snap_server/src/announce.rt", "announce"), ("snap_server/src/worker.rt", "work_off"),
-        ("snap_file_commands/src/system/folder.rt", "from"), ("snap_server/src/unix.rt", "from"),
-        ("snap_server/src/endpoint.rt", "fmt"), ("snap_server/src/listeners.rt", "endpoints"),
+        ("snap_server/src/server.rt", "announce"),
+        ("snap_server/src/unix.rt", "from"),
+        ("snap_server/src/listen.rt", "fmt"), ("snap_server/src/listeners.rt", "endpoints"),
         ("snapd/src/surroundings.rt", "version"),
     ),
     "it puts its arguments together, or gives a part of what is there": (
         ("snap_serve/src/bind.rt", "new"), ("snap_server/src/acceptor.rt", "new"),
-        ("snap_server/src/connection_limit.rt", "new"), ("snap_server/src/sessions.rt", "places"),
-        ("snap_server/src/socket.rt", "new"),
-        ("snap_file_commands/src/system/files.rt", "new place"),
+        ("snap_file_commands/src/system/files.rt", "new"),
     ),
     "it does nothing, or hands on": (
-        ("snap_serve/src/server_observer.rt", "begun ended"), ("snap_serve/src/observer.rt", "look stop"),
+        ("snap_serve/src/observer.rt", "begun ended look stop"),
         ("snap_serve/src/counted.rt", "close"),
-        ("snap_server/src/gate.rt", "enter leave"), ("snap_server/src/socket.rt", "flush"),
-        ("snap_server/src/stream.rt", "flush"),
+        ("snap_server/src/gate.rt", "enter leave"), ("snap_server/src/stream.rt", "flush"),
     ),
 }
 

@@ -31,7 +31,7 @@ BODY = """\
 ghost use Rattle.LOWER.specs.Words.{word, least};
 use LOWER::Part;
 
-impl Low for Thing {
+impl Low for Part {
     /// One more.
     #[inline]
     fn more(&self, x: u8) -> u8
@@ -106,7 +106,8 @@ def test_a_digest_rests_on_the_function_and_on_what_that_names(snapd, _):
         ("src/lib.rt", "    x - 1", "    x.sub(1)", ["middle/second"]),
         ("src/lib.rt", "result < least", "result < 2", OF["middle"]),
         ("src/lib.rt", "result < 9", "result < 8", ["high/first", *first]),
-        ("src/lib.rt", "struct Part(u8)", "struct Part(u16)", []),
+        ("src/lib.rt", "struct Part(u8)", "struct Part(u16)", ["high/first", *first]),
+        ("src/lib.rt", "pub struct Part", "#[derive(Debug)]\npub struct Part", []),
         ("src/lib.rt", "/// One more.", "// More.", []),
         ("proofs/more/Answers.antt", "proof", "another", []),
         ("specs/Words.antt", "Of most", "Of it", ["high/first"]),
@@ -147,7 +148,7 @@ def test_an_edit_is_placed_in_its_function(snapd, _):
         ("more", 8, 14), ("less", 17, 21), ("more", 26, 26),
     ]
     first, second = (function_of(folder, it) for it in sorted((folder / "must-fail").iterdir()))
-    assert first[1].startswith("impl Low for Thing {") and "less(x) + 1" in first[1] and "x - 1" not in first[1]
+    assert first[1].startswith("impl Low for Part {") and "less(x) + 1" in first[1] and "x - 1" not in first[1]
     assert second[0] == "src/lib.rt" and second[1].startswith("\npub(crate) fn less")
     both = folder / "must-fail" / "both.edit"
     both.write_text("".join(EDITS.values()))

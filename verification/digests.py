@@ -5,8 +5,8 @@ Whether an edit has to be refused, a contract says: the function's clauses, what
 it calls promise. So a digest takes the edit, the function's own text, and each definition of `specs/`, each type, and
 each function's head with its clauses that the text names, with what these name in turn, and the kit's logic. No bodies
 of other functions count, and no proofs: a wrong body stays wrong however the right one is proved. Nor do line breaks,
-and the file or crate where a text lies. A name counts by the file's imports; a method by its name, wherever a crate
-below has one.
+the file or crate where a text lies, and whether a type is `Debug`. A name counts by the file's imports; a method by its
+name, wherever a crate below has one.
 """
 
 import functools
@@ -25,6 +25,7 @@ IMPORTS = re.compile(
 )
 # An import, which says nothing by itself.
 USE = re.compile(r"^ *(?:pub )?(?:ghost )?use [^;{}\n]*(?:\{[^{}]*\})?[^;{}\n]*;?\n", re.M)
+DEBUG = re.compile(r"^ *#\[derive\(Debug\)\]\n|(?<=derive\()Debug, |(?<=, )Debug, |, Debug(?=\)\])", re.M)
 WORDS = re.compile(r"[^\s(){}\[\],;.:&|<>\"]+")
 CALLED = re.compile(r"(?:\.|::)(\w+)(?=\(|::)")
 HERE = ("crate", "super", "self")
@@ -62,7 +63,7 @@ class Digests:
         for name in crates:
             for kind in ("src/**/*.rt", "specs/**/*.antt"):
                 for path in (top / "crates" / name).glob(kind):
-                    self.read(name, str(path.relative_to(top / "crates")), without_comments(path))
+                    self.read(name, str(path.relative_to(top / "crates")), DEBUG.sub("", without_comments(path)))
 
     def read(self, crate, path, text):
         """Takes in a file: what it imports and what it defines."""

@@ -24,7 +24,7 @@ from tree import TOP, crates_of, edits_of, parsed
 HEAD = """\
 # Each edit that the prover has refused: the digest of what that rests on (the edit, its function, the contracts and
 # definitions that this names, and the kit's logic), and the kit's release. Every run that tries an edit records it.
-# Where names alone were changed since, its line was carried over; edits.py --every tries all of them as they are.
+# Where names alone changed since, or what a digest leaves out, its line was carried over; edits.py --every tries all.
 """
 SAID = re.compile(r"rt: must-fail (\S+/\S+): (refused|NOT REFUSED|BAD EDIT|NOT TRIED)(.*)")
 # What the kit says of an edit that took a name away which a proof cites: that says nothing of the contract.

@@ -138,8 +138,7 @@ IsParseFault error (fault.Words e) = (e ≡ error) × (IsRequest (kind_of error)
 IsParseFault error fault.Memory = kind_of error ≡ OutOfMemory
 IsParseFault error why = ⊥
 
--- The words don't match the grammar: `Help` is for those that ask for help or the version, and
--- `Words` for all others.
+-- The words don't match the grammar: `Help` is for those that ask for help or the version, and `Words` for all others.
 abbrev pub IsTold : List Text → WordFault → Type 0
 IsTold words (fault.Help e) = IsAmong (kind_of e) (fault_of grammar_of words) × IsRequest (kind_of e)
 IsTold words (fault.Words e) = IsAmong (kind_of e) (fault_of grammar_of words) × (IsRequest (kind_of e) → ⊥)

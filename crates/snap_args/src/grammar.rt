@@ -201,8 +201,7 @@ fn program<'a>(alloc: Global) -> Command<'a>
         .subcommand_required(true)
 }
 
-/// Adds a command with this name, these texts and arguments. Fails if memory runs out, or if
-/// `program` has failed.
+/// Adds a command with this name, these texts and arguments. Fails if memory runs out, or if `program` has failed.
 fn with_command<'a>(
     alloc: Global,
     program: Result<Command<'a>, AllocError>,

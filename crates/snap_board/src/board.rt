@@ -19,6 +19,7 @@ use http_server::Response;
 use httpdate::HttpDate;
 use snap_frame::{Reply, SegmentStatus};
 use snap_json::{health_document, scan_document, status_document};
+use snap_metrics::milliseconds_of;
 use snap_session::Service;
 use std::alloc::{AllocError, Global};
 
@@ -26,17 +27,8 @@ use std::alloc::{AllocError, Global};
 const PATHS: &[u8] =
     b"Nothing is here. There is: / /metrics /health /livez /readyz /scan /status /stats /history\n";
 
-/// The content of the answer to a method that might change something.
-const METHODS: &[u8] = b"Only GET and HEAD are answered.\n";
-
 /// The content of an answer without a fault.
 const WELL: &[u8] = b"ok\n";
-
-/// The content of the answer if no segment takes an update.
-const ALL_FENCED: &[u8] = b"each segment is fenced\n";
-
-/// The content of the answer if the service gave no reply.
-const NO_ANSWER: &[u8] = b"no answer\n";
 
 /// Answers HTTP requests about a server.
 ///
@@ -71,7 +63,8 @@ impl<S: Service + Drop, X: FactSource + Drop> Board<S, X> {
     {
         let method = request.method().as_str();
         if method != "GET" && method != "HEAD" {
-            return Ok(PageAnswer::words(StatusCode::METHOD_NOT_ALLOWED, METHODS));
+            let words = b"Only GET and HEAD are answered.\n";
+            return Ok(PageAnswer::words(StatusCode::METHOD_NOT_ALLOWED, words));
         }
         match Page::of(request.uri().path()) {
             Some(page) => self.show(page),
@@ -116,33 +109,30 @@ impl<S: Service + Drop, X: FactSource + Drop> Board<S, X> {
         ensures asks { pages.MayAsk S.gives (Some requests.Status) self.old.service self.new.service }
         ensures same { self.new.surroundings ≡ self.old.surroundings }
     {
-        match self.service.answer(&snap_frame::Request::Status, 0) {
-            Some(Reply::Status(statuses)) => self.tell(page, &statuses),
-            reply => refuse(self.alloc, &reply),
-        }
-    }
-
-    /// Answers with a page, from these statuses.
-    fn tell(&self, page: Page, statuses: &[SegmentStatus]) -> Result<PageAnswer, AllocError>
-        requires { pages.asked_of page ≡ Some requests.Status }
-        ensures { IfOk result (λ a. pages.ShowsStatuses page statuses.now a.status a.content) }
-    {
+        let statuses = match self.service.answer(&snap_frame::Request::Status, 0) {
+            Some(Reply::Status(statuses)) => statuses,
+            reply => return refuse(self.alloc, &reply),
+        };
         match page {
             Page::Health => {
-                let text = health_document(self.alloc, statuses)?;
-                let status = status_if_down(is_any_fenced(statuses));
+                let text = health_document(self.alloc, &statuses)?;
+                let status = if is_any_fenced(&statuses) {
+                    StatusCode::SERVICE_UNAVAILABLE
+                } else {
+                    StatusCode::OK
+                };
                 PageAnswer::made(status, ContentKind::Json, text)
             }
-            Page::Ready => {
-                let is_down = are_all_fenced(statuses);
-                let words = if is_down { ALL_FENCED } else { WELL };
-                Ok(PageAnswer::words(status_if_down(is_down), words))
+            Page::Ready if are_all_fenced(&statuses) => {
+                let words = b"each segment is fenced\n";
+                Ok(PageAnswer::words(StatusCode::SERVICE_UNAVAILABLE, words))
             }
+            Page::Ready => Ok(PageAnswer::words(StatusCode::OK, WELL)),
             Page::Status => {
-                let text = status_document(self.alloc, statuses)?;
+                let text = status_document(self.alloc, &statuses)?;
                 PageAnswer::made(StatusCode::OK, ContentKind::Json, text)
             }
-            Page::Metrics | Page::Stats => self.tell_metrics(page, statuses),
+            Page::Metrics | Page::Stats => self.tell_metrics(page, &statuses),
             _ => unreachable!(),
         }
     }
@@ -152,12 +142,22 @@ impl<S: Service + Drop, X: FactSource + Drop> Board<S, X> {
         ensures { IfOk result (λ a. a.status ≡ 200) }
     {
         let reading = self.surroundings.reading(self.alloc)?;
-        let facts = ServerFacts::of(&reading, &self.surroundings, statuses);
+        let surroundings = &self.surroundings;
+        let facts = ServerFacts {
+            reading: &reading,
+            statuses,
+            version: surroundings.version(),
+            addresses: surroundings.addresses(),
+            files: surroundings.files(),
+            uptime: surroundings.uptime().map(|time| milliseconds_of(time)),
+            time: surroundings.now_millis(),
+            resident: surroundings.resident_bytes(),
+        };
         if let Page::Stats = page {
             let text = figures_document(self.alloc, &facts)?;
             return PageAnswer::made(StatusCode::OK, ContentKind::Json, text);
         }
-        let text = metrics_text(self.alloc, &facts, &self.surroundings.usage())?;
+        let text = metrics_text(self.alloc, &facts, &surroundings.usage())?;
         PageAnswer::made(StatusCode::OK, ContentKind::Metrics, text.into_bytes())
     }
 
@@ -181,24 +181,13 @@ fn are_all_fenced(statuses: &[SegmentStatus]) -> bool
     statuses.iter().all(|status| status.is_fenced)
 }
 
-/// Status 503 if the server is down in this respect, else 200.
-fn status_if_down(is_down: bool) -> StatusCode
-    ensures { result ≡ (if is_down then 503 else 200) }
-{
-    if is_down {
-        StatusCode::SERVICE_UNAVAILABLE
-    } else {
-        StatusCode::OK
-    }
-}
-
 /// Answers with the service's refusal, or that it gave no reply.
 fn refuse(alloc: Global, reply: &Option<Reply>) -> Result<PageAnswer, AllocError>
     ensures { IfOk result (λ a. a.status ≡ 503) }
 {
     let status = StatusCode::SERVICE_UNAVAILABLE;
     let Some(Reply::Refused { why, .. }) = reply else {
-        return Ok(PageAnswer::words(status, NO_ANSWER));
+        return Ok(PageAnswer::words(status, b"no answer\n"));
     };
     let line = format!(in alloc; "{why}\n")?;
     PageAnswer::made(status, ContentKind::Text, line.into_bytes())

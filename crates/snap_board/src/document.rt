@@ -1,21 +1,7 @@
 //! Parts of JSON documents.
 
 use json::Writer;
-use snap_json::line_of;
-use std::alloc::{AllocError, Global};
-
-/// Begins a document, which is one object.
-pub(crate) fn begin(alloc: Global) -> Result<Writer, AllocError> {
-    let mut writer = Writer::new(Vec::new(alloc));
-    writer.begin_object()?;
-    Ok(writer)
-}
-
-/// Ends a document, which is one line.
-pub(crate) fn end(mut writer: Writer) -> Result<Vec<u8>, AllocError> {
-    writer.end_object()?;
-    line_of(writer)
-}
+use std::alloc::AllocError;
 
 /// Writes a number as a member, or `null` if it isn't known.
 pub(crate) fn put_number(

@@ -41,7 +41,7 @@ pub trait FactSource {
 }
 
 /// The resources of a process, and the server's limits. `None` if one isn't known.
-#[derive(Clone, Copy, Debug)]
+#[derive(Clone, Copy)]
 pub struct Usage {
     /// The start of the process, in milliseconds since 1970.
     pub started: Option<u64>,

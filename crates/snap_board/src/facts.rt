@@ -1,10 +1,8 @@
 //! The facts about a server at one moment.
 
-use crate::fact_source::FactSource;
 use snap_frame::SegmentStatus;
 use snap_metrics::{MetricsSnapshot, SegmentSnapshot};
 use std::path::Path;
-use std::time::Duration;
 
 /// The facts that a board shows, apart from the segments' values.
 #[derive(Clone, Copy)]
@@ -27,35 +25,12 @@ pub(crate) struct ServerFacts<'a> {
     pub resident: Option<u64>,
 }
 
-impl<'a> ServerFacts<'a> {
-    /// All facts about a server, with these metrics and statuses.
-    pub(crate) fn of<X: FactSource>(
-        reading: &'a MetricsSnapshot,
-        surroundings: &'a X,
-        statuses: &'a [SegmentStatus],
-    ) -> ServerFacts<'a> {
-        ServerFacts {
-            reading,
-            statuses,
-            version: surroundings.version(),
-            addresses: surroundings.addresses(),
-            files: surroundings.files(),
-            uptime: surroundings.uptime().map(millis_of),
-            time: surroundings.now_millis(),
-            resident: surroundings.resident_bytes(),
-        }
-    }
-
+impl ServerFacts<'_> {
     /// The milliseconds since a segment's last update; 0 if that is in the future, since the clock
     /// was set back. `None` if either time isn't known.
     pub(crate) fn age(&self, segment: &SegmentSnapshot) -> Option<u64> {
         Some(self.time?.saturating_sub(segment.updated?))
     }
-}
-
-/// Converts a duration to milliseconds, at most 2^64 - 1.
-pub(crate) fn millis_of(time: Duration) -> u64 {
-    u64::try_from(time.as_millis()).unwrap_or(u64::MAX)
 }
 
 /// The name of a segment: its file's name without the extension. `None` if the path has no file name.

@@ -2,20 +2,21 @@
 //!
 //! No clause states this text: tests_server and tests/test_http.py compare it byte by byte.
 
-use crate::document::{begin, begin_list, end, put_number, put_text};
+use crate::document::{begin_list, put_number, put_text};
 use crate::facts::{ServerFacts, name_of};
 use crate::metrics::{all, bound, kinds, refusal_at};
 use json::Writer;
+use snap_json::line_of;
 use snap_metrics::{BOUNDS, HistogramSnapshot, RequestCounts, SegmentSnapshot};
 use std::alloc::{AllocError, Global};
 
-/// Makes one JSON document, on one line, of all metrics and facts. Facts that aren't known are
-/// `null`.
+/// Makes one JSON document, on one line, of all metrics and facts. Facts that aren't known are `null`.
 ///
 /// A histogram has, for each bound, the number of times up to it and above the bound before; last,
 /// the number of times above all bounds.
 pub(crate) fn figures_document(alloc: Global, facts: &ServerFacts) -> Result<Vec<u8>, AllocError> {
-    let mut writer = begin(alloc)?;
+    let mut writer = Writer::new(Vec::new(alloc));
+    writer.begin_object()?;
     put_server(&mut writer, facts)?;
     put_requests(&mut writer, &facts.reading.requests)?;
     begin_list(&mut writer, "bounds_microseconds")?;
@@ -28,7 +29,8 @@ pub(crate) fn figures_document(alloc: Global, facts: &ServerFacts) -> Result<Vec
         put_segment(&mut writer, facts, index, segment)?;
     }
     writer.end_array()?;
-    end(writer)
+    writer.end_object()?;
+    line_of(writer)
 }
 
 fn put_server(writer: &mut Writer, facts: &ServerFacts) -> Result<(), AllocError> {

@@ -1,34 +1,23 @@
 //! The history of the last three minutes.
 
-use crate::document::{begin, begin_list, end, put_number};
-use crate::facts::millis_of;
-use snap_metrics::{BOUNDS, Counter, MetricsSnapshot, SegmentSnapshot};
+use crate::document::{begin_list, put_number};
+use json::Writer;
+use snap_json::line_of;
+use snap_metrics::{BOUNDS, Counter, MetricsSnapshot, milliseconds_of};
 use std::alloc::{AllocError, Global};
-use std::array;
 use std::time::Duration;
 
 /// The number of samples that are kept: one for each second of three minutes, and the one before them.
 const SAMPLES: u64 = 181;
 
 /// The counts from the server's start up to one moment.
-#[derive(Drop)]
+#[derive(Default, Drop)]
 struct Sample {
     /// The time since the server's start, in milliseconds.
     uptime: Counter,
     scans: Counter,
     /// The histogram of the stores of all segments, as in a [`HistogramSnapshot`](snap_metrics::HistogramSnapshot).
     stores: [Counter; BOUNDS + 1],
-}
-
-/// The number of stores of all segments in this bucket of the histogram.
-fn stored_at(segments: &[SegmentSnapshot], place: usize) -> u64 {
-    let mut sum: u64 = 0;
-    for segment in segments {
-        if let Some(count) = segment.stores.counts.get(place) {
-            sum = sum.saturating_add(*count);
-        }
-    }
-    sum
 }
 
 /// Samples of a server's metrics in the last three minutes, about one a second. One thread takes
@@ -43,9 +32,10 @@ pub struct History {
 impl History {
     /// An empty history. If memory for the samples runs out, no sample is ever kept.
     pub fn new(alloc: Global) -> History {
+        let samples = (0..SAMPLES).map(|_| Sample::default()).collect(alloc);
         History {
-            samples: empty_samples(alloc).unwrap_or(Vec::new(alloc)),
-            taken: Counter::new(),
+            samples: samples.unwrap_or(Vec::new(alloc)),
+            taken: Counter::default(),
         }
     }
 
@@ -56,19 +46,24 @@ impl History {
             return;
         };
         let requests = &reading.requests;
-        sample.uptime.set(millis_of(uptime));
+        sample.uptime.set(milliseconds_of(uptime));
         sample
             .scans
             .set(requests.scans.saturating_add(requests.parts));
         for (place, count) in sample.stores.iter().enumerate() {
-            count.set(stored_at(&reading.segments, place));
+            let counts = reading
+                .segments
+                .iter()
+                .filter_map(|segment| segment.stores.counts.get(place));
+            count.set(counts.fold(0, |sum: u64, count| sum.saturating_add(*count)));
         }
         self.taken.add(1);
     }
 
     /// Makes a JSON document of the samples, on one line, the oldest first.
     pub fn document(&self, alloc: Global) -> Result<Vec<u8>, AllocError> {
-        let mut writer = begin(alloc)?;
+        let mut writer = Writer::new(Vec::new(alloc));
+        writer.begin_object()?;
         begin_list(&mut writer, "samples")?;
         let taken = self.taken.get();
         for number in taken.saturating_sub(SAMPLES)..taken {
@@ -86,18 +81,7 @@ impl History {
             }
         }
         writer.end_array()?;
-        end(writer)
+        writer.end_object()?;
+        line_of(writer)
     }
-}
-
-fn empty_samples(alloc: Global) -> Result<Vec<Sample>, AllocError> {
-    let mut samples = Vec::with_capacity(alloc, SAMPLES as usize)?;
-    for _ in 0..SAMPLES {
-        samples.push(Sample {
-            uptime: Counter::new(),
-            scans: Counter::new(),
-            stores: array::from_fn(|_| Counter::new()),
-        })?;
-    }
-    Ok(samples)
 }

@@ -90,8 +90,7 @@ pub(crate) fn put_singles(out: &mut String, singles: &[Single]) -> Result<(), Al
     Ok(())
 }
 
-/// A text as it is written in a label: with a backslash before each backslash and quote, and with
-/// `\n` for a line feed.
+/// A text as it is written in a label: with a backslash before each backslash and quote, and with `\n` for a line feed.
 #[derive(Clone, Copy)]
 pub(crate) struct Escaped<'a>(pub &'a str);
 

@@ -124,11 +124,8 @@ fn number(name: &str, facts: &ServerFacts, segment: usize) -> Option<Amount> {
 
 /// The number of times in a histogram.
 pub(crate) fn all(times: &HistogramSnapshot) -> u64 {
-    let mut sum: u64 = 0;
-    for count in &times.counts {
-        sum = sum.saturating_add(*count);
-    }
-    sum
+    let counts = times.counts.iter();
+    counts.fold(0, |sum: u64, count| sum.saturating_add(*count))
 }
 
 /// The bound of a bucket, in microseconds.

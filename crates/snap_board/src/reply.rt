@@ -82,7 +82,8 @@ impl PageAnswer {
     }
 }
 
-/// Fills a response with an answer. The headers forbid browsers to cache it or to guess another kind.
+/// Fills a response with an answer. The headers forbid browsers to cache it or to guess another kind. The page for
+/// people and an answer to a refused method have headers of their own.
 pub(crate) fn fill(response: &mut Response, answer: PageAnswer) -> Result<(), AllocError>
     requires { response.old.body.items ≡ [] }
     ensures { OnOk result (HasContent answer.status answer.content response.new) }
@@ -98,29 +99,20 @@ pub(crate) fn fill(response: &mut Response, answer: PageAnswer) -> Result<(), Al
         HeaderName::from_static("cross-origin-resource-policy"),
         HeaderValue::from_static("same-origin"),
     )?;
-    add_own_headers(response, &answer)?;
-    response.body.push(answer.content)
-}
-
-/// Adds the headers that the page for people has alone, or an answer to a refused method.
-fn add_own_headers(response: &mut Response, answer: &PageAnswer) -> Result<(), AllocError>
-    ensures status { response.new.status ≡ response.old.status }
-    ensures body { response.new.body ≡ response.old.body }
-{
     if let ContentKind::Html = answer.kind {
         response.add_header(
             header::CONTENT_SECURITY_POLICY,
             HeaderValue::from_static(POLICY),
         )?;
-        return response.add_header(
+        response.add_header(
             HeaderName::from_static("referrer-policy"),
             HeaderValue::from_static("no-referrer"),
-        );
+        )?;
     }
     if answer.status == StatusCode::METHOD_NOT_ALLOWED {
-        return response.add_header(header::ALLOW, HeaderValue::from_static("GET, HEAD"));
+        response.add_header(header::ALLOW, HeaderValue::from_static("GET, HEAD"))?;
     }
-    Ok(())
+    response.body.push(answer.content)
 }
 
 /// Makes the response an empty 503, since memory ran out. It allocates nothing.

@@ -1,9 +1,8 @@
 //! The script of the page.
 
-/// The script. It polls `/scan` and `/stats` once a second while the page is visible, and
-/// `/history` whenever the page becomes visible, and puts the results into the page: each value by
-/// `textContent` alone. Numbers keep all their digits, as JavaScript's own numbers above 2^53
-/// don't.
+/// The script. It polls `/scan` and `/stats` once a second while the page is visible, and `/history` whenever the page
+/// becomes visible, and puts the results into the page: each value by `textContent` alone. Numbers keep all their
+/// digits, as JavaScript's own numbers above 2^53 don't.
 pub(crate) const SCRIPT: &[u8] = br##""use strict";
 const REST = 1000, RETRY = 3000, PATIENCE = 5000;   // milliseconds between polls, after a failed one, and for one
 const POINTS = 180;                                 // of a plot: three minutes

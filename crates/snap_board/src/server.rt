@@ -4,7 +4,6 @@
 //! The crate `http_server` reads requests and encodes responses; this module moves the bytes, and closes connections
 //! without progress. A peer that sends nothing, reads nothing or sends no HTTP is closed within seconds, and blocks no
 //! other peer.
-ghost use Rattle.std.specs.Prelude.{◌≡◌, ◌↔◌, IsNone};
 ghost use Rattle.snap_board.specs.Answered.{Answered};
 
 mod connection;
@@ -95,25 +94,13 @@ pub struct HttpServer {
     beaten: Instant,
 }
 
-/// How long the next accept has to wait after one failed with an error of this kind; `None` if no connection waits.
-fn rest_after(kind: ErrorKind) -> Option<Duration>
-    ensures { IsNone result ↔ (kind ≡ ErrorKind.WouldBlock) }
-{
-    match kind {
-        ErrorKind::WouldBlock => None,
-        // The client has closed, or a signal arrived.
-        ErrorKind::ConnectionAborted | ErrorKind::Interrupted => Some(Duration::ZERO),
-        _ => Some(Duration::from_millis(ACCEPT_REST)),
-    }
-}
-
 impl HttpServer {
     /// Makes a server at this non-blocking listener, and the handle that stops it. Its lists are
     /// allocated here. An error is the system's, or that memory ran out.
     pub fn new(
         rt: &(impl Net + RandomSource + Clock),
         alloc: Global,
-        listener: TcpListener,
+        mut listener: TcpListener,
     ) -> io::Result<(HttpServer, StopHandle)> {
         let poll = Poll::new(rt)?;
         let events = Events::with_capacity(alloc, MAX_EVENTS)?;
@@ -121,7 +108,6 @@ impl HttpServer {
         let is_set = AtomicBool::new(false);
         let stopping = Arc::new(alloc, StopSignal { waker, is_set })?;
         let signal = Arc::try_clone(&stopping)?;
-        let mut listener = listener;
         poll.registry()
             .register(&mut listener, LISTENER, Interest::READABLE)?;
         let keys = RandomState::new(rt)?;
@@ -158,7 +144,10 @@ impl HttpServer {
             self.wait()?;
             // If the clock can't be read, no time has passed.
             self.time = Instant::now(rt).unwrap_or(self.time);
-            self.keep_time(beat);
+            if self.time.duration_since(self.beaten) >= Duration::from_secs(BEAT_REST) {
+                self.beaten = self.time;
+                beat.beat();
+            }
             self.take_events(service);
             self.accept_waiting();
             self.connections.let_slow_go(self.time);
@@ -173,14 +162,6 @@ impl HttpServer {
         );
         let most = self.accept_rest.unwrap_or(beat_rest);
         self.poll.poll(&mut self.events, Some(most))
-    }
-
-    /// Runs `beat` if a second has passed.
-    fn keep_time<B: Beat>(&mut self, beat: &B) {
-        if self.time.duration_since(self.beaten) >= Duration::from_secs(BEAT_REST) {
-            self.beaten = self.time;
-            beat.beat();
-        }
     }
 
     /// Lets each connection with an event take its steps.
@@ -211,7 +192,14 @@ impl HttpServer {
                         .welcome(self.poll.registry(), stream, self.time);
                 }
                 Err(error) => {
-                    self.accept_rest = rest_after(error.kind());
+                    self.accept_rest = match error.kind() {
+                        ErrorKind::WouldBlock => None,
+                        // The client has closed, or a signal arrived.
+                        ErrorKind::ConnectionAborted | ErrorKind::Interrupted => Some(
+                            Duration::ZERO,
+                        ),
+                        _ => Some(Duration::from_millis(ACCEPT_REST)),
+                    };
                     return;
                 }
             }

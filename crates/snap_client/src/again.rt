@@ -34,10 +34,9 @@ fn try_once<R: Read + Drop, W: Write + Drop, F: FnMut() -> Option<(R, W)>>(
 /// Sends a request on a connection of its own, and again on a new one as long as there are tries
 /// left and the fault is one that may pass ([`ClientFault::may_pass`]).
 ///
-/// `connect` returns a reader and a writer, or `None` if it can't connect. It is called at most
-/// `tries` times, 1 to [`MAX_TRIES`]; each connection is dropped before the next one is made. The
-/// answer is the last connection's. A refusal is an answer, and isn't tried again. The request is
-/// one that [`Client::call`] takes.
+/// `connect` returns a reader and a writer, or `None` if it can't connect. It is called at most `tries` times, 1 to
+/// [`MAX_TRIES`]; each connection is dropped before the next one is made. The answer is the last connection's. A
+/// refusal is an answer, and isn't tried again. The request is one that [`Client::call`] takes.
 pub fn call_again<R: Read + Drop, W: Write + Drop, F: FnMut() -> Option<(R, W)>>(
     alloc: Global,
     connect: &mut F,

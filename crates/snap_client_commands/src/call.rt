@@ -1,4 +1,4 @@
-//! Sends the request of a call and prints the reply.
+//! Sends the request of a call and prints the reply, and fetches the values of a server for a dump.
 ghost use Rattle.std.specs.Prelude.{◌≡◌, ◌≤◌, ℕ, List, IfSome, MatchOption, length};
 ghost use Rattle.snap_client.specs.Again.{TriesIn};
 ghost use Rattle.snap_frame.specs.Messages.{IsAskable, max_payload, payload};
@@ -6,13 +6,12 @@ ghost use Rattle.snap_order.specs.Limits.{MAX_TRIES};
 ghost use Rattle.snap_order.specs.Order.{IsCallable, IsWithin, request_of};
 ghost use Rattle.snap_client_commands.specs.Ends.{EndsAsked, EndsRead, HasFailed, IsOnlyValue, IsRead, IsRefused};
 ghost use Rattle.snap_client_commands.specs.Ends.{PrintsInPlace, answer_status, tries_of};
-ghost use Rattle.snap_client_commands.specs.Puts.{Does, ReadsInput};
+ghost use Rattle.snap_client_commands.specs.{Fetch.Fetches, Puts.Does, Puts.ReadsInput};
 
-use crate::line::{detailed_line, stored_line};
-use crate::print::{answer_of, is_any_fenced};
+use crate::print::{LineText, answer_of, is_any_fenced, stored_line};
 use crate::put::store;
 use snap_client::{ClientFault, call_again, call_while};
-use snap_frame::{NamedValue, Reply};
+use snap_frame::{NamedValue, Reply, SegmentValue};
 use snap_order::{CallOptions, CallRequest, Exit, OutputFormat, Request, SegmentSet, Status};
 use snap_stream::{Refusal, complain, complain_of_refusal, write_whole};
 use std::alloc::Global;
@@ -64,6 +63,33 @@ pub fn ask<
             let answer = answer_from(alloc, question, tries_of(order), connect);
             end(alloc, order, question, order.layout, answer, writer, errors)
         }
+    }
+}
+
+/// The number and value of each segment of a server, in order, at one moment: by one scan. An error says how the
+/// program ends: the server refused or gave no answer, and `errors` got the complaint, as from [`ask`].
+/// `connect` returns a reader and a writer, or `None` if no connection can be made. It is called once at least and
+/// `tries` times at most. If `tries` is `None` there is no such limit, and `connect` ends the wait by `None`.
+pub fn fetch<R: Read + Drop, C: Write + Drop, F: FnMut() -> Option<(R, C)>, E: Write>(
+    alloc: Global,
+    address: &str,
+    tries: Option<u8>,
+    connect: &mut F,
+    errors: &mut E,
+) -> Result<Vec<SegmentValue>, Exit>
+    requires some { IfSome tries (λ n. 1 ≤ n) }
+    requires few { IfSome tries (λ n. n ≤ MAX_TRIES) }
+    requires callable { F.IsAlwaysCallable connect.old }
+
+    // One scan was sent on at most that many connections, and these are the values of its answer.
+    ensures { Fetches tries F.step R.remaining C.contents connect.old result connect.new }
+{
+    match answer_to(alloc, &Request::Scan, tries, connect) {
+        Ok(Reply::Snapshot(values)) => Ok(values),
+        Ok(Reply::Refused { why, detail }) => Err(refuse(why, detail, errors)),
+        Ok(_) => Err(give_up(alloc, address, ClientFault::BadReply, errors)),
+        Err(ClientFault::NoMemory) => Err(refuse_here(Refusal::NoMemory, errors)),
+        Err(fault) => Err(give_up(alloc, address, fault, errors)),
     }
 }
 
@@ -148,7 +174,7 @@ pub(crate) fn end<W: Write, E: Write>(
             print_whole(alloc, Status::Done, text, &before, writer, errors)
         }
         Ok(reply) => print_read(alloc, order, question, layout, &reply, writer, errors),
-        Err(ClientFault::NoMemory) => stop(errors),
+        Err(ClientFault::NoMemory) => refuse_here(Refusal::NoMemory, errors),
         Err(fault) => give_up(alloc, order.address, fault, errors),
     }
 }
@@ -174,7 +200,7 @@ fn print_read<W: Write, E: Write>(
         },
         _ => {
             let Ok(text) = answer_of(alloc, question, layout, reply) else {
-                return stop(errors);
+                return refuse_here(Refusal::NoMemory, errors);
             };
             let status = status_of(question, reply);
             print_whole(alloc, status, text.as_slice(), &"", writer, errors)
@@ -234,21 +260,15 @@ fn print_whole<T: Display, W: Write, E: Write>(
 pub(crate) fn refuse<E: Write>(why: Refusal, detail: u64, errors: &mut E) -> Exit
     ensures { IsRefused result }
 {
-    let line = detailed_line(why, detail);
+    let (code, name) = (why.code(), why.name());
+    let line = LineText::of(&format_args!("snapd: refused {code} {name} {detail}\n"));
     Exit {
         status: Status::Refused,
         is_told: write_whole(errors, line.as_str().as_bytes()).is_ok(),
     }
 }
 
-/// Complains that memory ran out. It takes none.
-pub(crate) fn stop<E: Write>(errors: &mut E) -> Exit
-    ensures { IsRefused result }
-{
-    refuse_here(Refusal::NoMemory, errors)
-}
-
-/// Complains that the call was refused before the server was asked. It takes no memory.
+/// Complains of a refusal of this program: the server wasn't asked, or memory ran out. It takes no memory.
 pub(crate) fn refuse_here<E: Write>(why: Refusal, errors: &mut E) -> Exit
     ensures { IsRefused result }
 {

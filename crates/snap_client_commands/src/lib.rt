@@ -8,11 +8,8 @@
 #![tactic(auto)]
 
 mod call;
-mod line;
 mod print;
 mod put;
-mod values;
 pub mod watch;
 
-pub use call::ask;
-pub use values::fetch;
+pub use call::{ask, fetch};

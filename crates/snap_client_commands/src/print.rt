@@ -1,11 +1,12 @@
 //! The texts of the replies to reads.
 ghost use Rattle.std.specs.Prelude.{◌≡◌, ◌++◌, IfOk, OnOk, codes, flat_map};
+ghost use Rattle.std.specs.Fmt.InlineText.{inline_text};
 ghost use Rattle.snap_stream.specs.Hex.{hex_text};
 ghost use Rattle.snap_json.specs.Each.{each_from};
 ghost use Rattle.snap_order.specs.declared.order.OutputFormat.TheVariants.{Lines};
 ghost use Rattle.snap_client_commands.specs.Ends.{IsRead};
 ghost use Rattle.snap_client_commands.specs.Text.{Shows, fence_text, is_any_fenced, named_line};
-ghost use Rattle.snap_client_commands.specs.Text.{segment_text, status_line, value_line, value_text};
+ghost use Rattle.snap_client_commands.specs.Text.{segment_text, status_line, stored_line, value_line, value_text};
 
 use bytes::Bytes;
 use itoa::Buffer;
@@ -14,6 +15,21 @@ use snap_json::{health_document, part_document, quote, scan_document, status_doc
 use snap_order::{CallRequest, OutputFormat};
 use snap_stream::put_hex;
 use std::alloc::{AllocError, Global};
+use std::fmt::InlineText;
+
+/// A line in a fixed buffer, for which memory can't run out. It has room for more than the longest: 15 bytes of
+/// `snapd: refused `, two numbers of 20 digits at most, a name of 16 at most, two spaces and a line feed.
+pub(crate) type LineText = InlineText<80>;
+
+/// The line of a stored number.
+pub(crate) fn stored_line(number: u64) -> LineText
+    ensures { inline_text result ≡ stored_line number }
+{
+    LineText::new()
+        .and_str("stored ", 7)
+        .and_str(Buffer::new().format(number), 40)
+        .and_str("\n", 1)
+}
 
 /// The text of the reply to a call's request, in this output format.
 pub(crate) fn answer_of(

@@ -12,7 +12,7 @@ ghost use Rattle.snap_client_commands.specs.Puts.{EndsLacking, GoesOn, HasValue,
 ghost use Rattle.snap_client_commands.specs.Puts.{TellsNumber};
 ghost use Rattle.snap_client_commands.specs.declared.put.NoValue.TheVariants.{NoMemory};
 
-use crate::call::{answer_from, answer_to, end, fail, refuse, refuse_here, stop, tries_of};
+use crate::call::{answer_from, answer_to, end, fail, refuse, refuse_here, tries_of};
 use bytes::Bytes;
 use snap_client::ClientFault;
 use snap_frame::{Reply, SegmentStatus};
@@ -84,23 +84,17 @@ fn value_of<I: Read>(alloc: Global, source: &Source, input: &mut I) -> Result<By
     ensures unread { (source.now ≡ sources.Input → ⊥) → input.new ≡ input.old }
 {
     match source {
-        Source::Input => value_from(alloc, input),
+        Source::Input => {
+            // One byte more than a value may have shows that the input is too long.
+            let mut bytes = [0u8; MAX_VALUE_LEN + 1];
+            let len = read_up_to(input, &mut bytes).map_err(NoValue::Failed)?;
+            if len > MAX_VALUE_LEN {
+                return Err(NoValue::TooLong);
+            }
+            copy_of(alloc, &bytes[..len])
+        }
         Source::Words(bytes) => copy_of(alloc, bytes.as_slice()),
     }
-}
-
-/// All bytes of the reader. An error if they are more than a value may have.
-fn value_from<I: Read>(alloc: Global, input: &mut I) -> Result<Bytes, NoValue>
-    ensures value { IfOk result (HasValue sources.Input (I.remaining input.old)) }
-    ensures lack { IfErr result (MayLack sources.Input (I.remaining input.old)) }
-{
-    // One byte more than a value may have shows that the input is too long.
-    let mut bytes = [0u8; MAX_VALUE_LEN + 1];
-    let len = read_up_to(input, &mut bytes).map_err(NoValue::Failed)?;
-    if len > MAX_VALUE_LEN {
-        return Err(NoValue::TooLong);
-    }
-    copy_of(alloc, &bytes[..len])
 }
 
 /// These bytes as a value.
@@ -117,7 +111,7 @@ fn say_lack<E: Write>(alloc: Global, lack: NoValue, errors: &mut E) -> Exit
 {
     match lack {
         NoValue::TooLong => refuse_here(Refusal::TooLong, errors),
-        NoValue::NoMemory => stop(errors),
+        NoValue::NoMemory => refuse_here(Refusal::NoMemory, errors),
         NoValue::Failed(error) => fail(alloc, &format_args!("standard input: {error}"), errors),
     }
 }

@@ -12,6 +12,6 @@ mod terminal;
 mod track;
 
 pub use exchange::{Row, WatchFault, look, set_of};
-pub use print::{Form, changes};
+pub use print::changes;
 pub use terminal::{Panel, drawing};
 pub use track::{Track, followed};

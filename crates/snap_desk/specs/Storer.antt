@@ -1,15 +1,14 @@
--- The state of a storer, and the status of a writer.
-use Rattle.std.specs.Prelude.{◌≡◌, ◌⊎◌, ℕ, Bool, true, false, is_some}
+-- The state of a storer, and the published status of a writer.
+use Rattle.std.specs.Prelude.{◌≡◌, ◌⊎◌, ℕ, ◌+◌, ◌*◌, Bool, true, false, is_some}
 use Rattle.snap_memory.specs.Seat.{own_of}
 use Rattle.snap_service.specs.{Writer.WriterState, Writer.number_of, Updated.IsUpdated, Counted.next_count}
-use Rattle.snap_desk.specs.{declared.writer_status.WriterStatus.WriterStatus, Came.Came}
+use Rattle.snap_desk.specs.Came.{Came}
 use Rattle.snap_disk.specs.declared.disk.Disk as Disk
 
--- the status has the writer's segment, its number, and whether it is fenced
-pub record StandsAt {D : Type 0} (w : WriterState D) (stands : WriterStatus) : Type 0 where
-  pub own : own_of w.seat ≡ stands.segment
-  pub number_is : number_of w ≡ stands.number
-  pub fence_is : is_some w.segment.begun ≡ stands.is_fenced
+-- the word is twice the writer's number, plus one if it is fenced
+pub record IsWordOf {D : Type 0} (w : WriterState D) (word : ℕ) : Type 0 where
+  pub unfenced : is_some w.segment.begun ≡ false → word ≡ number_of w * 2
+  pub fenced : is_some w.segment.begun ≡ true → word ≡ number_of w * 2 + 1
 
 -- the segment of a storer's queue, how many updates have arrived, and how many of them were taken, both modulo 2^64
 pub record Queued : Type 0 where

@@ -1,28 +1,27 @@
 //! The desk: a worker's service.
-ghost use Rattle.std.specs.Prelude.{◌≡◌, ◌⊎◌, ℕ, ◌+◌, ◌<◌, IfOk, IfSome, IfNone, length, false};
+ghost use Rattle.std.specs.Prelude.{◌≡◌, ◌⊎◌, ℕ, ◌+◌, IfOk, IfSome, IfNone, length, false};
 ghost use Rattle.snap_memory.specs.Rule.{segments};
 ghost use Rattle.snap_frame.specs.Messages.{IsInLimits};
-ghost use Rattle.snap_service.specs.Answers.{Answers, AnswersUpdate, AnswersScan, AnswersPart, AnswersStatus};
+ghost use Rattle.snap_service.specs.Answers.{Answers, AnswersUpdate};
 ghost use Rattle.snap_service.specs.{Memory.IsOf, Counted.LooksOnce};
 ghost use Rattle.snap_desk.specs.{Handover.HasHanded, Job.job_of, Tells.TellsUpdate};
 
 use crate::job::Requested;
-use crate::outbox::{Outbox, Sent, StorerHandle};
-use crate::read_only_service::ReadOnlyService;
-use crate::update_observer::UpdateObserver;
+use crate::outbox::{Outbox, Sent, StorerHandle, UpdateObserver};
+use crate::read_only_service::{ReadOnlyService, answer_unstored};
 use crate::writer_lease::Outcome;
 use bytes::Bytes;
-use snap_disk::{Disk, Refusal};
-use snap_frame::{Reply, Request, SegmentSet};
+use snap_disk::Disk;
+use snap_frame::{Reply, Request};
 use snap_memory::Scanner;
 use snap_metrics::Looking;
-use snap_service::{Memory, answer_by_look, answer_part, answer_scan, refuse_place};
+use snap_service::{Memory, answer_by_look, refuse_place};
 use snap_session::Service;
 use std::alloc::{AllocError, Global};
-use std::marker::{Brand, Model};
+use std::marker::{Brand, Model, PhantomData};
 use std::rt::Clock;
-use std::sync::Wait;
 use std::sync::atomic::{AtomicBool, Ordering};
+use std::sync::{Arc, Wait};
 
 /// A worker's [`Service`]: answers scans and statuses itself. It stores an update itself if nobody else waits for the
 /// desk or has the segment's writer, and else sends it to the segment's storer.
@@ -137,44 +136,19 @@ impl<R: Wait + Copy + Clock, M: Memory, D: Disk + Drop, H: UpdateObserver + Drop
         requires handles { length handles.items ≡ segments M.plan }
         ensures { result ≡ scanner }
     {
+        let outbox = Outbox {
+            rt,
+            worker,
+            handles,
+            sent: 0,
+        };
         Desk {
             alloc,
-            outbox: Outbox::new(rt, alloc, worker, handles),
+            outbox,
             scanner,
             watch,
             may_store: AtomicBool::new(false),
         }
-    }
-
-    /// Replies with the last published status of each segment.
-    fn status(&mut self) -> Reply
-        ensures answer { AnswersStatus self.old result self.new }
-        ensures limits { IsInLimits result }
-    {
-        // Called for its clause on the scanner (docs/DECISIONS.md, 180).
-        let _segments = self.scanner.segments();
-        match self.outbox.list_statuses() {
-            Ok(statuses) => Reply::Status(statuses),
-            Err(AllocError) => Reply::Refused {
-                why: Refusal::NoMemory,
-                detail: 0,
-            },
-        }
-    }
-
-    fn scan(&mut self) -> Reply
-        ensures answer { AnswersScan self.old result self.new }
-        ensures limits { IsInLimits result }
-    {
-        answer_scan(self.alloc, &mut self.scanner)
-    }
-
-    fn part(&mut self, set: SegmentSet) -> Reply
-        requires some { 0 < set.bits }
-        ensures answer { AnswersPart self.old set.bits result self.new }
-        ensures limits { IsInLimits result }
-    {
-        answer_part(self.alloc, &mut self.scanner, set)
     }
 
     /// Makes a service for read-only clients, with this desk's scanner. The desk's handles are
@@ -184,20 +158,20 @@ impl<R: Wait + Copy + Clock, M: Memory, D: Disk + Drop, H: UpdateObserver + Drop
     {
         let Desk {
             alloc,
-            outbox,
+            outbox: Outbox { handles, .. },
             scanner,
             ..
         } = self;
-        let standings = outbox.into_standings()?;
-        Ok(ReadOnlyService::new(alloc, scanner, standings))
-    }
-
-    /// Returns the scanner, unchanged. A store can be closed once all its scanners and writers were returned.
-    pub fn into_scanner(self) -> Scanner
-        ensures scanner { result ≡ self }
-        ensures memory { IsOf M.table M.plan result }
-    {
-        self.scanner
+        let mut standings = Vec::with_capacity(alloc, handles.len())?;
+        for handle in &handles {
+            standings.push(Arc::try_clone(&handle.standing)?)?;
+        }
+        Ok(ReadOnlyService {
+            alloc,
+            scanner,
+            standings,
+            of: PhantomData,
+        })
     }
 }
 
@@ -234,9 +208,12 @@ impl<R: Wait + Copy + Clock, M: Memory, D: Disk + Drop, H: UpdateObserver + Drop
                 value,
                 key,
             ),
-            Request::Scan => Some(self.scan()),
-            Request::Status => Some(self.status()),
-            Request::Part(set) => Some(self.part(*set)),
+            _ => Some(answer_unstored(
+                self.alloc,
+                &mut self.scanner,
+                &self.outbox.handles,
+                request,
+            )),
         }
     }
 
@@ -257,9 +234,7 @@ impl<R: Wait + Copy + Clock, M: Memory, D: Disk + Drop, H: UpdateObserver + Drop
                 value.as_slice(),
                 outcome,
             ),
-            Request::Scan => self.scan(),
-            Request::Status => self.status(),
-            Request::Part(set) => self.part(*set),
+            _ => answer_unstored(self.alloc, &mut self.scanner, &self.outbox.handles, request),
         }
     }
 }

@@ -52,13 +52,12 @@ impl<M: Memory> Job<M> {
         requires asked { M.asked segment number value.now }
         ensures { IfOk result (λ job. job ≡ job_of worker key segment number value.now) }
     {
-        let value: Result<Bytes, AllocError> = value.clone();
         Ok(Job {
             worker,
             key,
             segment,
             number,
-            value: value?,
+            value: value.clone()?,
             of: PhantomData,
         })
     }

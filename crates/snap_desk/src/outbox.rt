@@ -1,24 +1,22 @@
 //! The outbox: a worker's side of the writers and of the channels to the storers.
-ghost use Rattle.std.specs.Prelude.{◌≡◌, ◌<◌, length, All, IfOk, IfSome, IfNone};
-ghost use Rattle.snap_frame.specs.{Limits.IsShort, Messages.IsStatus, Messages.IsInLimits};
+ghost use Rattle.std.specs.Prelude.{◌≡◌, ◌<◌, length, IfOk, IfSome, IfNone};
+ghost use Rattle.snap_frame.specs.{Limits.IsShort, Messages.IsInLimits};
 ghost use Rattle.snap_memory.specs.Seat.{Meets};
 ghost use Rattle.snap_service.specs.{Memory.IsOf, Settled.IsSettledAt};
 ghost use Rattle.snap_desk.specs.{Handover.HasHanded, Job.job_of};
 
 use crate::job::{Job, Requested};
-use crate::update_observer::UpdateObserver;
 use crate::writer_slot::WriterSlot;
-use crate::writer_status::{WriterStatus, status_in};
 use bytes::Bytes;
 use crossbeam_channel::{SendError, Sender};
-use snap_disk::Disk;
-use snap_frame::{Reply, SegmentStatus};
+use snap_disk::{Disk, Refusal};
+use snap_frame::Reply;
 use snap_memory::Scanner;
 use snap_service::Memory;
 use std::alloc::{AllocError, Global};
 use std::marker::{Model, PhantomData};
 use std::rt::Clock;
-use std::sync::atomic::{AtomicU64, Ordering};
+use std::sync::atomic::AtomicU64;
 use std::sync::{Arc, Wait};
 use std::thread;
 use std::time::Duration;
@@ -29,15 +27,6 @@ const REST: u64 = 5;
 /// The number of tries to send an update if memory runs out: a tenth of a second in all. A worker
 /// that waited longer couldn't close connections meanwhile, which may be what frees memory.
 const TRIES: u32 = 20;
-
-/// Why an update wasn't sent.
-#[derive(Drop)]
-enum SendFault {
-    /// Memory for it ran out.
-    NoMemory,
-    /// The handle is another segment's, or the storer has ended.
-    Gone,
-}
 
 /// Proof that the job `J` was sent. Only [`StorerHandle::send`] makes it, from the job that it sends.
 #[derive(Drop)]
@@ -51,11 +40,11 @@ pub(crate) struct Sent<J: Requested> {
 /// Models the segment's index. The storer runs until every handle is dropped.
 #[derive(Drop)]
 pub struct StorerHandle<M: Memory, D: Disk + Drop> {
-    segment: usize,
-    jobs: Sender<Job<M>>,
-    /// The writer's published status in one word, as [`status_in`] reads it.
-    standing: Arc<AtomicU64, Global>,
-    writers: WriterSlot<M, D>,
+    pub(crate) segment: usize,
+    pub(crate) jobs: Sender<Job<M>>,
+    /// The writer's published status in one word, as [`status_in`](crate::heap_writer::status_in) reads it.
+    pub(crate) standing: Arc<AtomicU64, Global>,
+    pub(crate) writers: WriterSlot<M, D>,
 }
 
 impl<M: Memory, D: Disk + Drop> Model for StorerHandle<M, D> {
@@ -67,47 +56,32 @@ impl<M: Memory, D: Disk + Drop> Model for StorerHandle<M, D> {
 }
 
 impl<M: Memory, D: Disk + Drop> StorerHandle<M, D> {
-    pub(crate) fn new(
-        segment: usize,
-        jobs: Sender<Job<M>>,
-        standing: Arc<AtomicU64, Global>,
-        writers: WriterSlot<M, D>,
-    ) -> StorerHandle<M, D>
-        ensures { result ≡ segment }
-    {
-        StorerHandle {
-            segment,
-            jobs,
-            standing,
-            writers,
-        }
-    }
-
-    /// Tries to send `job`, an update of `segment`, to the storer. After an error it wasn't sent.
+    /// Sends `job`, an update of `segment`, to the storer. After the error that memory ran out it wasn't sent; nor if
+    /// the result is `None`: the handle is another segment's, or the storer has ended.
     fn send<R: Wait, J: Requested>(
         &self,
         rt: &R,
         segment: usize,
         job: Job<M>,
-    ) -> Result<Sent<J>, SendFault>
+    ) -> Result<Option<Sent<J>>, AllocError>
         requires { job ≡ J.job }
-        ensures { IfOk result (λ _. self.now ≡ segment) }
+        ensures { IfOk result (λ sent. IfSome sent (λ _. self.now ≡ segment)) }
     {
         if self.segment != segment {
-            return Err(SendFault::Gone);
+            return Ok(None);
         }
         match self.jobs.send(rt, job) {
-            Ok(()) => Ok(Sent { of: PhantomData }),
-            Err(SendError::OutOfMemory(_)) => Err(SendFault::NoMemory),
-            Err(SendError::Disconnected(_)) => Err(SendFault::Gone),
+            Ok(()) => Ok(Some(Sent { of: PhantomData })),
+            Err(SendError::OutOfMemory(_)) => Err(AllocError),
+            Err(SendError::Disconnected(_)) => Ok(None),
         }
     }
+}
 
-    /// Reads the status that was published last.
-    fn status(&self) -> SegmentStatus
-        ensures { IsStatus result }
-    {
-        status_in(self.standing.load(Ordering::SeqCst))
+/// Lends the word of the status that was published last.
+impl<M: Memory, D: Disk + Drop> AsRef<AtomicU64> for StorerHandle<M, D> {
+    fn as_ref(&self) -> &AtomicU64 {
+        self.standing.as_ref()
     }
 }
 
@@ -126,16 +100,31 @@ impl<M: Memory, D: Disk + Drop> Clone for StorerHandle<M, D> {
     }
 }
 
+/// Is notified of the result of each update, on the thread that stored it: while this is so, no other thread stores for
+/// the segment.
+pub trait UpdateObserver {
+    /// Called when an update to `number` got this result: the segment's number if it has the value, or a refusal. After
+    /// [`DeviceFailed`](Refusal::DeviceFailed) the segment takes no further update until a restart.
+    fn told(&self, segment: usize, number: u64, told: Result<u64, Refusal>);
+}
+
+/// Ignores all notifications.
+#[derive(Clone, Copy, Drop)]
+pub struct NoUpdateObserver;
+
+impl UpdateObserver for NoUpdateObserver {
+    fn told(&self, _segment: usize, _number: u64, _told: Result<u64, Refusal>) {}
+}
+
 /// Stores a worker's updates, or sends them to the storers, by one handle for each segment.
 ///
 /// Models the worker, the handles' segments, and the number of updates that were sent, modulo 2^64.
 #[derive(Drop)]
 pub(crate) struct Outbox<R: Wait + Copy, M: Memory, D: Disk + Drop> {
-    rt: R,
-    alloc: Global,
-    worker: usize,
-    handles: Vec<StorerHandle<M, D>>,
-    sent: u64,
+    pub(crate) rt: R,
+    pub(crate) worker: usize,
+    pub(crate) handles: Vec<StorerHandle<M, D>>,
+    pub(crate) sent: u64,
 }
 
 impl<R: Wait + Copy, M: Memory, D: Disk + Drop> Model for Outbox<R, M, D> {
@@ -146,50 +135,7 @@ impl<R: Wait + Copy, M: Memory, D: Disk + Drop> Model for Outbox<R, M, D> {
     ghost view = { λ o. record { worker = o.worker; handles = o.handles.items; sent = o.sent } };
 }
 
-impl<R: Wait + Copy, M: Memory, D: Disk + Drop> Outbox<R, M, D> {
-    /// An outbox for `worker` that has sent nothing yet.
-    pub(crate) fn new(
-        rt: R,
-        alloc: Global,
-        worker: usize,
-        handles: Vec<StorerHandle<M, D>>,
-    ) -> Outbox<R, M, D>
-        ensures { result ≡ record { worker = worker; handles = handles.items; sent = 0 } }
-    {
-        Outbox {
-            rt,
-            alloc,
-            worker,
-            handles,
-            sent: 0,
-        }
-    }
-
-    /// Reads the last published status of each segment, without a look and without a lock.
-    pub(crate) fn list_statuses(&self) -> Result<Vec<SegmentStatus>, AllocError>
-        ensures count { IfOk result (λ s. length s.items ≡ length self.now.handles) }
-        ensures limits { IfOk result (λ s. All IsStatus s.items) }
-    {
-        let mut statuses = Vec::new(self.alloc);
-        for handle in &self.handles {
-            statuses.push(handle.status())?;
-        }
-        Ok(statuses)
-    }
-
-    /// Returns the published statuses of all segments. They outlive the outbox, and keep no storer running.
-    pub(crate) fn into_standings(self) -> Result<Vec<Arc<AtomicU64, Global>>, AllocError>
-        ensures { IfOk result (λ s. length s.items ≡ length self.handles) }
-    {
-        let mut standings = Vec::with_capacity(self.alloc, self.handles.len())?;
-        for handle in &self.handles {
-            standings.push(Arc::try_clone(&handle.standing)?)?;
-        }
-        Ok(standings)
-    }
-}
-
-impl<R: Wait + Copy, M: Memory, D: Disk + Drop> Outbox<R, M, D> {
+impl<R: Wait + Copy + Clock, M: Memory, D: Disk + Drop> Outbox<R, M, D> {
     /// Stores an update on this thread, publishes the writer's status, puts the writer back, and replies. `None` if
     /// another has the writer; then nothing was done.
     ///
@@ -214,16 +160,12 @@ impl<R: Wait + Copy, M: Memory, D: Disk + Drop> Outbox<R, M, D> {
         let handle = &self.handles[segment];
         let mut writer = handle.writers.try_take(&self.rt, segment)?;
         let told = writer.update(number, value);
-        let stands = WriterStatus::of(writer.as_ref());
-        handle.standing.store(stands.word(), Ordering::SeqCst);
         watch.told(segment, number, told);
         let reply = writer.reply_told(told, scanner);
         let _ = handle.writers.home.send(&self.rt, writer);
         Some(reply)
     }
-}
 
-impl<R: Wait + Copy + Clock, M: Memory, D: Disk + Drop> Outbox<R, M, D> {
     /// Sends an update to its storer, once. `None` if the storer has ended, or if memory runs out
     /// for a tenth of a second; then nothing was sent.
     pub(crate) fn hand_over<J: Requested>(
@@ -243,15 +185,15 @@ impl<R: Wait + Copy + Clock, M: Memory, D: Disk + Drop> Outbox<R, M, D> {
         for _ in 0..TRIES {
             let handed = match Job::new(self.worker, key, segment, number, value) {
                 Ok(job) => self.handles[segment].send(&self.rt, segment, job),
-                Err(AllocError) => Err(SendFault::NoMemory),
+                Err(AllocError) => Err(AllocError),
             };
             match handed {
-                Ok(handed) => {
+                Ok(Some(handed)) => {
                     self.sent = self.sent.wrapping_add(1);
                     return Some(handed);
                 }
-                Err(SendFault::NoMemory) => thread::sleep(&self.rt, Duration::from_millis(REST)),
-                Err(SendFault::Gone) => return None,
+                Ok(None) => return None,
+                Err(AllocError) => thread::sleep(&self.rt, Duration::from_millis(REST)),
             }
         }
         None

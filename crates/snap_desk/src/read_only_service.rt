@@ -1,13 +1,12 @@
-//! The service for read-only clients.
-ghost use Rattle.std.specs.Prelude.{◌≡◌, ◌<◌, All, IfOk, length};
+//! The service for read-only clients, and answers that need no store.
+ghost use Rattle.std.specs.Prelude.{◌≡◌, All, IfOk, length};
 ghost use Rattle.snap_frame.specs.Messages.{IsAskable, IsInLimits, IsStatus};
 ghost use Rattle.snap_memory.specs.Rule.{segments};
-ghost use Rattle.snap_service.specs.Answers.{Answers, AnswersPart, AnswersStatus, AnswersUpdate};
-ghost use Rattle.snap_service.specs.{Memory.IsOf, Counted.LooksOnce, Counted.TakesFewLooks};
+ghost use Rattle.snap_service.specs.{Answers.Answers, Counted.TakesFewLooks, Memory.IsOf};
 
-use crate::writer_status::status_in;
+use crate::heap_writer::status_in;
 use snap_disk::Refusal;
-use snap_frame::{Reply, Request, SegmentSet, SegmentStatus};
+use snap_frame::{Reply, Request, SegmentStatus};
 use snap_memory::Scanner;
 use snap_service::{Memory, answer_by_look, answer_part, answer_scan, refuse_place};
 use snap_session::Service;
@@ -16,6 +15,63 @@ use std::marker::{Model, PhantomData};
 use std::sync::Arc;
 use std::sync::atomic::{AtomicU64, Ordering};
 
+/// Reads the last published status of each segment, without a look and without a lock.
+fn list_statuses<T: AsRef<AtomicU64>>(
+    alloc: Global,
+    standings: &[T],
+) -> Result<Vec<SegmentStatus>, AllocError>
+    ensures count { IfOk result (λ s. length s.items ≡ length standings.now) }
+    ensures limits { IfOk result (λ s. All IsStatus s.items) }
+{
+    let mut statuses = Vec::new(alloc);
+    for standing in standings {
+        statuses.push(status_in(standing.as_ref().load(Ordering::SeqCst)))?;
+    }
+    Ok(statuses)
+}
+
+/// Answers a request without a store: an update by refusing its place or from one look, a status by the words in which
+/// each segment's was published last.
+pub(crate) fn answer_unstored<T: AsRef<AtomicU64>>(
+    alloc: Global,
+    scanner: &mut Scanner,
+    standings: &[T],
+    request: &Request,
+) -> Reply
+    requires standings { length standings.now ≡ segments scanner.old.plan }
+    requires askable { IsAskable request.now }
+    ensures answer { Answers scanner.old request.now result scanner.new }
+    ensures looks { TakesFewLooks scanner.old request.now scanner.new }
+    ensures limits { IsInLimits result }
+    ensures table { scanner.new.table ≡ scanner.old.table }
+    ensures plan { scanner.new.plan ≡ scanner.old.plan }
+{
+    // Called for its clause on the scanner (docs/DECISIONS.md, 180).
+    let _segments = scanner.segments();
+    match request {
+        Request::Update {
+            segment,
+            number,
+            value,
+        } => {
+            let (segment, value) = (usize::from(*segment), value.as_slice());
+            match refuse_place(scanner, segment, value) {
+                Some(reply) => reply,
+                None => answer_by_look(scanner, segment, *number, value),
+            }
+        }
+        Request::Scan => answer_scan(alloc, scanner),
+        Request::Part(set) => answer_part(alloc, scanner, *set),
+        Request::Status => match list_statuses(alloc, standings) {
+            Ok(statuses) => Reply::Status(statuses),
+            Err(AllocError) => Reply::Refused {
+                why: Refusal::NoMemory,
+                detail: 0,
+            },
+        },
+    }
+}
+
 /// A [`Service`] for read-only clients beside the workers (HTTP, metrics): it answers scans and
 /// statuses and never stores.
 ///
@@ -23,11 +79,11 @@ use std::sync::atomic::{AtomicU64, Ordering};
 /// they end once all desks are dropped.
 #[derive(Drop)]
 pub struct ReadOnlyService<M: Memory> {
-    alloc: Global,
-    scanner: Scanner,
+    pub(crate) alloc: Global,
+    pub(crate) scanner: Scanner,
     /// The published status of each segment in one word, as [`status_in`] reads it.
-    standings: Vec<Arc<AtomicU64, Global>>,
-    of: PhantomData<M>,
+    pub(crate) standings: Vec<Arc<AtomicU64, Global>>,
+    pub(crate) of: PhantomData<M>,
 }
 
 impl<M: Memory> Model for ReadOnlyService<M> {
@@ -42,93 +98,6 @@ impl<M: Memory> Model for ReadOnlyService<M> {
     ghost invariant = { λ l. IsOf M.table M.plan l.scanner × (length l.standings.items ≡ segments l.scanner.plan) };
 }
 
-impl<M: Memory> ReadOnlyService<M> {
-    /// A service with this scanner, and the published status of each segment, in order.
-    pub(crate) fn new(
-        alloc: Global,
-        scanner: Scanner,
-        standings: Vec<Arc<AtomicU64, Global>>,
-    ) -> ReadOnlyService<M>
-        requires memory { IsOf M.table M.plan scanner }
-        requires standings { length standings.items ≡ segments M.plan }
-        ensures { result ≡ scanner }
-    {
-        ReadOnlyService {
-            alloc,
-            scanner,
-            standings,
-            of: PhantomData,
-        }
-    }
-
-    /// Replies to an update by refusing its place or from one look. Nothing is stored.
-    fn update(&mut self, segment: usize, number: u64, value: &[u8]) -> Reply
-        ensures answer { AnswersUpdate self.old segment number value.now result self.new }
-        ensures looks { LooksOnce self.old self.new }
-        ensures limits { IsInLimits result }
-    {
-        match refuse_place(&self.scanner, segment, value) {
-            Some(reply) => reply,
-            None => answer_by_look(&mut self.scanner, segment, number, value),
-        }
-    }
-
-    /// Reads the last published status of each segment, without a look and without a lock.
-    fn list_statuses(&self) -> Result<Vec<SegmentStatus>, AllocError>
-        ensures count { IfOk result (λ s. length s.items ≡ segments self.now.plan) }
-        ensures limits { IfOk result (λ s. All IsStatus s.items) }
-    {
-        let mut statuses = Vec::new(self.alloc);
-        for standing in &self.standings {
-            statuses.push(status_in(standing.load(Ordering::SeqCst)))?;
-        }
-        Ok(statuses)
-    }
-
-    /// Replies with the last published status of each segment.
-    fn status(&mut self) -> Reply
-        ensures answer { AnswersStatus self.old result self.new }
-        ensures limits { IsInLimits result }
-    {
-        // Called for its clause on the scanner (docs/DECISIONS.md, 180).
-        let _segments = self.scanner.segments();
-        match self.list_statuses() {
-            Ok(statuses) => Reply::Status(statuses),
-            Err(AllocError) => Reply::Refused {
-                why: Refusal::NoMemory,
-                detail: 0,
-            },
-        }
-    }
-
-    fn part(&mut self, set: SegmentSet) -> Reply
-        requires some { 0 < set.bits }
-        ensures answer { AnswersPart self.old set.bits result self.new }
-        ensures limits { IsInLimits result }
-    {
-        answer_part(self.alloc, &mut self.scanner, set)
-    }
-
-    /// Answers any request.
-    fn reply(&mut self, request: &Request) -> Reply
-        requires askable { IsAskable request.now }
-        ensures answer { Answers self.old request.now result self.new }
-        ensures looks { TakesFewLooks self.old request.now self.new }
-        ensures limits { IsInLimits result }
-    {
-        match request {
-            Request::Update {
-                segment,
-                number,
-                value,
-            } => self.update(usize::from(*segment), *number, value.as_slice()),
-            Request::Scan => answer_scan(self.alloc, &mut self.scanner),
-            Request::Status => self.status(),
-            Request::Part(set) => self.part(*set),
-        }
-    }
-}
-
 impl<M: Memory> Service for ReadOnlyService<M> {
     ghost use Rattle.snap_service.specs.{Answers.Answers, Counted.TakesFewLooks};
 
@@ -139,10 +108,10 @@ impl<M: Memory> Service for ReadOnlyService<M> {
     ghost hands_over = { ⊥ };
 
     fn answer(&mut self, request: &Request, _key: usize) -> Option<Reply> {
-        Some(self.reply(request))
+        Some(self.finish(request, ()))
     }
 
     fn finish(&mut self, request: &Request, _outcome: ()) -> Reply {
-        self.reply(request)
+        answer_unstored(self.alloc, &mut self.scanner, &self.standings, request)
     }
 }

@@ -1,64 +1,55 @@
 //! The storer: the thread that stores for one segment.
-ghost use Rattle.std.specs.Prelude.{◌≡◌, IfOk, IfSome, IfNone};
+ghost use Rattle.std.specs.Prelude.{◌≡◌, IfOk, IfSome, IfNone, false, true};
 ghost use Rattle.snap_memory.specs.Seat.{own_of};
-ghost use Rattle.snap_service.specs.{Asked.StoresAsked, Memory.IsOf, Updated.IsUpdated};
-ghost use Rattle.snap_desk.specs.Storer.{IsNew, IsIdle, StoresOne};
+ghost use Rattle.snap_service.specs.{Asked.StoresAsked, Counted.next_count, Memory.IsOf};
+ghost use Rattle.snap_desk.specs.Storer.{IsNew, IsIdle, IsWaiting, StoresOne};
 
 use crate::heap_writer::HeapWriter;
 use crate::job::Job;
 use crate::outbox::StorerHandle;
-use crate::queue::Queue;
-use crate::writer_lease::{Outcome, WriterLease};
+use crate::writer_lease::{Outcome, store_one};
 use crate::writer_slot::WriterSlot;
-use crate::writer_status::WriterStatus;
-use crossbeam_channel::{Sender, unbounded};
+use crossbeam_channel::{Receiver, TryRecvError, unbounded};
 use snap_disk::Disk;
 use snap_service::Memory;
 use snap_session::{Completion, Spin};
 use snap_writer::Writer;
 use std::alloc::{AllocError, Global};
 use std::marker::Model;
-use std::sync::atomic::{AtomicU64, Ordering};
 use std::sync::{Arc, Wait};
+use std::thread;
 
-/// Does one update, and returns its outcome with the writer on loan.
-pub fn store_one<R: Wait + Copy, M: Memory, D: Disk + Drop>(
-    rt: R,
-    home: Sender<HeapWriter<M, D>>,
-    mut writer: HeapWriter<M, D>,
-    job: Job<M>,
-) -> Outcome<R, M, D>
-    requires own { own_of writer.seat ≡ job.segment }
-    ensures job { result.job ≡ job }
-    ensures updated { IsUpdated D.Disk writer result.writer job.number job.value result.told }
-{
-    let told = writer.update(job.number(), job.value());
-    Outcome::new(job, told, WriterLease { rt, home, writer })
-}
+/// Polls without sleeping before a storer blocks: about 125 us.
+const SPINS: u32 = 500;
 
 /// A storer, which stores for one segment what no desk stores itself: shares its writer with the desks, and owns the
-/// queue of their updates.
+/// queue of their updates, with at most one received update that wasn't taken yet.
 ///
-/// Models its segment, and how many updates arrived and were taken.
+/// Models its segment, and how many updates arrived and how many were taken, both modulo 2^64: these are equal, or
+/// one update waits. So a contract can say that no update is dropped.
 #[derive(Drop)]
 pub struct Storer<R: Wait + Copy, M: Memory, D: Disk + Drop> {
     rt: R,
     segment: usize,
-    queue: Queue<M>,
+    jobs: Receiver<Job<M>>,
     spin: Spin,
-    standing: Arc<AtomicU64, Global>,
+    /// The update that has arrived and wasn't taken yet.
+    next: Option<Job<M>>,
+    came: u64,
+    taken: u64,
     writers: WriterSlot<M, D>,
 }
 
 impl<R: Wait + Copy, M: Memory, D: Disk + Drop> Model for Storer<R, M, D> {
-    ghost use Rattle.std.specs.Prelude.{◌≡◌};
-    ghost use Rattle.snap_desk.specs.Storer.{Queued};
+    ghost use Rattle.std.specs.Prelude.{◌≡◌, is_some, IfSome};
+    ghost use Rattle.snap_desk.specs.Storer.{Queued, came_by};
 
     ghost Value = { Queued };
 
-    ghost view = { λ t. t.queue };
+    ghost view = { λ t. record { segment = t.segment; came = t.came; taken = t.taken } };
 
-    ghost invariant = { λ t. t.queue.segment ≡ t.segment };
+    ghost invariant = { λ t. (t.came ≡ came_by t.taken (is_some t.next))
+        × IfSome t.next (λ job. job.segment ≡ t.segment) };
 }
 
 impl<R: Wait + Copy, M: Memory, D: Disk + Drop> Storer<R, M, D> {
@@ -74,25 +65,83 @@ impl<R: Wait + Copy, M: Memory, D: Disk + Drop> Storer<R, M, D> {
         ensures handle { IfOk result (λ made. made.1 ≡ own_of writer.seat) }
         ensures storer { IfOk result (λ made. IsNew (own_of writer.seat) made.0) }
     {
-        let stands = WriterStatus::of(&writer);
-        let segment = stands.segment;
-        let standing = Arc::new(alloc, AtomicU64::new(stands.word()))?;
-        let (to, jobs) = unbounded(alloc)?;
-        let writers = WriterSlot::new(&rt, alloc, HeapWriter::new(alloc, writer)?)?;
-        let handle = StorerHandle::new(segment, to, Arc::try_clone(&standing)?, writers.clone()?);
+        let segment = writer.segment();
+        let writer = HeapWriter::new(alloc, writer)?;
+        let standing = Arc::try_clone(&writer.standing)?;
+        let (sender, jobs) = unbounded(alloc)?;
+        let writers = WriterSlot::new(&rt, alloc, writer)?;
+        let handle = StorerHandle {
+            segment,
+            jobs: sender,
+            standing,
+            writers: writers.clone()?,
+        };
         let storer = Storer {
             rt,
             segment,
-            queue: Queue::new(segment, jobs),
+            jobs,
             spin: Spin::new(),
-            standing,
+            next: None,
+            came: 0,
+            taken: 0,
             writers,
         };
         Ok((storer, handle))
     }
 
-    /// Waits for an update and for the writer, does the update, publishes the writer's status, and lends the writer
-    /// with the outcome.
+    /// Receives an update: polls for a while if that pays, then sleeps. `None` if none will arrive, since all handles
+    /// are dropped.
+    fn receive(&mut self) -> Option<Job<M>>
+        ensures { self.new ≡ self.old }
+    {
+        if self.spin.is_due() {
+            for _ in 0..SPINS {
+                match self.jobs.try_recv(&self.rt) {
+                    Ok(job) => return Some(job),
+                    Err(TryRecvError::Disconnected) => return None,
+                    Err(TryRecvError::Empty) => thread::yield_now(),
+                }
+            }
+            self.spin.rest();
+        }
+        self.jobs.recv(&self.rt).ok()
+    }
+
+    /// Waits until there is an update to take; `false` if there is none and all handles are dropped, or if one is of
+    /// another segment: the handles send none.
+    fn wait(&mut self) -> bool
+        ensures one { result ≡ true → IsWaiting self.new }
+        ensures rest { self.new ≡ record self.old { came = self.new.came } }
+        ensures none { result ≡ false → self.new ≡ self.old }
+    {
+        if self.next.is_some() {
+            return true;
+        }
+        let Some(job) = self.receive() else {
+            return false;
+        };
+        if job.segment() != self.segment {
+            return false;
+        }
+        self.next = Some(job);
+        self.came = self.came.wrapping_add(1);
+        true
+    }
+
+    /// Takes the waiting update.
+    fn take(&mut self) -> Job<M>
+        requires { IsWaiting self.old }
+        ensures its { result.segment ≡ self.old.segment }
+        ensures taken { self.new ≡ record self.old { taken = next_count self.old.taken } }
+    {
+        let Some(job) = self.next.take() else {
+            unreachable!();
+        };
+        self.taken = self.taken.wrapping_add(1);
+        job
+    }
+
+    /// Waits for an update and for the writer, does the update, and lends the writer with the outcome.
     ///
     /// `None` if all handles are dropped and no update is left; if the writer won't be put back; or
     /// if memory to lend it runs out. Then nothing was done, and an update that has arrived still waits.
@@ -102,19 +151,14 @@ impl<R: Wait + Copy, M: Memory, D: Disk + Drop> Storer<R, M, D> {
         ensures stored { IfSome result (λ t. StoresOne D.Disk self.old t.outcome self.new) }
         ensures none { IfNone result (IsIdle self.old self.new) }
     {
-        if !self.queue.wait(&self.rt, &mut self.spin) {
+        if !self.wait() {
             return None;
         }
-        let home: Result<Sender<HeapWriter<M, D>>, AllocError> = self.writers.home.clone();
-        let Ok(home) = home else {
-            return None;
-        };
+        let home = self.writers.home.clone().ok()?;
         let writer = self.writers.take(&self.rt, self.segment)?;
-        let job = self.queue.take();
+        let job = self.take();
         let (worker, key) = job.receiver();
         let outcome = store_one(self.rt, home, writer, job);
-        self.standing
-            .store(outcome.stands().word(), Ordering::SeqCst);
         Some(Completion {
             worker,
             key,

@@ -1,14 +1,13 @@
 //! Writers on loan, and the outcomes of updates.
 ghost use Rattle.std.specs.Prelude.{◌≡◌, ℕ, List, true, false};
-ghost use Rattle.snap_frame.specs.{Limits.IsNumber, Limits.IsShort, Messages.IsInLimits};
+ghost use Rattle.snap_frame.specs.{Limits.IsShort, Messages.IsInLimits};
 ghost use Rattle.snap_memory.specs.Seat.{Meets, own_of};
 ghost use Rattle.snap_service.specs.Settled.{IsSettledAt, IsTellable, reply_of};
-ghost use Rattle.snap_service.specs.{Writer.number_of, Memory.IsOf};
-ghost use Rattle.snap_desk.specs.{Came.Came, Storer.StandsAt};
+ghost use Rattle.snap_service.specs.{Writer.number_of, Memory.IsOf, Updated.IsUpdated};
+ghost use Rattle.snap_desk.specs.Came.{Came};
 
 use crate::heap_writer::HeapWriter;
 use crate::job::Job;
-use crate::writer_status::WriterStatus;
 use crossbeam_channel::Sender;
 use snap_disk::{Disk, Refusal};
 use snap_frame::Reply;
@@ -50,28 +49,23 @@ impl<R: Wait + Copy, M: Memory, D: Disk + Drop> Model for Outcome<R, M, D> {
     ghost invariant = { λ o. IsTellable o.lease.writer o.job.number o.job.value o.told };
 }
 
+/// Does one update, and returns its outcome with the writer on loan.
+pub fn store_one<R: Wait + Copy, M: Memory, D: Disk + Drop>(
+    rt: R,
+    home: Sender<HeapWriter<M, D>>,
+    mut writer: HeapWriter<M, D>,
+    job: Job<M>,
+) -> Outcome<R, M, D>
+    requires own { own_of writer.seat ≡ job.segment }
+    ensures job { result.job ≡ job }
+    ensures updated { IsUpdated D.Disk writer result.writer job.number job.value result.told }
+{
+    let told = writer.update(job.number(), job.value());
+    let lease = WriterLease { rt, home, writer };
+    Outcome { job, told, lease }
+}
+
 impl<R: Wait + Copy, M: Memory, D: Disk + Drop> Outcome<R, M, D> {
-    /// The outcome of `job`: the writer after it, and the writer's result. The clause `IsTellable`
-    /// allows a reply by this writer.
-    pub fn new(
-        job: Job<M>,
-        told: Result<u64, Refusal>,
-        lease: WriterLease<R, M, D>,
-    ) -> Outcome<R, M, D>
-        requires { IsTellable lease.writer job.number job.value told }
-        ensures { result ≡ record { job = job; writer = lease.writer; told = told } }
-    {
-        Outcome { job, told, lease }
-    }
-
-    /// The writer's status: its segment, its number, and whether it is fenced.
-    pub fn stands(&self) -> WriterStatus
-        ensures stands { StandsAt self.now.writer result }
-        ensures low { IsNumber result.number }
-    {
-        WriterStatus::of(self.lease.writer.as_ref())
-    }
-
     /// The writer's result: the segment's number, or the refusal of the update.
     pub fn told(&self) -> Result<u64, Refusal>
         ensures { result ≡ self.now.told }

@@ -25,10 +25,8 @@ impl<M: Memory, D: Disk + Drop> WriterSlot<M, D> {
         writer: HeapWriter<M, D>,
     ) -> Result<WriterSlot<M, D>, AllocError> {
         let (home, here) = bounded(alloc, 1)?;
-        match home.send(rt, writer) {
-            Ok(()) => Ok(WriterSlot { home, here }),
-            Err(_) => Err(AllocError),
-        }
+        home.send(rt, writer).map_err(|_| AllocError)?;
+        Ok(WriterSlot { home, here })
     }
 
     /// Takes the writer, and waits for it while another has it. `None` if it won't be put back, or is of another
@@ -36,22 +34,16 @@ impl<M: Memory, D: Disk + Drop> WriterSlot<M, D> {
     pub(crate) fn take<R: Wait>(&self, rt: &R, segment: usize) -> Option<HeapWriter<M, D>>
         ensures { IfSome result (λ w. own_of w.seat ≡ segment) }
     {
-        let writer = self.here.recv(rt).ok()?;
-        if writer.as_ref().segment() != segment {
-            return None;
-        }
-        Some(writer)
+        let writer = self.here.recv(rt).ok();
+        writer.filter(|writer| writer.as_ref().segment() == segment)
     }
 
     /// Takes the writer as [`WriterSlot::take`] does; also `None` if another has it.
     pub(crate) fn try_take<R: Wait>(&self, rt: &R, segment: usize) -> Option<HeapWriter<M, D>>
         ensures { IfSome result (λ w. own_of w.seat ≡ segment) }
     {
-        let writer = self.here.try_recv(rt).ok()?;
-        if writer.as_ref().segment() != segment {
-            return None;
-        }
-        Some(writer)
+        let writer = self.here.try_recv(rt).ok();
+        writer.filter(|writer| writer.as_ref().segment() == segment)
     }
 }
 

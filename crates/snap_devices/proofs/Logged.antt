@@ -4,7 +4,7 @@ use Rattle.std.proofs.Common.{length-append, length-take}
 use Rattle.std.proofs.lemmas.List.{length-replicate}
 use Rattle.snap_disk.specs.Device.{Elapses}
 use Rattle.snap_devices.specs.CallLog.{fit, device_after, IsHonestCall, IsHonestLog, LeftSince}
-use Rattle.snap_devices.specs.{Story.Story, declared.call.Call.Call}
+use Rattle.snap_devices.specs.{Story.Story, declared.file.Call.Call}
 
 pub length_fit : (len : ℕ) (bytes : List ℕ) → length (fit len bytes) ≡ len
 unfolding fit

@@ -2,8 +2,8 @@
 use Rattle.std.specs.Prelude.{◌≡◌, ◌⊎◌, ℕ, ◌≤◌, ◌<◌, Bool, false, ◌||◌, List, [], ◌∷◌, ◌++◌, length, take, replicate}
 use Rattle.std.proofs.Common.{inl, inr, arith}
 use Rattle.snap_disk.specs.Device.{Device, in_range, part, MayLeave, IsUnchanged, IsTouched, IsSynced, IsUnsynced}
-use Rattle.snap_devices.specs.declared.call.Call.TheVariants.{Gave, ReadFailed, Wrote, WriteFailed, Synced, SyncFailed}
-use Rattle.snap_devices.specs.{Story.Story, declared.call.Call.Call}
+use Rattle.snap_devices.specs.declared.file.Call.TheVariants.{Gave, ReadFailed, Wrote, WriteFailed, Synced, SyncFailed}
+use Rattle.snap_devices.specs.{Story.Story, declared.file.Call.Call}
 
 -- the first len bytes, with zeros for those that lack
 unfoldable pub fit : ℕ → List ℕ → List ℕ

@@ -11,10 +11,7 @@
 //! write (`opened_path.rt`). Three reads give the rest. Only the bytes that are compared are kept, so a device is small
 //! where it is moved.
 
-ghost use Rattle.std.specs.Prelude.{◌<◌};
-ghost use Rattle.snap_slot.specs.declared.layout.TheConstants.{SLOT_COUNT};
-
-use crate::file::{CallFault, CallKind};
+use crate::CallFault;
 use snap_slot::{
     BLOCK_LEN, FILE_LEN, HEADER_GATE_AT, OPEN_GATE, SLOT_COUNT, VALUE_AT, body_at, gate_at,
     next_slot,
@@ -29,21 +26,11 @@ const START_LEN: usize = 16;
 /// How many bytes a slot's gate block and the beginning of its body have, which are read at once.
 const SLOT_READ: usize = BLOCK_LEN + VALUE_AT;
 
-/// When the file is compared next.
-#[derive(Clone, Copy, Debug, PartialEq, Eq)]
-enum Look {
-    /// Not yet: its contents aren't known.
-    Unknown,
-    /// Before the next write.
-    Due,
-    /// When two more syncs were made: a store makes two.
-    AfterTwo,
-    /// When one more sync was made.
-    AfterOne,
-}
+/// How many syncs a store makes.
+const STORE_SYNCS: u8 = 2;
 
 /// A slot's gate, and the beginning of its body: its number and length.
-#[derive(Clone, Copy)]
+#[derive(Clone, Copy, Default)]
 struct SlotHead {
     gate: u8,
     body: [u8; VALUE_AT],
@@ -51,32 +38,18 @@ struct SlotHead {
 
 /// The contents of a segment's file that are compared, by what its device has read and written. They are known from the
 /// first read of the whole file on, until a call fails or writes something that isn't a slot's gate or body.
-#[derive(Drop)]
+#[derive(Default, Drop)]
 pub(crate) struct Contents {
     start: [u8; START_LEN],
     header_gate: u8,
     slots: [SlotHead; SLOT_COUNT as usize],
     /// The slot whose gate this device opened last, if it opened one.
     opened: Option<u64>,
-    look: Look,
+    /// How many syncs come before the next write that compares the file. `None` if its contents aren't known.
+    due_in: Option<u8>,
 }
 
 impl Contents {
-    /// The contents of a file that wasn't read yet: unknown.
-    pub(crate) fn unknown() -> Contents {
-        let slot = SlotHead {
-            gate: 0,
-            body: [0; VALUE_AT],
-        };
-        Contents {
-            start: [0; START_LEN],
-            header_gate: 0,
-            slots: [slot; SLOT_COUNT as usize],
-            opened: None,
-            look: Look::Unknown,
-        }
-    }
-
     /// Notes that these bytes were read from there on. If they are the whole file, its contents are known.
     pub(crate) fn note_read(&mut self, at: u64, bytes: &[u8]) {
         if at == 0 && bytes.len() == FILE_LEN as usize {
@@ -89,8 +62,47 @@ impl Contents {
                 head.body.copy_from_slice(&bytes[body..body + VALUE_AT]);
             }
             self.opened = None;
-            self.look = Look::Due;
+            self.due_in = Some(0);
         }
+    }
+
+    /// Notes that the file was synced, or that this failed.
+    pub(crate) fn note_sync(&mut self, is_done: bool) {
+        self.due_in = match self.due_in {
+            Some(syncs) if is_done => Some(syncs.saturating_sub(1)),
+            _ => None,
+        };
+    }
+
+    /// Writes these bytes from there on. If a comparison is due and the file's contents differ, nothing is written, and
+    /// each later write compares again.
+    pub(crate) fn write(
+        &mut self,
+        file: &mut File,
+        at: u64,
+        bytes: &[u8],
+    ) -> Result<(), CallFault> {
+        if let Some(0) = self.due_in {
+            match self.is_in(file) {
+                Ok(true) => self.due_in = Some(STORE_SYNCS),
+                Ok(false) => return Err(CallFault::Overwritten),
+                // It was cut meanwhile.
+                Err(reason) if reason.kind() == ErrorKind::UnexpectedEof => {
+                    return Err(CallFault::Overwritten);
+                }
+                Err(reason) => {
+                    let call = "read";
+                    return Err(CallFault::System { call, reason });
+                }
+            }
+        }
+        if let Err(reason) = file.write_all_at(bytes, at) {
+            self.due_in = None;
+            let call = "write";
+            return Err(CallFault::System { call, reason });
+        }
+        self.note_write(at, bytes);
+        Ok(())
     }
 
     /// Notes that these bytes were written from there on.
@@ -109,121 +121,38 @@ impl Contents {
                 return;
             }
         }
-        self.forget();
-    }
-
-    /// Notes that the file was synced.
-    pub(crate) fn note_sync(&mut self) {
-        self.look = match self.look {
-            Look::AfterTwo => Look::AfterOne,
-            Look::AfterOne => Look::Due,
-            other => other,
-        };
-    }
-
-    /// Notes that a call failed: the contents aren't known any more.
-    pub(crate) fn forget(&mut self) {
-        self.look = Look::Unknown;
-    }
-
-    /// Writes these bytes from there on. If a comparison is due and the file's contents differ, nothing is written, and
-    /// each later write compares again.
-    pub(crate) fn write(
-        &mut self,
-        file: &mut File,
-        at: u64,
-        bytes: &[u8],
-    ) -> Result<(), CallFault> {
-        if self.look == Look::Due {
-            self.check(file)?;
-            self.look = Look::AfterTwo;
-        }
-        match file.write_all_at(bytes, at) {
-            Ok(()) => {
-                self.note_write(at, bytes);
-                Ok(())
-            }
-            Err(reason) => {
-                self.forget();
-                let call = CallKind::Write;
-                Err(CallFault::System { call, reason })
-            }
-        }
-    }
-
-    /// Compares the file with these contents.
-    fn check(&mut self, file: &mut File) -> Result<(), CallFault> {
-        match self.is_in(file) {
-            Ok(true) => Ok(()),
-            Ok(false) => Err(CallFault::Overwritten),
-            Err(reason) => {
-                let call = CallKind::Read;
-                Err(CallFault::System { call, reason })
-            }
-        }
+        self.due_in = None;
     }
 
     /// Whether the file has the length of this, its header, the head of the slot that was stored last, and the next
-    /// one's gate.
+    /// one's gate; before the first store, the head of each slot. It fails with `UnexpectedEof` if it is cut meanwhile.
     fn is_in(&self, file: &mut File) -> io::Result<bool> {
-        if file.seek(SeekFrom::End(0))? != FILE_LEN || !self.has_header(file)? {
+        if file.seek(SeekFrom::End(0))? != FILE_LEN {
             return Ok(false);
         }
-        match self.opened {
-            Some(slot) if slot < SLOT_COUNT => {
-                Ok(self.has_slot(file, slot)? && self.has_gate(file, next_slot(slot))?)
-            }
-            _ => self.has_all_slots(file),
+        let mut found = [0; SLOT_READ];
+        file.read_exact_at(&mut found[..BLOCK_LEN], 0)?;
+        if found[..START_LEN] != self.start[..]
+            || found[HEADER_GATE_AT as usize] != self.header_gate
+        {
+            return Ok(false);
         }
-    }
-
-    /// Whether the file has this header.
-    fn has_header(&self, file: &File) -> io::Result<bool> {
-        let mut found = [0; BLOCK_LEN];
-        Ok(
-            has_read(file, 0, &mut found)?
-                && found[..START_LEN] == self.start[..]
-                && found[HEADER_GATE_AT as usize] == self.header_gate,
-        )
-    }
-
-    /// Whether the file has the head of each slot.
-    fn has_all_slots(&self, file: &File) -> io::Result<bool> {
-        for slot in 0..SLOT_COUNT {
-            if !self.has_slot(file, slot)? {
+        let (first, after) = match self.opened {
+            Some(slot) if slot < SLOT_COUNT => (slot, slot + 1),
+            _ => (0, SLOT_COUNT),
+        };
+        for slot in first..after {
+            let head = &self.slots[slot as usize];
+            file.read_exact_at(&mut found, gate_at(slot))?;
+            if found[0] != head.gate || found[BLOCK_LEN..] != head.body[..] {
                 return Ok(false);
             }
         }
-        Ok(true)
-    }
-
-    /// Whether the file has the head of this slot.
-    fn has_slot(&self, file: &File, slot: u64) -> io::Result<bool>
-        requires { slot < SLOT_COUNT }
-    {
-        let head = &self.slots[slot as usize];
-        let mut found = [0; SLOT_READ];
-        Ok(
-            has_read(file, gate_at(slot), &mut found)?
-                && found[0] == head.gate
-                && found[BLOCK_LEN..] == head.body[..],
-        )
-    }
-
-    /// Whether the file has this slot's gate.
-    fn has_gate(&self, file: &File, slot: u64) -> io::Result<bool>
-        requires { slot < SLOT_COUNT }
-    {
-        let mut found = [0; 1];
-        Ok(has_read(file, gate_at(slot), &mut found)? && found[0] == self.slots[slot as usize].gate)
-    }
-}
-
-/// Fills `found` from there on; `false` if the file ends before: then it was truncated meanwhile.
-fn has_read(file: &File, at: u64, found: &mut [u8]) -> io::Result<bool> {
-    match file.read_exact_at(found, at) {
-        Ok(()) => Ok(true),
-        Err(reason) if reason.kind() == ErrorKind::UnexpectedEof => Ok(false),
-        Err(reason) => Err(reason),
+        if after == SLOT_COUNT && first == 0 {
+            return Ok(true);
+        }
+        let next = next_slot(first);
+        file.read_exact_at(&mut found[..1], gate_at(next))?;
+        Ok(found[0] == self.slots[next as usize].gate)
     }
 }

@@ -7,14 +7,14 @@ use std::alloc::{AllocError, Global};
 
 /// A call that is to fail: its number, counted from 1, and the fill that the fault leaves. For a fuse it is the last
 /// call that may pass.
-#[derive(Debug, Drop)]
+#[derive(Drop)]
 pub struct Fault {
     pub call: u64,
     pub fill: Fill,
 }
 
 /// Which calls of a [`crate::MemDisk`] fail, by their number from 1, and what each fault leaves.
-#[derive(Debug, Drop)]
+#[derive(Drop)]
 pub struct FaultPlan {
     faults: Vec<Fault>,
     fuse: Option<Fault>,

@@ -1,11 +1,12 @@
 //! A file of the operating system as a device.
-ghost use Rattle.std.specs.Prelude.{◌≡◌, ◌≢◌, ℕ, length, IfOk, IfErr};
+ghost use Rattle.std.specs.Prelude.{◌≡◌, ◌≢◌, ℕ, List, length, IfOk, IfErr};
 ghost use Rattle.snap_devices.specs.CallLog.{IsHonestLog, LeftSince, counts_now, only_now};
-ghost use Rattle.snap_devices.specs.FileDisk.{IsUncalled, file_device, file_path, story_of};
+ghost use Rattle.snap_devices.specs.{FileDisk.IsUncalled, FileDisk.file_device, FileDisk.file_path, FileDisk.story_of};
+ghost use Rattle.snap_devices.specs.Story.{Story, untold};
 
+use crate::GhostLog;
 use crate::contents::Contents;
-use crate::opened_path::{FileId, OpenedPath, folder_of};
-use crate::{Call, GhostLog, Stories, Untold};
+use crate::opened_path::{FileId, OpenedPath, folder_of, id_of};
 use snap_disk::{DeviceFault, Disk};
 use snap_slot::FILE_LEN;
 use std::fs::{self, OpenOptions, TryLockError};
@@ -25,7 +26,7 @@ const LOCK_RESTS: u32 = 50;
 const LOCK_REST_MILLIS: u64 = 20;
 
 /// How a device shares its file with other processes that take a lock too, and whether it may write it.
-#[derive(Clone, Copy, Debug, PartialEq, Eq)]
+#[derive(Clone, Copy, PartialEq, Eq)]
 pub enum Lock {
     /// No other process has a lock: for a command that writes the file.
     Exclusive,
@@ -58,23 +59,15 @@ impl From<io::Error> for FileFault {
     }
 }
 
-/// A kind of call of an open file.
-#[derive(Clone, Copy, Debug, PartialEq, Eq, Error)]
-pub enum CallKind {
-    #[error("read")]
-    Read,
-    #[error("write")]
-    Write,
-    #[error("sync")]
-    Sync,
-}
-
 /// Why a call of an open file failed, and which.
 #[derive(Debug, Drop, Error)]
 pub enum CallFault {
-    /// The system's own reason.
+    /// The system's own reason, and the call: `read`, `write` or `sync`.
     #[error("{call}: {reason}")]
-    System { call: CallKind, reason: io::Error },
+    System {
+        call: &'static str,
+        reason: io::Error,
+    },
     /// The path that it was opened by names another file now, or none: a write would be lost with the old
     /// file. Only a sync returns this.
     #[error("sync: its path doesn't name it any more: it was moved, removed or replaced")]
@@ -84,6 +77,37 @@ pub enum CallFault {
     #[error("write: another program wrote it or cut it, and it is left so: never copy onto a file in use: snapd load \
         makes a new folder of a dump")]
     Overwritten,
+}
+
+/// One call of a device, with its answer. Its bytes exist in proofs alone.
+#[derive(Drop)]
+pub enum Call {
+    /// A read that gave these bytes.
+    Gave { at: u64, bytes: GhostLog<u8> },
+    /// A read that failed.
+    ReadFailed,
+    /// A write of these bytes that succeeded.
+    Wrote { at: u64, bytes: GhostLog<u8> },
+    /// A write of `count` bytes that failed.
+    WriteFailed { at: u64, count: u64 },
+    /// A sync that succeeded.
+    Synced,
+    /// A sync that failed.
+    SyncFailed,
+}
+
+/// For each file, by the path that it was opened by: its bytes when it was opened and after each call, and which of its
+/// places were open at first. A proof about a file holds for all stories, so for the true one.
+pub trait Stories {
+    ghost story: { List ℕ → Story };
+}
+
+/// The stories of the files that a program opens. No proof can know them.
+#[derive(Clone, Copy)]
+pub struct Untold;
+
+impl Stories for Untold {
+    ghost story = { untold };
 }
 
 /// An open and locked file, with its length when it was opened.
@@ -140,9 +164,9 @@ impl<'p, R: Files<File = fs::File> + Clock, S: Stories> FileOf<'p, R, S> {
     {
         let writes = lock == Lock::Exclusive || !fs::metadata(rt, path)?.is_file();
         let file = OpenOptions::new().read(true).write(writes).open(rt, path)?;
-        let file = take_lock(rt, file, lock)?;
+        take_lock(rt, &file, lock)?;
         let found = file.metadata()?;
-        Ok(FileOf::of(rt, path, file, FileId::of(&found), found.len()))
+        Ok(FileOf::of(rt, path, file, id_of(&found), found.len()))
     }
 
     /// The file at this path, for a new segment, with an exclusive lock: one that isn't there or has no byte gets
@@ -165,7 +189,7 @@ impl<'p, R: Files<File = fs::File> + Clock, S: Stories> FileOf<'p, R, S> {
             .write(true)
             .create(true)
             .open(rt, path)?;
-        let file = take_lock(rt, file, Lock::Exclusive)?;
+        take_lock(rt, &file, Lock::Exclusive)?;
         let found = file.metadata()?;
         let len = found.len();
         if len == 0 {
@@ -174,12 +198,12 @@ impl<'p, R: Files<File = fs::File> + Clock, S: Stories> FileOf<'p, R, S> {
         } else if len != FILE_LEN {
             return Err(FileFault::WrongFile { len });
         }
-        Ok(FileOf::of(rt, path, file, FileId::of(&found), FILE_LEN))
+        Ok(FileOf::of(rt, path, file, id_of(&found), FILE_LEN))
     }
 
     /// The system's identity of the file.
     pub fn id(&self) -> FileId {
-        self.opened_path.id()
+        self.opened_path.id
     }
 
     /// Has this device put into `to` why a call of it failed: the first failed call, since later ones may be its
@@ -204,36 +228,13 @@ impl<'p, R: Files<File = fs::File> + Clock, S: Stories> FileOf<'p, R, S> {
             rt,
             file,
             opened_path: OpenedPath::new(path, id),
-            contents: Contents::unknown(),
+            contents: Contents::default(),
             len,
             failures: 0,
             told: None,
             calls: GhostLog::new(),
             of: PhantomData,
         }
-    }
-}
-
-/// Syncs a file, and checks whether this is still a name of it, unless the last sync did.
-fn sync_named<R: Files<File = fs::File> + Clock>(
-    rt: &R,
-    file: &fs::File,
-    opened_path: &mut OpenedPath<'_>,
-) -> Result<(), CallFault>
-    ensures path { opened_path.new.path ≡ opened_path.old.path }
-{
-    file.sync_data().map_err(fault_of_sync)?;
-    match opened_path.holds_synced(rt) {
-        Ok(true) => Ok(()),
-        Ok(false) => Err(CallFault::Moved),
-        Err(reason) => Err(fault_of_sync(reason)),
-    }
-}
-
-fn fault_of_sync(reason: io::Error) -> CallFault {
-    CallFault::System {
-        call: CallKind::Sync,
-        reason,
     }
 }
 
@@ -244,59 +245,41 @@ fn tell(told: Option<&OnceLock<CallFault>>, fault: CallFault) {
     }
 }
 
-/// The file with this lock, for which it waits a second at most.
-fn take_lock<R: Clock>(rt: &R, file: fs::File, lock: Lock) -> Result<fs::File, FileFault>
+/// Takes this lock of the file, for which it waits a second at most.
+fn take_lock<R: Clock>(rt: &R, file: &fs::File, lock: Lock) -> Result<(), FileFault>
     ensures { IfErr result (λ fault. (len : ℕ) → fault ≢ FileFault.WrongFile len) }
 {
-    for _ in 0..LOCK_RESTS {
-        if try_lock(&file, lock)? {
-            return Ok(file);
+    for rests in 0..=LOCK_RESTS {
+        if rests > 0 {
+            thread::sleep(rt, Duration::from_millis(LOCK_REST_MILLIS));
         }
-        thread::sleep(rt, Duration::from_millis(LOCK_REST_MILLIS));
+        let taken = match lock {
+            Lock::Exclusive => file.try_lock(),
+            Lock::Shared => file.try_lock_shared(),
+        };
+        match taken {
+            Ok(()) => return Ok(()),
+            Err(TryLockError::WouldBlock) => {}
+            Err(TryLockError::Error(reason)) => return Err(FileFault::System(reason)),
+        }
     }
-    if try_lock(&file, lock)? {
-        return Ok(file);
-    }
-    Err(FileFault::InUse(FileId::of(&file.metadata()?)))
-}
-
-/// Takes this lock, unless another process has one that excludes it.
-fn try_lock(file: &fs::File, lock: Lock) -> Result<bool, FileFault>
-    ensures { IfErr result (λ fault. (len : ℕ) → fault ≢ FileFault.WrongFile len) }
-{
-    let taken = match lock {
-        Lock::Exclusive => file.try_lock(),
-        Lock::Shared => file.try_lock_shared(),
-    };
-    match taken {
-        Ok(()) => Ok(true),
-        Err(TryLockError::WouldBlock) => Ok(false),
-        Err(TryLockError::Error(reason)) => Err(FileFault::System(reason)),
-    }
+    Err(FileFault::InUse(id_of(&file.metadata()?)))
 }
 
 /// Syncs the folder of this path, so that its names last, if the system allows that: a folder that may be written but
 /// not read can't be opened, and some file systems sync no folder.
 pub fn sync_folder_of<R: Files<File = fs::File>>(rt: &R, path: &str) -> io::Result<()> {
-    match sync_folder(rt, folder_of(path)) {
-        Err(reason) if !is_not_allowed(reason.kind()) => Err(reason),
-        _ => Ok(()),
-    }
-}
-
-fn sync_folder<R: Files<File = fs::File>>(rt: &R, folder: &str) -> io::Result<()> {
-    fs::File::open(rt, folder)?.sync_all()
-}
-
-/// Whether the system can't do this at all, or not for this user. Then nothing has failed.
-fn is_not_allowed(kind: ErrorKind) -> bool {
-    matches!(
-        kind,
+    let Err(reason) = fs::File::open(rt, folder_of(path)).and_then(|folder| folder.sync_all())
+    else {
+        return Ok(());
+    };
+    match reason.kind() {
         ErrorKind::PermissionDenied
-            | ErrorKind::InvalidInput
-            | ErrorKind::Unsupported
-            | ErrorKind::ReadOnlyFilesystem
-    )
+        | ErrorKind::InvalidInput
+        | ErrorKind::Unsupported
+        | ErrorKind::ReadOnlyFilesystem => Ok(()),
+        _ => Err(reason),
+    }
 }
 
 #[tactic(auto, using(crate::proofs::Logged::noted))]
@@ -324,58 +307,49 @@ impl<R: Files<File = fs::File> + Clock, S: Stories> Disk for FileOf<'_, R, S> {
     }
 
     fn read_at(&mut self, at: u64, buf: &mut [u8]) -> Result<(), DeviceFault> {
-        match self.file.read_exact_at(buf, at) {
-            Ok(()) => {
-                self.contents.note_read(at, buf);
-                self.calls = self.calls.and(&[Call::Gave {
-                    at,
-                    bytes: GhostLog::new().and(buf),
-                }]);
-                Ok(())
-            }
-            Err(reason) => {
-                self.calls = self.calls.and(&[Call::ReadFailed]);
-                let call = CallKind::Read;
-                tell(self.told, CallFault::System { call, reason });
-                self.failures += 1;
-                Err(DeviceFault)
-            }
+        if let Err(reason) = self.file.read_exact_at(buf, at) {
+            self.calls = self.calls.and(&[Call::ReadFailed]);
+            let call = "read";
+            tell(self.told, CallFault::System { call, reason });
+            self.failures += 1;
+            return Err(DeviceFault);
         }
+        self.contents.note_read(at, buf);
+        let bytes = GhostLog::new().and(buf);
+        self.calls = self.calls.and(&[Call::Gave { at, bytes }]);
+        Ok(())
     }
 
     fn write_at(&mut self, at: u64, bytes: &[u8]) -> Result<(), DeviceFault> {
-        match self.contents.write(&mut self.file, at, bytes) {
-            Ok(()) => {
-                self.calls = self.calls.and(&[Call::Wrote {
-                    at,
-                    bytes: GhostLog::new().and(bytes),
-                }]);
-                Ok(())
-            }
-            Err(fault) => {
-                let count = bytes.len() as u64;
-                self.calls = self.calls.and(&[Call::WriteFailed { at, count }]);
-                tell(self.told, fault);
-                self.failures += 1;
-                Err(DeviceFault)
-            }
+        if let Err(fault) = self.contents.write(&mut self.file, at, bytes) {
+            let count = bytes.len() as u64;
+            self.calls = self.calls.and(&[Call::WriteFailed { at, count }]);
+            tell(self.told, fault);
+            self.failures += 1;
+            return Err(DeviceFault);
         }
+        let bytes = GhostLog::new().and(bytes);
+        self.calls = self.calls.and(&[Call::Wrote { at, bytes }]);
+        Ok(())
     }
 
     fn sync(&mut self) -> Result<(), DeviceFault> {
-        match sync_named(self.rt, &self.file, &mut self.opened_path) {
-            Ok(()) => {
-                self.contents.note_sync();
+        let held = self.opened_path.sync(self.rt, &self.file);
+        self.contents.note_sync(matches!(held, Ok(true)));
+        let fault = match held {
+            Ok(true) => {
                 self.calls = self.calls.and(&[Call::Synced]);
-                Ok(())
+                return Ok(());
             }
-            Err(fault) => {
-                self.contents.forget();
-                self.calls = self.calls.and(&[Call::SyncFailed]);
-                tell(self.told, fault);
-                self.failures += 1;
-                Err(DeviceFault)
-            }
-        }
+            Ok(false) => CallFault::Moved,
+            Err(reason) => CallFault::System {
+                call: "sync",
+                reason,
+            },
+        };
+        self.calls = self.calls.and(&[Call::SyncFailed]);
+        tell(self.told, fault);
+        self.failures += 1;
+        Err(DeviceFault)
     }
 }

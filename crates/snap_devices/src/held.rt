@@ -10,7 +10,7 @@ use std::sync::atomic::{AtomicU64, Ordering};
 use std::thread::yield_now;
 
 /// How the first write of a [`Held`] waited.
-#[derive(Clone, Copy, Debug, PartialEq, Eq)]
+#[derive(Clone, Copy, PartialEq, Eq)]
 pub struct Waited {
     /// For how many turns of yielding.
     pub turns: u64,
@@ -44,20 +44,6 @@ impl Held {
             turns,
             waited: None,
         }
-    }
-
-    /// How its first write waited, once there was one.
-    pub fn waited(&self) -> Option<Waited>
-        ensures { result ≡ held_waited self.now }
-    {
-        self.waited
-    }
-
-    /// The device in memory, as the last call left it.
-    pub fn disk(&self) -> &MemDisk
-        ensures { result.now ≡ held_disk self.now }
-    {
-        &self.disk
     }
 
     /// The device in memory, to crash it and to plan faults.

@@ -6,7 +6,6 @@
 //! honest is a premise that no code can test.
 #![tactic(auto)]
 
-mod call;
 mod contents;
 mod fault_plan;
 mod file;
@@ -15,14 +14,11 @@ mod held;
 mod memory;
 mod noise;
 mod opened_path;
-mod story;
 
-pub(crate) use call::Call;
 pub use fault_plan::FaultPlan;
-pub use file::{CallFault, CallKind, FileDisk, FileFault, FileOf, Lock, sync_folder_of};
+pub use file::{CallFault, FileDisk, FileFault, FileOf, Lock, Stories, Untold, sync_folder_of};
 pub(crate) use ghost_log::GhostLog;
-pub use held::{Held, Waited};
+pub use held::Held;
 pub use memory::MemDisk;
 pub use noise::Noise;
 pub use opened_path::FileId;
-pub use story::{Stories, Untold};

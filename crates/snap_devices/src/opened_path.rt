@@ -24,19 +24,10 @@ const STEP: u64 = 3;
 
 /// Which file of the system it is, whatever names it has: the number of the device that it is on,
 /// and its own number there.
-#[derive(Clone, Copy, Debug, PartialEq, Eq)]
-pub struct FileId {
-    device: u64,
-    inode: u64,
-}
+pub type FileId = (u64, u64);
 
-impl FileId {
-    pub(crate) fn of(found: &fs::Metadata) -> FileId {
-        FileId {
-            device: found.dev(),
-            inode: found.ino(),
-        }
-    }
+pub(crate) fn id_of(found: &fs::Metadata) -> FileId {
+    (found.dev(), found.ino())
 }
 
 /// The path of the folder that this path's file is in.
@@ -47,54 +38,25 @@ pub(crate) fn folder_of(path: &str) -> &str {
     }
 }
 
-/// A folder's state at some moment: its identity, and when its names changed last.
-#[derive(Clone, Copy, PartialEq, Eq)]
-struct Folder {
-    id: FileId,
-    seconds: i64,
-    nanoseconds: i64,
-}
-
 /// A folder, read at this time.
 #[derive(Clone, Copy)]
 struct FolderReading {
-    folder: Folder,
+    /// Its identity, and the second and nanosecond when its names changed last.
+    state: (FileId, i64, i64),
     at: Instant,
-}
-
-/// A reading of a folder, and a later check that found the file under its name.
-#[derive(Clone, Copy)]
-struct NameCheck {
-    reading: FolderReading,
-    /// When the folder was first seen as it was then.
+    /// When it was first seen in this state.
     since: Instant,
-}
-
-impl NameCheck {
-    /// The check after this reading; `earlier` is the check before it, if there was one.
-    fn behind(reading: FolderReading, earlier: Option<NameCheck>) -> NameCheck {
-        let since = match earlier {
-            Some(earlier) if earlier.reading.folder == reading.folder => earlier.since,
-            _ => reading.at,
-        };
-        NameCheck { reading, since }
-    }
-
-    /// Whether this later reading shows that the name that was checked is there still.
-    fn counts_at(&self, later: FolderReading) -> bool {
-        later.folder == self.reading.folder
-            && self.reading.at.duration_since(self.since).as_secs() >= STEP
-            && later.at.duration_since(self.reading.at).as_secs() < CHECK_COUNTS
-    }
 }
 
 /// The path by which a file was opened.
 #[derive(Drop)]
 pub struct OpenedPath<'p> {
     path: &'p str,
-    id: FileId,
-    /// The last check that found the file under its own name, and not under that of a link to it.
-    last: Option<NameCheck>,
+    folder: &'p str,
+    /// The file that was opened by it.
+    pub id: FileId,
+    /// The folder at the last check that found the file under its own name, and not under that of a link to it.
+    last: Option<FolderReading>,
     /// Whether the name was checked after the last sync, and still named the file.
     is_fresh: bool,
 }
@@ -106,22 +68,23 @@ impl<'p> OpenedPath<'p> {
     {
         OpenedPath {
             path,
+            folder: folder_of(path),
             id,
             last: None,
             is_fresh: false,
         }
     }
 
-    /// The file that was opened by this path.
-    pub fn id(&self) -> FileId {
-        self.id
-    }
-
-    /// Whether the path still names that file, after a sync. Of two syncs in a row at least one checks it,
-    /// so each store does, which syncs twice. If the check fails, the error is the system's own.
-    pub fn holds_synced<R: Files<File = fs::File> + Clock>(&mut self, rt: &R) -> io::Result<bool>
+    /// Syncs that file, and returns whether the path still names it. Of two syncs in a row at least one checks that,
+    /// so each store does, which syncs twice. An error is the system's own.
+    pub fn sync<R: Files<File = fs::File> + Clock>(
+        &mut self,
+        rt: &R,
+        file: &fs::File,
+    ) -> io::Result<bool>
         ensures path { self.new.path ≡ self.old.path }
     {
+        file.sync_data()?;
         if self.is_fresh {
             self.is_fresh = false;
             return Ok(true);
@@ -135,38 +98,34 @@ impl<'p> OpenedPath<'p> {
         ensures path { self.new.path ≡ self.old.path }
     {
         // Before the file, so that a change between the two isn't taken for one before them.
-        let reading = self.read_folder(rt).ok();
-        let last = self.last.take();
-        if let (Some(last), Some(reading)) = (last, reading) {
-            if last.counts_at(reading) {
-                self.last = Some(last);
-                return Ok(true);
+        let mut reading = match (fs::metadata(rt, self.folder), Instant::now(rt)) {
+            (Ok(found), Ok(at)) => Some(FolderReading {
+                state: (id_of(&found), found.ctime(), found.ctime_nsec()),
+                at,
+                since: at,
+            }),
+            _ => None,
+        };
+        if let (Some(last), Some(now)) = (self.last.take(), &mut reading) {
+            if last.state == now.state {
+                now.since = last.since;
+                let known = last.at.duration_since(last.since).as_secs();
+                if known >= STEP && now.at.duration_since(last.at).as_secs() < CHECK_COUNTS {
+                    self.last = Some(last);
+                    return Ok(true);
+                }
             }
         }
         if let Ok(own) = fs::symlink_metadata(rt, self.path) {
-            if FileId::of(&own) == self.id {
-                self.last = reading.map(|reading| NameCheck::behind(reading, last));
+            if id_of(&own) == self.id {
+                self.last = reading;
                 return Ok(true);
             }
         }
         match fs::metadata(rt, self.path) {
-            Ok(named) => Ok(FileId::of(&named) == self.id),
+            Ok(named) => Ok(id_of(&named) == self.id),
             Err(reason) if reason.kind() == ErrorKind::NotFound => Ok(false),
             Err(reason) => Err(reason),
         }
-    }
-
-    /// Reads the folder, and the clock.
-    fn read_folder<R: Files<File = fs::File> + Clock>(&self, rt: &R) -> io::Result<FolderReading> {
-        let found = fs::metadata(rt, folder_of(self.path))?;
-        let folder = Folder {
-            id: FileId::of(&found),
-            seconds: found.ctime(),
-            nanoseconds: found.ctime_nsec(),
-        };
-        Ok(FolderReading {
-            folder,
-            at: Instant::now(rt)?,
-        })
     }
 }

@@ -15,8 +15,7 @@ AnyCrashLeaves disk old new P = disk.is_honest new → LeavesOnly disk old new P
 abbrev pub LeavesNoMore : {D : Type 0} (disk : Disk.Ghosts D) (old new : D) → Type 0
 LeavesNoMore disk old new = AnyCrashLeaves disk old new (MayLeave (disk.device old))
 
--- `same`: the device is the same, with no call made. `kept`: a crash leaves no more of it than one
--- before could.
+-- `same`: the device is the same, with no call made. `kept`: a crash leaves no more of it than one before could.
 
 abbrev pub MakingKeeps : (same kept : Type 0) → End → Type 0
 MakingKeeps same kept (Err (Refused refusal.NoMemory)) = same

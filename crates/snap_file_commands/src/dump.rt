@@ -20,7 +20,7 @@ pub use text::document;
 pub const MAX_DUMP_LEN: usize = 1 << 20;
 
 /// The contents of a dump.
-#[derive(Debug, Drop)]
+#[derive(Drop)]
 pub struct Dump {
     /// When its values were current, as its writer stated.
     pub time: String,

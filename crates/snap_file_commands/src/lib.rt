@@ -34,7 +34,7 @@ pub use fault::{CommandFault, finish};
 pub use foundation::found;
 pub use loads::{LoadedFile, load};
 pub use loss::sign_of_loss;
-pub use migration::{Causes, MigrationFault, act_pair};
+pub use migration::{MigrationFault, act_pair};
 pub use remedy::words_of_format;
 pub use segment_name::{file_name, is_further, is_segment_name};
 pub use segment_order::{FolderFault, SegmentPlace, order_files};

@@ -28,21 +28,15 @@ pub enum MigrationFault {
     Other(CommandFault),
 }
 
-/// The system's reason for the failure of each file's device.
-#[derive(Drop)]
-pub struct Causes<'a, C> {
-    pub old: &'a C,
-    pub new: &'a C,
-}
-
 impl MigrationFault {
     /// Writes to standard error why the migration ended. After the line of a refused file a second line names the file
-    /// and says what to do; of a device that failed it has the system's reason.
+    /// and says what to do; of a device that failed it has the system's reason: `causes` has that of the old file's
+    /// and of the new one's.
     pub fn report<C: SystemReason, E: Write>(
         &self,
         alloc: Global,
         order: &MigrateOptions<'_>,
-        causes: &Causes<'_, C>,
+        causes: (&C, &C),
         errors: &mut E,
     ) -> Exit
         ensures { result.status ≡ migration_status_of self.now }
@@ -50,8 +44,8 @@ impl MigrationFault {
         match self {
             MigrationFault::OfFile { which, why } => {
                 let cause = match which {
-                    Which::Old => causes.old,
-                    Which::New => causes.new,
+                    Which::Old => causes.0,
+                    Which::New => causes.1,
                 };
                 let more = line_of_migration(alloc, order, *which, *why, cause);
                 let is_told = complain_twice(errors, *why, more);

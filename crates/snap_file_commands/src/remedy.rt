@@ -73,12 +73,9 @@ pub(crate) fn line_of_migration<C: SystemReason>(
 
 /// The advice about a device that failed, after the system's reason, if that is known.
 fn of_failed<C: SystemReason>(alloc: Global, cause: &C) -> Result<String, AllocError> {
-    match cause.text(alloc) {
-        Some(said) => format!(in alloc; "{said}: look after its disk, and try again"),
-        None => {
-            format!(in alloc; "a call of its device failed: look after its disk, and try again")
-        }
-    }
+    let said = cause.text(alloc);
+    let said = said.as_deref().unwrap_or("a call of its device failed");
+    format!(in alloc; "{said}: look after its disk, and try again")
 }
 
 /// For a file that isn't the order's, by its length.

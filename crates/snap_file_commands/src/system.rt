@@ -24,7 +24,7 @@ pub use file_system::limit_of;
 pub use files::{
     FirstFault, first_faults, open_telling, take_file, take_pair, too_short_files, writes,
 };
-pub use folder::{FolderReadFault, files_in_order, segment_files};
-pub use folder_refusal::{FileRefusal, FolderRefusal};
+pub use folder::{files_in_order, segment_files};
+pub use folder_refusal::FolderReadFault;
 pub use init_command::init;
 pub use load_command::load;

@@ -42,10 +42,13 @@ fence_tokens i s = if s.is_fenced then number (decimal i) ∷ [] else []
 abbrev pub line_of : List Token → List ℕ
 line_of tokens = print tokens ++ 10 ∷ []
 
+-- the beginning of a document with a list of segments
+abbrev pub list_head : List Token
+list_head = begin_object ∷ key (codes "segments") ∷ begin_array ∷ []
+
 -- the document with a list of segments
 abbrev pub list_text : List Token → List ℕ
-list_text tokens = line_of (begin_object ∷ key (codes "segments") ∷ begin_array
-    ∷ (tokens ++ end_array ∷ end_object ∷ []))
+list_text tokens = line_of (list_head ++ (tokens ++ end_array ∷ end_object ∷ []))
 
 -- the beginning of a document of a server's health
 abbrev pub health_tokens : Bool → List Token

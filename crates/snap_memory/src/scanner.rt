@@ -123,9 +123,8 @@ impl Scanner {
     /// segment whose number hasn't changed isn't read again: a number has one value. The looks are always new, so the
     /// answer has all that was in the history at the first look of this call.
     ///
-    /// `set` names at least one segment, and only existing ones. Errors: `Worn`, with nothing
-    /// changed, if fewer looks are left than such a scan might take; `NoMemory` if memory runs out,
-    /// before the first look or after the last.
+    /// `set` names at least one segment, and only existing ones. Errors: `Worn`, with nothing changed, if fewer looks
+    /// are left than such a scan might take; `NoMemory` if memory runs out, before the first look or after the last.
     pub fn scan(&mut self, alloc: Global, set: SegmentSet) -> Result<Vec<SegmentValue>, Refusal>
         requires set { IsSetOf self.old set.bits }
         ensures enough { OnOk result (HasLooks (size set.bits) self.old) }

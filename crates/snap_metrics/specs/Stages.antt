@@ -3,14 +3,8 @@ use Rattle.std.specs.Prelude.{◌≡◌, ℕ, ◌-◌, Option, Some, None, Resul
 use Rattle.std.specs.{Duration.as_nanos, Time.instant_nanos, declared.time.Instant.Instant}
 use Rattle.std.specs.declared.time.Duration.{Duration}
 use Rattle.snap_disk.specs.declared.refusal.Refusal.{Refusal}
-use Rattle.snap_metrics.specs.declared.timed_store.TimedStore.{TimedStore}
-use Rattle.snap_metrics.specs.declared.timed_store.TimedStore.TheVariants.{Resting, Value, Gate}
-
--- the first write begins a store, and a further one leaves the stage as it is
-abbrev pub GoesByWrite : TimedStore → TimedStore → Type 0
-GoesByWrite Resting new = (began : Option Instant) × (new ≡ Value began)
-GoesByWrite (Value began) new = new ≡ Value began
-GoesByWrite (Gate began synced) new = new ≡ Gate began synced
+use Rattle.snap_metrics.specs.declared.timed_disk.TimedStore.{TimedStore}
+use Rattle.snap_metrics.specs.declared.timed_disk.TimedStore.TheVariants.{Resting, Value, Gate}
 
 -- the first sync of a store makes its value durable, and the second one ends the store
 abbrev pub GoesBySync : TimedStore → TimedStore → Type 0

@@ -4,19 +4,12 @@ use std::sync::atomic::{AtomicU64, Ordering};
 /// A saturating 64-bit counter with one writer and any number of lock-free readers. It begins at 0.
 ///
 /// Only one thread may write it: of two concurrent writes one can be lost. No contract says which number it holds.
-#[derive(Drop)]
+#[derive(Default, Drop)]
 pub struct Counter {
     number: AtomicU64,
 }
 
 impl Counter {
-    /// A counter at 0.
-    pub fn new() -> Counter {
-        Counter {
-            number: AtomicU64::new(0),
-        }
-    }
-
     /// Adds `more`, up to 2^64 - 1.
     pub fn add(&self, more: u64) {
         self.set(self.get().saturating_add(more));

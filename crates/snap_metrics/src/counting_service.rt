@@ -1,16 +1,25 @@
 //! A service that counts its answers.
-ghost use Rattle.std.specs.Prelude.{◌≡◌, ◌-◌, IfSome, IfNone};
+ghost use Rattle.std.specs.Prelude.{◌≡◌, ◌-◌, ℕ, IfSome, IfNone};
 ghost use Rattle.snap_frame.specs.Messages.{IsAskable, IsInLimits};
 ghost use Rattle.snap_session.specs.Asked.{WasAsked};
 ghost use Rattle.snap_metrics.specs.Tallies.{nothing, counted};
 
-use crate::looks::Looking;
 use crate::snapshot::RequestCounts;
 use crate::worker::WorkerMetrics;
 use snap_disk::Refusal;
 use snap_frame::{Reply, Request};
 use snap_session::Service;
 use std::marker::Model;
+
+/// A service with a limited number of looks at registers.
+pub trait Looking {
+    /// The number of looks that it may still take.
+    ghost looks: { Self → ℕ };
+
+    /// Returns the number of looks that it may still take.
+    fn looks_left(&self) -> u64
+        ensures { result ≡ looks self.now };
+}
 
 /// A service that counts its answers and publishes the counts. Its replies are those of the inner service.
 ///

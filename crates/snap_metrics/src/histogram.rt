@@ -5,19 +5,13 @@ ghost use Rattle.snap_metrics.specs.Bounds.{IsPlaceOf, bound_at};
 
 use crate::counter::{Counter, read_each};
 use crate::snapshot::{BOUNDS, FIRST_BOUND, HistogramSnapshot};
-use std::array;
 use std::time::Duration;
-
-/// The first bound, in nanoseconds.
-const FIRST_BOUND_NANOS: u64 = FIRST_BOUND * 1_000;
 
 /// Converts a duration to nanoseconds, at most 2^64 - 1 (584 years).
 pub fn nanoseconds_of(took: Duration) -> u64
     ensures { result ≡ min (as_nanos took) (2 ^ 64 - 1) }
 {
-    took.as_secs()
-        .saturating_mul(1_000_000_000)
-        .saturating_add(u64::from(took.subsec_nanos()))
+    u64::try_from(took.as_nanos()).unwrap_or(u64::MAX)
 }
 
 /// The bucket of a [`HistogramSnapshot`] that counts a time in nanoseconds: the first whose bound
@@ -25,7 +19,7 @@ pub fn nanoseconds_of(took: Duration) -> u64
 pub fn place_of(nanoseconds: u64) -> usize
     ensures { IsPlaceOf nanoseconds result }
 {
-    let mut bound = FIRST_BOUND_NANOS;
+    let mut bound = FIRST_BOUND * 1_000;
     for place in 0..BOUNDS {
         if nanoseconds <= bound {
             return place;
@@ -35,30 +29,20 @@ pub fn place_of(nanoseconds: u64) -> usize
     BOUNDS
 }
 
-/// A histogram of times with one writer, as in [`Counter`], and any number of lock-free readers.
-#[derive(Drop)]
+/// A histogram of times with one writer, as in [`Counter`], and any number of lock-free readers. It begins empty.
+#[derive(Default, Drop)]
 pub struct Histogram {
     counts: [Counter; BOUNDS + 1],
     total: Counter,
 }
 
 impl Histogram {
-    /// An empty histogram.
-    pub fn new() -> Histogram {
-        Histogram {
-            counts: array::from_fn(|_| Counter::new()),
-            total: Counter::new(),
-        }
-    }
-
     /// Counts one time; `None`, a time that couldn't be measured, isn't counted.
     pub fn observe(&self, took: Option<Duration>) {
-        let Some(took) = took else {
-            return;
-        };
-        let nanoseconds = nanoseconds_of(took);
-        self.counts[place_of(nanoseconds)].add(1);
-        self.total.add(nanoseconds);
+        if let Some(nanoseconds) = took.map(nanoseconds_of) {
+            self.counts[place_of(nanoseconds)].add(1);
+            self.total.add(nanoseconds);
+        }
     }
 
     /// Reads all counts, each as it was at some moment of this call.

@@ -9,28 +9,22 @@
 
 mod counter;
 mod counting_service;
-mod devices;
 mod histogram;
-mod looks;
 mod metrics;
 mod request_counts;
 mod segment;
-mod senders;
 mod snapshot;
 mod timed_disk;
-mod timed_store;
 mod worker;
 
 pub use counter::Counter;
-pub use counting_service::CountingService;
-pub use devices::time_all;
+pub use counting_service::{CountingService, Looking};
 pub use histogram::{Histogram, nanoseconds_of, place_of};
-pub use looks::Looking;
 pub use metrics::Metrics;
-pub use segment::SegmentMetrics;
+pub use segment::{SegmentMetrics, milliseconds_of};
 pub use snapshot::{
     BOUNDS, FIRST_BOUND, HistogramSnapshot, MetricsSnapshot, REFUSALS, RequestCounts,
     SegmentSnapshot,
 };
-pub use timed_disk::TimedDisk;
+pub use timed_disk::{TimedDisk, time_all};
 pub use worker::WorkerMetrics;

@@ -3,7 +3,7 @@ ghost use Rattle.std.specs.Prelude.{◌≡◌, ◌<◌, IfOk, length};
 ghost use Rattle.snap_metrics.specs.Places.{IsWithinAccepted};
 
 use crate::segment::SegmentMetrics;
-use crate::snapshot::{MetricsSnapshot, RequestCounts, SegmentSnapshot};
+use crate::snapshot::{MetricsSnapshot, RequestCounts};
 use crate::worker::WorkerMetrics;
 use std::alloc::{AllocError, Global};
 use std::marker::Model;
@@ -37,8 +37,12 @@ impl Metrics {
         ensures segments { IfOk result (λ f. f.segments ≡ segments) }
     {
         Ok(Metrics {
-            workers: new_workers(alloc, workers)?,
-            segments: new_segments(alloc, segments)?,
+            workers: (0..workers)
+                .map(|_| WorkerMetrics::default())
+                .collect(alloc)?,
+            segments: (0..segments)
+                .map(|_| SegmentMetrics::default())
+                .collect(alloc)?,
             accepted: AtomicU64::new(0),
             ended: AtomicU64::new(0),
         })
@@ -87,8 +91,15 @@ impl Metrics {
         ensures segments { IfOk result (λ r. length r.segments.items ≡ self.now.segments) }
         ensures connections { IfOk result IsWithinAccepted }
     {
-        let requests = read_workers(&self.workers);
-        let segments = read_segments(alloc, &self.segments)?;
+        let mut requests = RequestCounts::new();
+        for worker in &self.workers {
+            requests.merge(&worker.read());
+        }
+        let segments = self
+            .segments
+            .iter()
+            .map(|segment| segment.read())
+            .collect(alloc)?;
         // Read first, so that it is at most `accepted`.
         let ended = self.ended.load(Ordering::SeqCst);
         let accepted = self.accepted.load(Ordering::SeqCst);
@@ -99,46 +110,4 @@ impl Metrics {
             open: accepted.saturating_sub(ended),
         })
     }
-}
-
-fn new_workers(alloc: Global, count: usize) -> Result<Vec<WorkerMetrics>, AllocError>
-    ensures { IfOk result (λ v. length v.items ≡ count) }
-{
-    let mut workers = Vec::with_capacity(alloc, count)?;
-    for i in 0..count {
-        workers.push(WorkerMetrics::new())?;
-    }
-    Ok(workers)
-}
-
-fn new_segments(alloc: Global, count: usize) -> Result<Vec<SegmentMetrics>, AllocError>
-    ensures { IfOk result (λ v. length v.items ≡ count) }
-{
-    let mut segments = Vec::with_capacity(alloc, count)?;
-    for i in 0..count {
-        segments.push(SegmentMetrics::new())?;
-    }
-    Ok(segments)
-}
-
-/// Adds up all workers' counts.
-fn read_workers(workers: &[WorkerMetrics]) -> RequestCounts {
-    let mut together = RequestCounts::new();
-    for worker in workers {
-        together.merge(&worker.read());
-    }
-    together
-}
-
-fn read_segments(
-    alloc: Global,
-    segments: &[SegmentMetrics],
-) -> Result<Vec<SegmentSnapshot>, AllocError>
-    ensures { IfOk result (λ v. length v.items ≡ length segments.now) }
-{
-    let mut readings = Vec::with_capacity(alloc, segments.len())?;
-    for segment in segments {
-        readings.push(segment.read())?;
-    }
-    Ok(readings)
 }

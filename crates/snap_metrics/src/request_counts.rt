@@ -8,14 +8,6 @@ use crate::snapshot::{REFUSALS, RequestCounts};
 use snap_disk::Refusal;
 use snap_frame::{Reply, Request, reply_frame_len, request_frame_len};
 
-/// Counts one refusal.
-fn count_refusal(refusals: &mut [u64; REFUSALS], why: Refusal)
-    ensures { refusals.new ≡ raised_at refusals.old (code_of why - 1) }
-{
-    let place = usize::from(why.code()) - 1;
-    refusals[place] = refusals[place].saturating_add(1);
-}
-
 /// Adds each of `others` to the number at its index.
 fn merge_numbers(numbers: &mut [u64; REFUSALS], others: &[u64; REFUSALS])
     ensures { numbers.new ≡ raised_each numbers.old others.now }
@@ -59,7 +51,8 @@ impl RequestCounts {
             Request::Part(_) => self.parts = self.parts.saturating_add(1),
         }
         if let Reply::Refused { why, .. } = reply {
-            count_refusal(&mut self.refusals, *why);
+            let place = usize::from(why.code()) - 1;
+            self.refusals[place] = self.refusals[place].saturating_add(1);
         }
         self.looks = self.looks.saturating_add(looks);
         self.bytes_in = self

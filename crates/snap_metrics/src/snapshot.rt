@@ -10,7 +10,7 @@ pub const FIRST_BOUND: u64 = 16;
 pub const REFUSALS: usize = 17;
 
 /// A histogram that was read.
-#[derive(Clone, Copy, Debug, PartialEq, Eq)]
+#[derive(Clone, Copy, PartialEq, Eq)]
 pub struct HistogramSnapshot {
     /// For each bound, the number of times up to it and above the bound before; last, the number of
     /// times above all bounds.
@@ -20,7 +20,7 @@ pub struct HistogramSnapshot {
 }
 
 /// Counts of the requests that one worker, or all workers together, answered. Each number stops at 2^64 - 1.
-#[derive(Clone, Copy, Debug, PartialEq, Eq)]
+#[derive(Clone, Copy, PartialEq, Eq)]
 pub struct RequestCounts {
     /// Updates that were answered, with a number or with a refusal.
     pub updates: u64,
@@ -44,7 +44,7 @@ pub struct RequestCounts {
 }
 
 /// The metrics of one segment, as they were read.
-#[derive(Clone, Copy, Debug, PartialEq, Eq)]
+#[derive(Clone, Copy, PartialEq, Eq)]
 pub struct SegmentSnapshot {
     /// Times of whole stores, from the first call of the device to the end of the last.
     pub stores: HistogramSnapshot,
@@ -60,7 +60,7 @@ pub struct SegmentSnapshot {
 }
 
 /// The metrics of a server since its start, as they were read.
-#[derive(Debug, Drop)]
+#[derive(Drop)]
 pub struct MetricsSnapshot {
     /// The sum of all workers' counts.
     pub requests: RequestCounts,

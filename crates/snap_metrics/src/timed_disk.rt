@@ -1,11 +1,63 @@
 //! Devices whose stores are timed.
-ghost use Rattle.std.specs.Prelude.{◌≡◌};
+ghost use Rattle.std.specs.Prelude.{◌≡◌, ◌≤◌, IfOk, length};
+ghost use Rattle.snap_metrics.specs.Stages.{GoesBySync};
 
-use crate::segment::SegmentMetrics;
-use crate::timed_store::TimedStore;
+use crate::metrics::Metrics;
+use crate::segment::{SegmentMetrics, milliseconds_of, took};
 use snap_disk::{DeviceFault, Disk};
+use std::alloc::{AllocError, Global};
 use std::marker::Model;
 use std::rt::Clock;
+use std::time::Instant;
+
+/// The progress of a store: it writes its value and syncs, then writes its gate and syncs. A time
+/// is `None` if the clock couldn't be read.
+#[derive(Clone, Copy)]
+pub(crate) enum TimedStore {
+    /// No store is in progress.
+    Resting,
+    /// The value is being written.
+    Value {
+        began: Option<Instant>,
+    },
+    /// The value was synced, and the gate is being written.
+    Gate {
+        began: Option<Instant>,
+        synced: Option<Instant>,
+    },
+}
+
+impl TimedStore {
+    /// The stage after a sync that succeeded, and began at `from` if it was a store's first: that one makes the value
+    /// durable, and the second one ends the store. Counts their times, and at the end sets the time of the last update.
+    fn after_sync<R: Clock>(
+        self,
+        clock: &R,
+        from: Option<Instant>,
+        metrics: &SegmentMetrics,
+    ) -> TimedStore
+        ensures { GoesBySync self result }
+    {
+        match self {
+            TimedStore::Resting => TimedStore::Resting,
+            TimedStore::Value { began } => {
+                let synced = Instant::now(clock).ok();
+                metrics.first_waits.observe(took(from, synced));
+                TimedStore::Gate { began, synced }
+            }
+            TimedStore::Gate { began, synced } => {
+                let ended = Instant::now(clock).ok();
+                metrics.second_waits.observe(took(synced, ended));
+                metrics.stores.observe(took(began, ended));
+                metrics.stored.add(1);
+                if let Ok(since_1970) = clock.since_1970() {
+                    metrics.updated.set(milliseconds_of(since_1970));
+                }
+                TimedStore::Resting
+            }
+        }
+    }
+}
 
 /// A device that times its stores, and otherwise behaves as the inner device.
 ///
@@ -77,7 +129,10 @@ impl<D: Disk + Drop, R: Clock + Copy> Disk for TimedDisk<'_, D, R> {
     }
 
     fn write_at(&mut self, at: u64, bytes: &[u8]) -> Result<(), DeviceFault> {
-        self.stage = self.stage.at_write(&self.clock);
+        if let TimedStore::Resting = self.stage {
+            let began = Instant::now(&self.clock).ok();
+            self.stage = TimedStore::Value { began };
+        }
         let written = self.disk.write_at(at, bytes);
         if written.is_err() {
             self.stage = TimedStore::Resting;
@@ -86,7 +141,10 @@ impl<D: Disk + Drop, R: Clock + Copy> Disk for TimedDisk<'_, D, R> {
     }
 
     fn sync(&mut self) -> Result<(), DeviceFault> {
-        let from = self.stage.before_sync(&self.clock);
+        let from = match self.stage {
+            TimedStore::Value { .. } => Instant::now(&self.clock).ok(),
+            _ => None,
+        };
         let synced = self.disk.sync();
         self.stage = match synced {
             Ok(()) => self.stage.after_sync(&self.clock, from, self.metrics),
@@ -94,4 +152,22 @@ impl<D: Disk + Drop, R: Clock + Copy> Disk for TimedDisk<'_, D, R> {
         };
         synced
     }
+}
+
+/// Wraps each device, in order of segment, so that the times of its stores are counted in its segment's metrics.
+pub fn time_all<'f, D: Disk + Drop, R: Clock + Copy>(
+    alloc: Global,
+    devices: Vec<D>,
+    clock: R,
+    metrics: &'f Metrics,
+) -> Result<Vec<TimedDisk<'f, D, R>>, AllocError>
+    requires { length devices.items ≤ metrics.now.segments }
+    ensures { IfOk result (λ timed. timed.items ≡ devices.items) }
+{
+    let mut timed = Vec::with_capacity(alloc, devices.len())?;
+    'devices: for device in devices {
+        let segment = metrics.segment(timed.len());
+        timed.push(TimedDisk::new(device, clock, segment))?;
+    }
+    Ok(timed)
 }

@@ -2,16 +2,15 @@
 use crate::counter::{Counter, read_each};
 use crate::snapshot::{REFUSALS, RequestCounts};
 use snap_disk::Refusal;
-use std::array;
 
 /// Padding that fills a line of a processor's cache, which has 64 bytes.
-#[derive(Clone, Copy)]
+#[derive(Clone, Copy, Default)]
 struct CacheLine {
     _words: [u64; 8],
 }
 
-/// The metrics of one worker, which only that worker writes and any thread reads without a lock.
-#[derive(Drop)]
+/// The metrics of one worker, which only that worker writes and any thread reads without a lock. Each begins at 0.
+#[derive(Default, Drop)]
 pub struct WorkerMetrics {
     updates: Counter,
     scans: Counter,
@@ -26,21 +25,6 @@ pub struct WorkerMetrics {
 }
 
 impl WorkerMetrics {
-    /// Metrics of a worker that has answered nothing yet.
-    pub fn new() -> WorkerMetrics {
-        WorkerMetrics {
-            updates: Counter::new(),
-            scans: Counter::new(),
-            parts: Counter::new(),
-            statuses: Counter::new(),
-            refusals: array::from_fn(|_| Counter::new()),
-            looks: Counter::new(),
-            bytes_in: Counter::new(),
-            bytes_out: Counter::new(),
-            _gap: CacheLine { _words: [0; 8] },
-        }
-    }
-
     /// Publishes the counts `now`; `before` are those that were published last. Writes only the numbers that differ.
     pub fn follow(&self, before: &RequestCounts, now: &RequestCounts) {
         self.updates.follow(before.updates, now.updates);

@@ -146,8 +146,7 @@ module _ (S : Type 0) where
         refl,
       )) t)
 
-  -- the seat joins what another has seen, which has no pin and writes nothing; the other one is
-  -- spent
+  -- the seat joins what another has seen, which has no pin and writes nothing; the other one is spent
   takes_in : (p : Plan) (id : ℕ) (v : SeatView) (other : ℕ) (u : SeatView) (seen received : List Entry) → ((i : ℕ)
       → get_or u.pins i 0 ≡ 0) → ((h : List Entry) → IsPrefix v.seen h → IsPrefix v.received h → IsPrefix u.seen h
       → IsPrefix seen h × IsPrefix received h) → ((i : ℕ) → Has v i → (i < v.seen_end) × (seen ≡ v.seen))

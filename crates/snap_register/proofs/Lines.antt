@@ -77,8 +77,7 @@ pub legal_prefix : (p : Plan) (a h : List Entry) → IsPrefix a h → IsLegal p 
 legal_prefix p a h pre legal l r e is =
     legal l (r ++ pre.0) e (sym (append_assoc l (e ∷ r) pre.0) ∙ (ap (λ w. w ++ pre.0) is ∙ pre.1))
 
--- an update that may follow a beginning may follow the whole history, if its segment has no further
--- update there
+-- an update that may follow a beginning may follow the whole history, if its segment has no further update there
 pub follows_later : (p : Plan) (a h : List Entry) (x : Entry) → IsPrefix a h
     → count x.segment a ≡ count x.segment h → Follows p a x → Follows p h x
 follows_later p a h x pre same f = (f.0, prefix_trans f.0 a h f.1 pre, f.2 ∙ same, f.3)

@@ -1,5 +1,4 @@
--- A writer's steps keep the rule: a check of a buffer, a load and a store in the free one, a
--- publication.
+-- A writer's steps keep the rule: a check of a buffer, a load and a store in the free one, a publication.
 use Rattle.std.proofs.Common.{◌≡◌, ◌≢◌, ℕ, ◌+◌, ◌-◌, ◌*◌, ◌^◌, ◌<◌, ◌≤◌, List, [], ◌∷◌, ◌++◌, length, get_or, set}
 use Rattle.std.proofs.Common.{false, refl, ap, sym, ◌∙◌, arith, length-append, get_or-set_same, get_or-set_other}
 use Rattle.std.proofs.Common.{le_refl, suc}

@@ -11,10 +11,9 @@ use Rattle.snap_history.specs.History.{Update, IsBeginning, number_after, value_
 use Rattle.snap_history.specs.Limits.{IsNumber}
 use Rattle.snap_scan.specs.Sets.{Names}
 
--- the table and its plan; the updates that the seat has seen; the segments that it writes, from
--- `low` on and below `high`; which buffers and records its last looks found; how many looks it has
--- left; what it had seen at each of its looks, in order; and how far its writer's file is ahead of
--- what it has shown
+-- the table and its plan; the updates that the seat has seen; the segments that it writes, from `low` on and below
+-- `high`; which buffers and records its last looks found; how many looks it has left; what it had seen at each of its
+-- looks, in order; and how far its writer's file is ahead of what it has shown
 pub record Known : Type 0 where
   pub table : RegistersId
   pub plan : Plan

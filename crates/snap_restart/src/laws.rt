@@ -8,11 +8,10 @@ use snap_disk::Disk;
 /// after a refusal. That history consists of the whole histories of all moments at which a crash
 /// came, and before each of them at most one update of each segment that was begun and not shown.
 ///
-/// Commands on the files may run in between. A `put` adds its update to the history, or may have
-/// begun it if a crash or a fault cut it off; `get` and `check`, and `init`, `format`, `load` and
-/// `migrate` of files that are there, change nothing. If a file was lost or removed, and one of these
-/// made it anew, its segment alone begins again, and the others keep what they had. Files that were
-/// just made keep the memory with which they were made.
+/// Commands on the files may run in between. A `put` adds its update to the history, or may have begun it if a crash or
+/// a fault cut it off; `get` and `check`, and `init`, `format`, `load` and `migrate` of files that are there, change
+/// nothing. If a file was lost or removed, and one of these made it anew, its segment alone begins again, and the
+/// others keep what they had. Files that were just made keep the memory with which they were made.
 ///
 /// The premise of each next start is that a crash before its sync leaves only what the last crash
 /// could leave. It holds because a crash leaves open places open.

@@ -114,8 +114,7 @@ module _ (A : Type 0) (n : ℕ) (number : Numbers) (entry : Entries A) (b e : �
         last_is : slice_index (L ++ number t j ∷ []) (length (L ++ number t j ∷ []) - 1) ≡ number t j
         last_is = grind (arith, get_or_push, length_push)
 
-        -- a segment that rose by two since the scan's first look has risen by two since the scan
-        -- began
+        -- a segment that rose by two since the scan's first look has risen by two since the scan began
         pub rose : number b j + 2 ≤ number t j
         rose = grind (arith, pushed, last_is, borrowed.moved, first_low j turn.0, turn.1.1)
 

@@ -154,8 +154,7 @@ module _ (s : Machine) (L : List ℕ) (j k : ℕ) (st : StandsFor s L) (e : s.ne
       ));
     })
 
-    -- the last segment of this collect: another collect follows if it differs from the one before,
-    -- else the answer
+    -- the last segment of this collect: another collect follows if it differs from the one before, else the answer
     pub StandsFor-end_collect : s.segments ≤ j + 1
         → MatchBool (flag_after s j k)
         (StandsFor (record (kept s j k) { next = Look 0; changed = false }) (L ++ k ∷ []))

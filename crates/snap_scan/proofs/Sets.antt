@@ -1,5 +1,4 @@
--- The segments of a set and their places: they ascend, each is named, and each named segment has a
--- place.
+-- The segments of a set and their places: they ascend, each is named, and each named segment has a place.
 use Rattle.std.proofs.Common.{◌≡◌, ℕ, zero, suc, ◌+◌, ◌-◌, ◌^◌, ◌<◌, ◌≤◌, inl, inr, List, [], ◌∷◌, ◌++◌, length, take}
 use Rattle.std.proofs.Common.{None, Some, slice_get, slice_set, slice_index, refl, ap, sym, ◌∙◌, subst, arith, ◌==◌}
 use Rattle.std.proofs.lemmas.Bool.{cases_eq, cases_lt, cases_order, eq-eqb, ne_eqb, cond-true, cond-false}

@@ -38,8 +38,7 @@ same_borrow n L j k a b = same_segment n a.last.0 j b.last.0 k a.segment b.segme
 pub said : (s : Machine) (L : List ℕ) (v : Next) → StandsFor s L → s.next ≡ v → Says s L v
 said s L v st e = subst (Says s L) e st.says
 
--- The bound on looks: each collect that differs from the one before raises some number by one, and
--- none rises by two.
+-- The bound on looks: each collect that differs from the one before raises some number by one, and none rises by two.
 
 abbrev total : ℕ → List ℕ → ℕ → ℕ
 total n L m = sum_below (λ i. slice_index L (m * n + i)) n

@@ -2,18 +2,22 @@
 
 use crate::verb::Verb;
 use crate::words::cut;
-use std::fmt;
+use thiserror::Error;
 
 /// Why a line can't be read. It prints as what was expected there.
-#[derive(Clone, Copy, Debug, Drop, PartialEq, Eq)]
+#[derive(Clone, Copy, Debug, Drop, PartialEq, Eq, Error)]
 pub enum LineFault {
     /// The first line that isn't empty has to be `world N S`, and isn't.
+    #[error("the first line has to be `world N S`, with N and S from 1 to 16")]
     NoWorld,
     /// A later line begins with `world`.
+    #[error("only the first line is `world N S`")]
     SecondWorld,
     /// No event's line begins with this word.
+    #[error("no event begins with this word")]
     UnknownWord,
     /// The words after this verb aren't those that it takes.
+    #[error("expected `{}`", .0.form())]
     Form(Verb),
 }
 
@@ -25,19 +29,6 @@ impl LineFault {
             Some(verb) => LineFault::Form(verb),
             None if matches!(word, b"world") => LineFault::SecondWorld,
             None => LineFault::UnknownWord,
-        }
-    }
-}
-
-impl fmt::Display for LineFault {
-    fn fmt<W: fmt::Write>(&self, f: &mut fmt::Formatter<W>) -> fmt::Result {
-        match self {
-            LineFault::NoWorld => f.write_str(
-                "the first line has to be `world N S`, with N and S from 1 to 16",
-            ),
-            LineFault::SecondWorld => f.write_str("only the first line is `world N S`"),
-            LineFault::UnknownWord => f.write_str("no event begins with this word"),
-            LineFault::Form(verb) => write!(f, "expected `{}`", verb.form()),
         }
     }
 }

@@ -56,8 +56,7 @@ impl Interpreter {
         match &mut self.world {
             Some(world) => play_event(self.alloc, world, line, &mut self.text),
             None => {
-                let world = play_world(self.alloc, line, &mut self.text)?;
-                self.world = Some(world);
+                self.world = Some(play_world(self.alloc, line, &mut self.text)?);
                 Ok(())
             }
         }

@@ -20,9 +20,7 @@ pub(crate) fn world_line(line: &[u8]) -> Option<(usize, usize)>
         return None;
     };
     let (segments, scanners) = two_parts(rest?, b' ')?;
-    let segments = small_number(segments)?;
-    let scanners = small_number(scanners)?;
-    Some((segments, scanners))
+    Some((small_number(segments)?, small_number(scanners)?))
 }
 
 /// A number of segments or of scanners: 1 to [`MAX_COUNT`].
@@ -146,8 +144,7 @@ fn crash(alloc: Global, operands: &[u8]) -> Result<Option<Event>, AllocError>
 fn look(operands: &[u8]) -> Option<Event>
     ensures { Finds result (HasForm Verb.Look (words_of operands.now)) }
 {
-    let word = one_part(operands, b' ')?;
-    Some(Event::Look(actor(word)?))
+    Some(Event::Look(actor(one_part(operands, b' ')?)?))
 }
 
 /// `wW` or `sS`

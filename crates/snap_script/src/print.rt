@@ -13,22 +13,22 @@ pub(crate) fn print_reply(out: &mut Vec<u8>, reply: &Reply) -> Result<(), AllocE
     ensures { OnOk result (out.new.items ≡ out.old.items ++ line_text (reply_text reply.now)) }
 {
     match reply {
-        Reply::Begun => put(out, b"begun\n"),
+        Reply::Begun => out.extend_from_slice(b"begun\n"),
         Reply::Number(number) => put_number(out, b"number ", *number),
-        Reply::Called(Kind::Write(Write::Close)) => put(out, b"called close\n"),
-        Reply::Called(Kind::Write(Write::Body)) => put(out, b"called body\n"),
-        Reply::Called(Kind::Write(Write::Open)) => put(out, b"called open\n"),
-        Reply::Called(Kind::Sync) => put(out, b"called sync\n"),
-        Reply::Called(Kind::Read) => put(out, b"called read\n"),
-        Reply::DeviceFailed => put(out, b"device failed\n"),
-        Reply::Shown => put(out, b"shown\n"),
+        Reply::Called(Kind::Write(Write::Close)) => out.extend_from_slice(b"called close\n"),
+        Reply::Called(Kind::Write(Write::Body)) => out.extend_from_slice(b"called body\n"),
+        Reply::Called(Kind::Write(Write::Open)) => out.extend_from_slice(b"called open\n"),
+        Reply::Called(Kind::Sync) => out.extend_from_slice(b"called sync\n"),
+        Reply::Called(Kind::Read) => out.extend_from_slice(b"called read\n"),
+        Reply::DeviceFailed => out.extend_from_slice(b"device failed\n"),
+        Reply::Shown => out.extend_from_slice(b"shown\n"),
         Reply::Stored(number) => put_number(out, b"stored ", *number),
-        Reply::ScanBegun => put(out, b"scanning\n"),
+        Reply::ScanBegun => out.extend_from_slice(b"scanning\n"),
         Reply::Memory(values) => put_memory(out, values),
         Reply::Part(entries) => put_part(out, entries),
-        Reply::Crashed => put(out, b"crashed\n"),
-        Reply::Restarting => put(out, b"restarting\n"),
-        Reply::NotNow => put(out, b"not now\n"),
+        Reply::Crashed => out.extend_from_slice(b"crashed\n"),
+        Reply::Restarting => out.extend_from_slice(b"restarting\n"),
+        Reply::NotNow => out.extend_from_slice(b"not now\n"),
     }
 }
 
@@ -40,29 +40,20 @@ pub(crate) fn print_world(
 ) -> Result<(), AllocError>
     ensures { OnOk result (out.new.items ≡ out.old.items ++ line_text (world_text segments scanners)) }
 {
-    let mut digits = Buffer::new();
-    put(out, b"world ")?;
-    put(out, digits.format(segments).as_bytes())?;
-    put(out, b" ")?;
-    put(out, digits.format(scanners).as_bytes())?;
-    put(out, b"\n")
-}
-
-/// Appends these bytes.
-fn put(out: &mut Vec<u8>, text: &[u8]) -> Result<(), AllocError>
-    ensures { OnOk result (out.new.items ≡ out.old.items ++ text.now) }
-{
-    out.extend_from_slice(text)
+    out.extend_from_slice(b"world ")?;
+    out.extend_from_slice(Buffer::new().format(segments).as_bytes())?;
+    out.extend_from_slice(b" ")?;
+    out.extend_from_slice(Buffer::new().format(scanners).as_bytes())?;
+    out.extend_from_slice(b"\n")
 }
 
 /// Appends a line of `text` and a number.
 fn put_number(out: &mut Vec<u8>, text: &[u8], number: u64) -> Result<(), AllocError>
     ensures { OnOk result (out.new.items ≡ out.old.items ++ line_text (text.now ++ decimal number)) }
 {
-    let mut digits = Buffer::new();
-    put(out, text)?;
-    put(out, digits.format(number).as_bytes())?;
-    put(out, b"\n")
+    out.extend_from_slice(text)?;
+    out.extend_from_slice(Buffer::new().format(number).as_bytes())?;
+    out.extend_from_slice(b"\n")
 }
 
 /// Appends the line of a memory.
@@ -70,19 +61,12 @@ fn put_memory(out: &mut Vec<u8>, values: &[Vec<u8>]) -> Result<(), AllocError>
     ensures { OnOk result (out.new.items ≡ out.old.items
         ++ line_text (codes "memory" ++ flat_map (λ v. value_text v.items) values.now)) }
 {
-    put(out, b"memory")?;
+    out.extend_from_slice(b"memory")?;
     for value in values {
-        put_value(out, value)?;
+        out.extend_from_slice(b" ")?;
+        put_hex(out, value)?;
     }
-    put(out, b"\n")
-}
-
-/// Appends a value.
-fn put_value(out: &mut Vec<u8>, value: &[u8]) -> Result<(), AllocError>
-    ensures { OnOk result (out.new.items ≡ out.old.items ++ value_text value.now) }
-{
-    put(out, b" ")?;
-    put_hex(out, value)
+    out.extend_from_slice(b"\n")
 }
 
 /// Appends the line of a part: segments with their values.
@@ -90,20 +74,12 @@ fn put_part(out: &mut Vec<u8>, entries: &[PartEntry]) -> Result<(), AllocError>
     ensures { OnOk result (out.new.items ≡ out.old.items
         ++ line_text (codes "part" ++ flat_map entry_text entries.now)) }
 {
-    put(out, b"part")?;
+    out.extend_from_slice(b"part")?;
     for entry in entries {
-        put_entry(out, entry)?;
+        out.extend_from_slice(b" ")?;
+        out.extend_from_slice(Buffer::new().format(entry.segment).as_bytes())?;
+        out.extend_from_slice(b"=")?;
+        put_hex(out, &entry.value)?;
     }
-    put(out, b"\n")
-}
-
-/// Appends a segment and its value.
-fn put_entry(out: &mut Vec<u8>, entry: &PartEntry) -> Result<(), AllocError>
-    ensures { OnOk result (out.new.items ≡ out.old.items ++ entry_text entry.now) }
-{
-    let mut digits = Buffer::new();
-    put(out, b" ")?;
-    put(out, digits.format(entry.segment).as_bytes())?;
-    put(out, b"=")?;
-    put_hex(out, &entry.value)
+    out.extend_from_slice(b"\n")
 }

@@ -41,7 +41,7 @@ impl Verb {
     pub(crate) fn named(word: &[u8]) -> Option<Verb>
         ensures { MatchOption result ((v : Verb) → name_of v ≢ word.now) (λ v. name_of v ≡ word.now) }
     {
-        let verb = match word {
+        Some(match word {
             b"begin" => Verb::Begin,
             b"look" => Verb::Look,
             b"show" => Verb::Show,
@@ -57,8 +57,7 @@ impl Verb {
             b"refail" => Verb::RestartFail,
             b"serve" => Verb::Serve,
             _ => return None,
-        };
-        Some(verb)
+        })
     }
 
     /// The form of its line, as a fault prints it.

@@ -25,10 +25,9 @@ pub enum Which {
     New,
 }
 
-/// Makes the file of segment `index` of `count` on `new`, with the number and value that `old`
-/// holds in the old format. Returns that number. Makes nine device calls: a sync and a read of
-/// `old`, which it never writes, then the seven of [`format`](crate::format) on `new`. Allocates
-/// nothing.
+/// Makes the file of segment `index` of `count` on `new`, with the number and value that `old` holds in the old format.
+/// Returns that number. Makes nine device calls: a sync and a read of `old`, which it never writes, then the seven of
+/// [`format`](crate::format) on `new`. Allocates nothing.
 ///
 /// Errors name the refused file, in this order: `WrongFile` if `old` doesn't have the length of an
 /// old file, or else if `new` doesn't have that of a segment file, both before any device call; of

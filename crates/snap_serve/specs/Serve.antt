@@ -9,7 +9,7 @@ use Rattle.snap_restart.specs.{Pairs.Pairs, Report.report_text, declared.report.
 use Rattle.snap_writer.specs.{Segment.SegmentState, Writer.WriterState}
 use Rattle.snap_stream.specs.Streams.{AppendsBeginning, Complains, NamesFile, SaysLines, refused_line}
 use Rattle.snap_order.specs.declared.{order.ServeOptions.ServeOptions, status.Exit.Exit, status.Status.Status}
-use Rattle.snap_server.specs.{Deals.GivesSoMany, Endpoints.endpoint_text, declared.endpoint.Endpoint.Endpoint}
+use Rattle.snap_server.specs.{Deals.GivesSoMany, Endpoints.endpoint_text, declared.listen.Endpoint.Endpoint}
 use Rattle.snap_server.specs.{declared.listen.Accepted.Accepted, declared.listen.AcceptFault.AcceptFault}
 use Rattle.snap_server.specs.{declared.fault.RunFault.RunFault, declared.fault.ServerFault.ServerFault}
 use Rattle.snap_server.specs.declared.unix.BindFault.{BindFault}

@@ -59,11 +59,10 @@ impl<'a, X: Net + Files<File = File> + Clock> Network<'a, X> {
         match socket_path(address) {
             Some(path) => {
                 let socket = UnixSocket::bind(self.net, alloc, path, self.socket_mode)?;
-                listeners.add_unix(alloc, socket)?;
+                listeners.add_unix(socket)
             }
-            None => listeners.add_tcp(self.bind_tcp(address)?)?,
+            None => listeners.add_tcp(self.bind_tcp(address)?),
         }
-        Ok(())
     }
 
     /// Resolves a host name, and tries its addresses in order. The error is that of the last address.

@@ -5,24 +5,18 @@
 //! callbacks for requests, events and updates, the metrics, the observer, and the limits.
 #![tactic(auto)]
 
-mod announcement;
 mod bind;
 mod counted;
 mod fault;
 mod notes;
 mod observer;
 mod report;
-mod runtime;
-mod seen;
 mod server;
-mod server_observer;
 mod stores;
 
 pub use bind::{Bind, ListenFault, Network};
 pub use fault::HostFault;
 pub use notes::log_note;
-pub use observer::{NoObserver, Observer};
-pub use runtime::Runtime;
-pub use server::{Environment, host};
-pub use server_observer::ServerObserver;
+pub use observer::{NoObserver, Observer, ServerObserver};
+pub use server::{Environment, Runtime, host};
 pub use snap_desk::{NoUpdateObserver, UpdateObserver};

@@ -1,5 +1,7 @@
-//! The observer of a running server.
+//! The observers of a running server.
 
+use snap_desk::NoUpdateObserver;
+use snap_server::RunFault;
 use snap_session::Service;
 use std::rt::Clock;
 use std::sync::Wait;
@@ -21,4 +23,21 @@ impl Observer for NoObserver {
     fn look<X: Wait + Clock, S: Service + Drop>(&self, _rt: &X, _service: S) {}
 
     fn stop(&self) {}
+}
+
+/// Is notified of a server's start and end, on the server's own thread.
+pub trait ServerObserver {
+    /// Called when connections begin to be accepted. `listening` has the lines with the addresses,
+    /// as they were printed.
+    fn begun(&self, listening: &str);
+
+    /// Called when the server has ended: after this number of served connections, or early for this
+    /// reason. [`begun`](ServerObserver::begun) may not have been called before.
+    fn ended(&self, served: Result<u64, &RunFault>);
+}
+
+impl ServerObserver for NoUpdateObserver {
+    fn begun(&self, _listening: &str) {}
+
+    fn ended(&self, _served: Result<u64, &RunFault>) {}
 }

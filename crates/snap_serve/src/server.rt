@@ -9,13 +9,10 @@ ghost use Rattle.snap_serve.specs.Scanners.{HasMetrics, MayServe, MayServeOpened
 ghost use Rattle.snap_serve.specs.Serve.{EndsServing, IsLengthAt, IsNamed, ListenFails};
 ghost use Rattle.snap_serve.specs.Serve.{TellsItsEnd, addresses_of, failure_of, site_at, unbound_failure};
 
-use crate::announcement::{Announcement, lines_of};
 use crate::bind::{Bind, ListenFault};
 use crate::fault::HostFault;
-use crate::observer::Observer;
-use crate::report::{print_report, print_served};
-use crate::runtime::Runtime;
-use crate::server_observer::ServerObserver;
+use crate::observer::{Observer, ServerObserver};
+use crate::report::{Announcement, lines_of, print_report, print_served};
 use crate::stores::serve_memory;
 use snap_desk::UpdateObserver;
 use snap_disk::Disk;
@@ -28,11 +25,21 @@ use snap_stream::SystemReason;
 use std::alloc::Global;
 use std::io::Write;
 use std::marker::Brand;
+use std::net::Net;
+use std::rt::Clock;
+use std::sync::Wait;
+use std::thread::Threads;
 use std::time::Duration;
 
 /// The pause after the first fault of the listener, in milliseconds. With the longer pauses after
 /// further faults, accepting ends after three minutes.
 const FAULT_REST: u64 = 20;
+
+/// The runtime of a server, which may block, starts threads, opens sockets and reads the clock. Any that can do this is
+/// one.
+pub trait Runtime: Threads + Wait + Clock + Net + Sync + Send + Copy {}
+
+impl<X: Threads + Wait + Clock + Net + Sync + Send + Copy> Runtime for X {}
 
 /// The environment of a server: all that it gets from its caller.
 #[derive(Drop)]
@@ -194,7 +201,7 @@ where
     let (writers, scanners) = store.into_parts();
     let watch = environment.watch;
     let announcement = Announcement { lines, watch };
-    let ended = serve_memory::<Brand, X, D, B::Listener, G, N, H, O, Announcement<H>, W>(
+    let ended = serve_memory::<Brand, _, _, _, _, _, _, _, _, _>(
         rt,
         alloc,
         writers,

@@ -5,15 +5,13 @@ use Rattle.snap_server.specs.Deals.{AsksInVain, CallsInVain, Deals, Gives, Gives
 use Rattle.snap_server.specs.Deals.{turn_of}
 use Rattle.snap_server.specs.declared.listen.{Accepted.Accepted, AcceptFault.AcceptFault}
 
--- k connections were delivered and counted, and the next turn is known. `held` are the senders that the dispatcher then
--- has.
+-- k connections were delivered, and the next turn is known. `held` are the senders that the dispatcher then has.
 pub record HasDealt {L H : Type 0} (accepts : L → Result Accepted AcceptFault → L → Type 0)
     (refuses : L → Type 0) (takes : H → Accepted → Type 0) (busy idle : H → Type 0) (senders : List H) (k : ℕ)
-    (old new : L) (held : List H) (next dealt : ℕ) : Type 0 where
+    (old new : L) (held : List H) (next : ℕ) : Type 0 where
   pub deals : Deals accepts takes busy idle senders k old new
   pub same : refuses new → refuses old
   pub turn : turn_of next (length senders) ≡ turn_after (length senders) k
-  pub counted : dealt ≡ k
   pub theirs : held ≡ senders
 
 one_more : (k : ℕ) → k + 1 ≡ suc k
@@ -22,14 +20,13 @@ one_more = grind arith
 -- one more connection was accepted, and delivered to the sender whose turn it was
 pub dealt_more : {L H : Type 0} (accepts : L → Result Accepted AcceptFault → L → Type 0) (refuses : L → Type 0)
     (takes : H → Accepted → Type 0) (busy idle : H → Type 0) (senders : List H) (k : ℕ) (a b c : L)
-    (held held' : List H) (next next' dealt dealt' : ℕ)
-    → HasDealt accepts refuses takes busy idle senders k a b held next dealt
+    (held held' : List H) (next next' : ℕ) → HasDealt accepts refuses takes busy idle senders k a b held next
     → (arrival : Accepted) × (sender : H) × Gives accepts b arrival c
     × (slice_get held (turn_of next (length held)) ≡ Some sender) × IsDelivered takes busy idle held sender arrival
-    → (refuses c → refuses b) → next' ≡ turn_of next (length held) + 1 → dealt' ≡ dealt + 1 → held' ≡ held
-    → HasDealt accepts refuses takes busy idle senders (k + 1) a c held' next' dealt'
-dealt_more accepts refuses takes busy idle senders k a b c held held' next next' dealt dealt' before given
-    is_same in_turn counted kept = rw (one_more k) record {
+    → (refuses c → refuses b) → next' ≡ turn_of next (length held) + 1 → held' ≡ held
+    → HasDealt accepts refuses takes busy idle senders (k + 1) a c held' next'
+dealt_more accepts refuses takes busy idle senders k a b c held held' next next' before given is_same in_turn
+    kept = rw (one_more k) record {
       deals = (
         b,
         given.0,
@@ -41,7 +38,6 @@ dealt_more accepts refuses takes busy idle senders k a b c held held' next next'
       );
       same = λ fails. before.same (is_same fails);
       turn = rw in_turn (rw before.theirs (rw before.turn refl));
-      counted = rw counted (rw before.counted (one_more k));
       theirs = rw kept before.theirs;
     }
 

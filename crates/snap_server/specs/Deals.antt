@@ -16,7 +16,7 @@ turn_after many (suc k) = turn_of (turn_after many k + 1) many
 -- the connection was delivered to a sender that had none, or to this one, or, as this one is busy, to the last of them
 pub data IsDelivered {H : Type 0} (takes : H → Accepted → Type 0) (busy idle : H → Type 0) (senders : List H)
     (sender : H) (arrival : Accepted) : Type 0 where
-  First : (free : H) × (i : ℕ) × (slice_get senders i ≡ Some free) × idle free × takes free arrival
+  Idle : (free : H) × (i : ℕ) × (slice_get senders i ≡ Some free) × idle free × takes free arrival
       → IsDelivered takes busy idle senders sender arrival
   Taken : takes sender arrival → IsDelivered takes busy idle senders sender arrival
   Passed : busy sender → (last : H) × (slice_get senders (length senders - 1) ≡ Some last) × takes last arrival

@@ -1,9 +1,9 @@
 -- The texts of addresses.
 use Rattle.std.specs.Prelude.{ℕ, List, ◌++◌, codes, string_bytes}
 use Rattle.std.specs.Net.Text.{socket_text}
-use Rattle.snap_server.specs.declared.endpoint.{Endpoint.Endpoint, Peer.Peer}
-use Rattle.snap_server.specs.declared.endpoint.Endpoint.TheVariants as endpoint
-use Rattle.snap_server.specs.declared.endpoint.Peer.TheVariants as peer
+use Rattle.snap_server.specs.declared.listen.{Endpoint.Endpoint, Peer.Peer}
+use Rattle.snap_server.specs.declared.listen.Endpoint.TheVariants as endpoint
+use Rattle.snap_server.specs.declared.listen.Peer.TheVariants as peer
 
 -- the text by which a client connects to a listener
 abbrev pub endpoint_text : Endpoint → List ℕ

@@ -2,11 +2,11 @@
 ghost use Rattle.std.specs.Prelude.{◌≡◌, ◌⊎◌, IfErr, IfNone, IfOk, IfSome, Ok, Err};
 ghost use Rattle.snap_server.specs.Deals.{AsksInVain, Gives};
 
-use crate::connection_limit::ConnectionLimit;
+use crate::fault::ServerEvent;
 use crate::listen::{AcceptFault, Accepted, Listen};
-use crate::server_event::ServerEvent;
 use std::rt::Clock;
 use std::sync::Wait;
+use std::sync::atomic::{AtomicUsize, Ordering};
 use std::thread;
 use std::time::Duration;
 
@@ -24,6 +24,33 @@ const ROOM_REST: u64 = 10;
 /// connections that were open at [`Full`](ServerEvent::Full) has closed, or if more are open than
 /// then. So connections that open and close one by one at the limit don't fill the log.
 const PART: usize = 8;
+
+/// Limits the number of open connections. A connection counts from its accept to its close.
+#[derive(Drop)]
+pub struct ConnectionLimit {
+    most: usize,
+    open: AtomicUsize,
+}
+
+impl ConnectionLimit {
+    /// A limit of `most` connections, with none open.
+    pub fn new(most: usize) -> ConnectionLimit {
+        ConnectionLimit {
+            most,
+            open: AtomicUsize::new(0),
+        }
+    }
+
+    /// The number of open connections.
+    fn open(&self) -> usize {
+        self.open.load(Ordering::SeqCst)
+    }
+
+    /// Counts a connection that was closed.
+    pub fn leave(&self) {
+        self.open.fetch_sub(1, Ordering::SeqCst);
+    }
+}
 
 /// Accepts connections from a listener while fewer than the limit are open.
 #[derive(Drop)]
@@ -89,7 +116,7 @@ impl<'a> Acceptor<'a> {
         for _ in rt.forever() {
             match self.try_one(listener) {
                 Ok(arrival) => {
-                    self.limit.enter();
+                    self.limit.open.fetch_add(1, Ordering::SeqCst);
                     self.note_room(note);
                     return Some(arrival);
                 }
@@ -112,7 +139,7 @@ impl<'a> Acceptor<'a> {
         ensures deaf { IfErr result (λ why. why ≡ AcceptFault.Failed → L.refuses listener.old) }
         ensures same { L.refuses listener.new → L.refuses listener.old }
     {
-        if !self.limit.is_free() {
+        if self.limit.open() >= self.limit.most {
             return Err(AcceptFault::NoRoom);
         }
         listener.accept()

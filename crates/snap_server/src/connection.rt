@@ -4,14 +4,11 @@ ghost use Rattle.snap_session.specs.Talk.{HoldsFrameAnd, start, most_owed};
 ghost use Rattle.snap_session.specs.{Asked.AllAsked, Turns.StandsAt, Turns.TakesRounds};
 ghost use Rattle.snap_server.specs.{Scene.scene, declared.connection.TheConstants.PIECE};
 
-use crate::endpoint::Peer;
-use crate::idle_timeout::{IdleCheck, IdleTimeout};
-use crate::listen::Accepted;
-use crate::socket::Socket;
-use mio::{Interest, Registry, Token};
+use crate::listen::{Accepted, Peer};
+use crate::stream::Stream;
 use snap_session::{End, Polled, Service, Session, proceed};
 use std::alloc::Global;
-use std::io;
+use std::time::Duration;
 
 /// The size of a worker's read buffer, in bytes: the most bytes of one read.
 pub const PIECE: usize = 4096;
@@ -30,7 +27,7 @@ pub enum CloseReason {
 }
 
 /// A connection that was closed, and why.
-#[derive(Clone, Copy, Debug, PartialEq, Eq, Drop)]
+#[derive(Clone, Copy, Drop)]
 pub struct Closed {
     /// The peer of the connection.
     pub peer: Peer,
@@ -49,15 +46,67 @@ pub enum ConnectionState {
     Over,
 }
 
+/// The number of idle checks within one idle timeout. A silent connection is closed at the next
+/// check after it, so at most a quarter of the timeout late.
+const LOOKS: u32 = 4;
+
+/// The time between two idle checks while the server stops, in milliseconds.
+///
+/// A connection is closed when [`LAST_LOOKS`] of them in a row find it silent within a request: after five seconds.
+const LAST_REST: u64 = 100;
+
+const LAST_LOOKS: u32 = 50;
+
+/// When a silent connection is closed. A worker checks all its connections every `rest`.
+#[derive(Clone, Copy, Drop)]
+pub struct IdleTimeout {
+    /// The time between two idle checks.
+    pub rest: Duration,
+    /// The number of consecutive checks that may find a connection silent.
+    looks: u32,
+    /// Whether the server is stopping: then a connection is closed at the next check, unless it has begun a request.
+    stops: bool,
+}
+
+impl IdleTimeout {
+    /// The timeout of a server that is serving, by its idle timeout.
+    pub fn of(idle: Duration) -> IdleTimeout {
+        IdleTimeout {
+            rest: idle / LOOKS,
+            looks: LOOKS,
+            stops: false,
+        }
+    }
+
+    /// The timeout of a server that is stopping: a connection may finish the request that it has
+    /// begun, as long as its bytes keep arriving.
+    pub fn last() -> IdleTimeout {
+        IdleTimeout {
+            rest: Duration::from_millis(LAST_REST),
+            looks: LAST_LOOKS,
+            stops: true,
+        }
+    }
+}
+
+/// Why a worker checks a connection that it isn't polling.
+#[derive(Clone, Copy, Drop)]
+pub enum IdleCheck {
+    /// The system reported an error of its socket.
+    Lost,
+    /// An idle check is due.
+    Silence(IdleTimeout),
+}
+
 /// A non-blocking socket and its session.
 ///
 /// Holds at most one frame and one piece of [`PIECE`] bytes of the peer's input: bytes are read no
 /// faster than the peer takes its replies.
 #[derive(Drop)]
 pub struct Connection {
-    socket: Socket,
+    pub socket: Stream,
     peer: Peer,
-    session: Session,
+    pub session: Session,
     stage: ConnectionState,
     /// The number of consecutive idle checks that found it silent.
     looks: u32,
@@ -75,22 +124,12 @@ impl Connection {
     {
         let Accepted { stream, peer } = arrival;
         Connection {
-            socket: Socket::new(stream),
+            socket: stream,
             peer,
             session: Session::new(alloc),
             stage: ConnectionState::Idle,
             looks: 0,
         }
-    }
-
-    /// Registers the socket, so that the system reports under `token` when it is readable or writable.
-    pub fn register(&mut self, registry: &Registry, token: Token) -> io::Result<()>
-        ensures session { self.new.session ≡ self.old.session }
-        ensures peer { self.new.peer ≡ self.old.peer }
-        ensures stage { self.new.stage ≡ self.old.stage }
-    {
-        let interest = Interest::READABLE | Interest::WRITABLE;
-        self.socket.register(registry, token, interest)
     }
 
     /// Marks it as listed, unless it is listed or closed. If `true`, the caller has to append it to the list.
@@ -176,22 +215,12 @@ impl Connection {
         let ConnectionState::Idle = self.stage else {
             return None;
         };
-        match why {
-            IdleCheck::Lost if self.is_free() => None,
-            IdleCheck::Lost => Some(CloseReason::Lost),
-            IdleCheck::Silence(_) if !self.is_free() => None,
-            IdleCheck::Silence(timeout) => self.count_silent(timeout),
-        }
-    }
-
-    /// Counts an idle check that finds it silent, with no request being worked on.
-    fn count_silent(&mut self, timeout: &IdleTimeout) -> Option<CloseReason>
-        requires { self.old.session.asked ≡ None }
-        ensures may { IfSome result (λ how. MayEnd how self.new.session) }
-        ensures session { self.new.session ≡ self.old.session }
-        ensures peer { self.new.peer ≡ self.old.peer }
-        ensures stage { self.new.stage ≡ self.old.stage }
-    {
+        let timeout = match why {
+            IdleCheck::Lost if self.session.is_free() => return None,
+            IdleCheck::Lost => return Some(CloseReason::Lost),
+            IdleCheck::Silence(_) if !self.session.is_free() => return None,
+            IdleCheck::Silence(timeout) => timeout,
+        };
         if timeout.stops && self.session.is_between() && self.session.owed().is_empty() {
             return Some(CloseReason::Stopped);
         }
@@ -225,12 +254,5 @@ impl Connection {
         ensures { result ≡ true ↔ self.now.stage ≡ ConnectionState.Over }
     {
         matches!(self.stage, ConnectionState::Over)
-    }
-
-    /// Whether no request of this connection waits for an outcome.
-    pub fn is_free(&self) -> bool
-        ensures { result ≡ true ↔ self.now.session.asked ≡ None }
-    {
-        self.session.is_free()
     }
 }

@@ -1,14 +1,13 @@
 //! The dispatcher: delivers accepted connections to the workers.
-ghost use Rattle.std.specs.Prelude.{◌≡◌, ◌⊎◌, ◌+◌, IfOk, IfErr, OnOk, OnErr, IsOk, Some, true, false, min, length};
-ghost use Rattle.std.specs.Prelude.{slice_get, ◌-◌, ℕ, IfSome};
+ghost use Rattle.std.specs.Prelude.{◌≡◌, ◌⊎◌, ◌+◌, ◌-◌, ℕ, IfOk, IfErr, IfSome, OnOk, IsOk, Some, true, length};
+ghost use Rattle.std.specs.Prelude.{slice_get};
 ghost use Rattle.snap_server.specs.declared.listen.Accepted.{Accepted};
 ghost use Rattle.snap_server.specs.Deals.{Deals, Gives, IsDelivered, turn_of};
 
 use crate::acceptor::Acceptor;
-use crate::fault::ServerFault;
+use crate::fault::{ServerEvent, ServerFault};
 use crate::listen::{Accepted, Listen};
 use crate::mailbox::Deliver;
-use crate::server_event::ServerEvent;
 use std::rt::Clock;
 use std::sync::Wait;
 
@@ -20,8 +19,6 @@ pub struct Dispatcher<'a, H: Deliver> {
     senders: &'a [H],
     /// The index of the next worker, or one past the last.
     next: usize,
-    /// The number of connections that were delivered to workers.
-    dealt: u64,
 }
 
 impl<'a, H: Deliver> Dispatcher<'a, H> {
@@ -29,39 +26,12 @@ impl<'a, H: Deliver> Dispatcher<'a, H> {
     pub fn new(acceptor: Acceptor<'a>, senders: &'a [H]) -> Dispatcher<'a, H>
         ensures senders { result.senders ≡ senders.entry }
         ensures first { result.next ≡ 0 }
-        ensures none { result.dealt ≡ 0 }
     {
         Dispatcher {
             acceptor,
             senders,
             next: 0,
-            dealt: 0,
         }
-    }
-
-    /// Delivers a connection to a worker without one, or to the next worker, or to the last if that one is busy;
-    /// `false` if the worker has ended.
-    fn deal<X: Wait + Clock>(&mut self, rt: &X, arrival: Accepted) -> bool
-        ensures counted { result ≡ true → self.new.dealt ≡ min (self.old.dealt + 1) 18446744073709551615 }
-        ensures refused { result ≡ false → self.new.dealt ≡ self.old.dealt }
-        ensures in_turn { result ≡ true → self.new.next ≡ turn_of self.old.next (length self.old.senders.now) + 1 }
-        ensures handed { result ≡ true → (sender : H) × (slice_get self.old.senders.now
-            (turn_of self.old.next (length self.old.senders.now)) ≡ Some sender)
-            × IsDelivered H.takes H.is_busy H.was_idle self.old.senders.now sender arrival }
-        ensures senders { self.new.senders.now ≡ self.old.senders.now }
-    {
-        if self.next >= self.senders.len() {
-            self.next = 0;
-        }
-        let Some(sender) = self.senders.get(self.next) else {
-            return false;
-        };
-        self.next += 1;
-        if !self.deliver(rt, sender, arrival) {
-            return false;
-        }
-        self.dealt = self.dealt.saturating_add(1);
-        true
     }
 
     /// Delivers a connection to a worker without one, or to this worker, or to the last if this one is busy; `false` if
@@ -107,7 +77,8 @@ impl<'a, H: Deliver> Dispatcher<'a, H> {
         }
     }
 
-    /// Accepts one connection and delivers it to the next worker.
+    /// Accepts one connection, and delivers it to a worker without one, or to the next worker, or to the last if that
+    /// one is busy.
     fn accept_one<X: Wait + Clock, L: Listen, N: Fn(&ServerEvent)>(
         &mut self,
         rt: &X,
@@ -115,8 +86,6 @@ impl<'a, H: Deliver> Dispatcher<'a, H> {
         note: &N,
     ) -> Result<(), ServerFault>
         requires { N.IsAlwaysCallable note.now }
-        ensures counted { OnOk result (self.new.dealt ≡ min (self.old.dealt + 1) 18446744073709551615) }
-        ensures refused { OnErr result (self.new.dealt ≡ self.old.dealt) }
         ensures in_turn { OnOk result (self.new.next ≡ turn_of self.old.next (length self.old.senders.now) + 1) }
         ensures handed { OnOk result ((arrival : Accepted) × (sender : H)
             × Gives L.accepts listener.old arrival listener.new
@@ -130,39 +99,20 @@ impl<'a, H: Deliver> Dispatcher<'a, H> {
         let Some(arrival) = self.acceptor.next(rt, listener, note) else {
             return Err(ServerFault::AcceptFailed);
         };
-        if self.deal(rt, arrival) {
-            Ok(())
-        } else {
-            Err(ServerFault::PollFailed)
+        if self.next >= self.senders.len() {
+            self.next = 0;
         }
-    }
-
-    /// Accepts `most` connections and delivers them to the workers in turn.
-    fn accept_so_many<X: Wait + Clock, L: Listen, N: Fn(&ServerEvent)>(
-        &mut self,
-        rt: &X,
-        listener: &mut L,
-        most: u64,
-        note: &N,
-    ) -> Result<(), ServerFault>
-        requires none { self.old.dealt ≡ 0 }
-        requires first { self.old.next ≡ 0 }
-        requires note { N.IsAlwaysCallable note.now }
-        ensures dealt { OnOk result (self.new.dealt ≡ most) }
-        ensures deals { OnOk result
-            (Deals L.accepts H.takes H.is_busy H.was_idle self.old.senders.now most listener.old listener.new) }
-        ensures none { most ≡ 0 → IsOk result }
-        ensures faults { IfErr result (λ fault. (fault ≡ ServerFault.AcceptFailed) ⊎ (fault ≡ ServerFault.PollFailed)) }
-        ensures deaf { IfErr result (λ fault. fault ≡ ServerFault.AcceptFailed → L.refuses listener.old) }
-    {
-        for _ in 0..most {
-            self.accept_one(rt, listener, note)?;
+        let Some(sender) = self.senders.get(self.next) else {
+            return Err(ServerFault::PollFailed);
+        };
+        self.next += 1;
+        if !self.deliver(rt, sender, arrival) {
+            return Err(ServerFault::PollFailed);
         }
         Ok(())
     }
 
-    /// Accepts `connections` connections and delivers them to the workers in turn; without end if
-    /// `None`.
+    /// Accepts `connections` connections and delivers them to the workers in turn; without end if `None`.
     ///
     /// Fails after 16 consecutive faults of the listener, or if a worker has ended.
     pub fn accept_all<X: Wait + Clock, L: Listen, N: Fn(&ServerEvent)>(
@@ -172,11 +122,9 @@ impl<'a, H: Deliver> Dispatcher<'a, H> {
         connections: Option<u64>,
         note: &N,
     ) -> Result<u64, ServerFault>
-        requires none { self.old.dealt ≡ 0 }
         requires first { self.old.next ≡ 0 }
         requires note { N.IsAlwaysCallable note.now }
         ensures asked { IfOk result (λ k. connections ≡ Some k) }
-        ensures dealt { IfOk result (λ k. self.new.dealt ≡ k) }
         ensures deals { IfOk result (λ k.
             Deals L.accepts H.takes H.is_busy H.was_idle self.old.senders.now k listener.old listener.new) }
         ensures none { connections ≡ Some 0 → IsOk result }
@@ -184,7 +132,9 @@ impl<'a, H: Deliver> Dispatcher<'a, H> {
         ensures deaf { IfErr result (λ fault. fault ≡ ServerFault.AcceptFailed → L.refuses listener.old) }
     {
         if let Some(most) = connections {
-            self.accept_so_many(rt, listener, most, note)?;
+            for _ in 0..most {
+                self.accept_one(rt, listener, note)?;
+            }
             return Ok(most);
         }
         for _ in rt.forever() {

@@ -1,7 +1,22 @@
-//! Why a server stopped.
+//! Events of a running server, and why it stopped.
 
+use crate::connection::Closed;
 use std::io;
 use thiserror::Error;
+
+/// An event for the operator's log.
+#[derive(Clone, Copy, Drop)]
+pub enum ServerEvent {
+    /// A connection was closed.
+    Ended(Closed),
+    /// No further connection is accepted for now: the limit is reached, or the system has no
+    /// descriptor or memory for a socket. `open` connections are open, and clients wait.
+    Full { open: usize },
+    /// Connections are accepted again.
+    Room,
+    /// The listener has failed so often that no more connections are accepted.
+    Deaf,
+}
 
 /// Why [`run`](crate::run) stopped serving. `Display` gives the message for the operator.
 #[derive(Clone, Copy, Debug, PartialEq, Eq, Error)]

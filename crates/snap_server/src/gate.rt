@@ -1,5 +1,5 @@
 //! A hook that is called around each request.
-ghost use Rattle.std.specs.Prelude.{◌≡◌};
+ghost use Rattle.snap_server.specs.SharedService.{InnerLaw};
 
 use snap_disk::Refusal;
 use snap_frame::{Reply, Request};
@@ -28,17 +28,8 @@ impl Gate for NoGate {
 /// A service with a hook around each request. Its replies are those of the inner service.
 #[derive(Drop)]
 pub struct Gated<'a, S: Drop, G> {
-    service: S,
-    gate: &'a G,
-}
-
-impl<'a, S: Drop, G> Gated<'a, S, G> {
-    /// Wraps `service`, so that `gate` is called around each of its requests.
-    pub fn new(service: S, gate: &'a G) -> Gated<'a, S, G>
-        ensures { result.service ≡ service }
-    {
-        Gated { service, gate }
-    }
+    pub service: S,
+    pub gate: &'a G,
 }
 
 impl<S: Service + Drop, G: Gate> Service for Gated<'_, S, G> {
@@ -79,3 +70,9 @@ impl<S: Service + Drop, G: Gate> Service for Gated<'_, S, G> {
         self.service.refused(why);
     }
 }
+
+/// Each connection of a worker is a session on the service that was given to [`run`](crate::run): the hook around it
+/// changes no answer.
+pub fn gate_laws<S: Service + Drop, G: Gate>()
+    ensures { InnerLaw (λ gated. gated.service) ⟦<Gated<'static, S, G> as Service>⟧.gives S.gives }
+{}

@@ -9,38 +9,27 @@
 #![tactic(auto)]
 
 mod acceptor;
-mod announce;
 mod connection;
-mod connection_limit;
 mod dispatcher;
-mod endpoint;
 mod fault;
 mod gate;
-mod idle_timeout;
-mod laws;
 mod listen;
 mod listeners;
 mod mailbox;
 mod server;
-mod server_event;
 mod sessions;
-mod socket;
 mod stream;
 mod tcp;
 mod threads;
 mod unix;
 mod worker;
 
-pub use announce::{Announce, NoAnnouncement};
 pub use connection::{CloseReason, Closed};
-pub use endpoint::{Endpoint, Peer};
-pub use fault::{RunFault, ServerFault};
-pub use gate::{Gate, NoGate};
-pub use laws::gate_laws;
-pub use listen::{AcceptFault, Accepted, Listen, LocalAddress};
+pub use fault::{RunFault, ServerEvent, ServerFault};
+pub use gate::{Gate, NoGate, gate_laws};
+pub use listen::{AcceptFault, Accepted, Endpoint, Listen, LocalAddress, Peer};
 pub use listeners::Listeners;
-pub use server::{Limits, run};
-pub use server_event::ServerEvent;
+pub use server::{Announce, Limits, NoAnnouncement, run};
 pub use stream::Stream;
 pub use tcp::Tcp;
 pub use unix::{BindFault, UnixSocket};

@@ -1,11 +1,51 @@
-//! Listeners, and the connections that they accept.
-ghost use Rattle.std.specs.Prelude.{◌≡◌, ℕ, IfErr, List, Result};
-ghost use Rattle.snap_server.specs.declared.endpoint.Endpoint.{Endpoint};
-ghost use Rattle.snap_server.specs.declared.listen.{Accepted.Accepted, AcceptFault.AcceptFault};
+//! Listeners with their addresses, and the connections that they accept.
+ghost use Rattle.std.specs.Prelude.{◌≡◌, ℕ, IfErr, List, Result, Some};
+ghost use Rattle.snap_server.specs.Endpoints.{endpoint_text, peer_text};
+ghost use Rattle.snap_server.specs.declared.listen.{Accepted.Accepted, AcceptFault.AcceptFault, Endpoint.Endpoint};
 
-use crate::endpoint::{Endpoint, Peer};
 use crate::stream::Stream;
-use std::io;
+use std::net::SocketAddr;
+use std::{fmt, io};
+
+/// The address of a listener. `Display` gives the text that clients connect to.
+#[derive(Drop)]
+pub enum Endpoint {
+    /// A TCP address with its port.
+    Tcp(SocketAddr),
+    /// The path of a Unix socket, as it was given.
+    Unix(String),
+}
+
+impl fmt::Display for Endpoint {
+    ghost output = { λ endpoint. Some (endpoint_text endpoint) };
+
+    fn fmt<W: fmt::Write>(&self, f: &mut fmt::Formatter<W>) -> fmt::Result {
+        match self {
+            Endpoint::Tcp(address) => write!(f, "{address}"),
+            Endpoint::Unix(path) => write!(f, "unix:{path}"),
+        }
+    }
+}
+
+/// The address of a connection's peer.
+#[derive(Clone, Copy, Drop)]
+pub enum Peer {
+    /// The address of a TCP peer.
+    Tcp(SocketAddr),
+    /// A process on this machine, connected by a Unix socket. It has no address.
+    Unix,
+}
+
+impl fmt::Display for Peer {
+    ghost output = { λ peer. Some (peer_text peer) };
+
+    fn fmt<W: fmt::Write>(&self, f: &mut fmt::Formatter<W>) -> fmt::Result {
+        match self {
+            Peer::Tcp(address) => write!(f, "{address}"),
+            Peer::Unix => f.write_str("unix"),
+        }
+    }
+}
 
 /// A connection that was accepted: its socket and its peer.
 #[derive(Drop)]
@@ -17,7 +57,7 @@ pub struct Accepted {
 }
 
 /// Why no connection was accepted.
-#[derive(Clone, Copy, Debug, PartialEq, Eq, Drop)]
+#[derive(Clone, Copy, Drop)]
 pub enum AcceptFault {
     /// The system has no descriptor, or no memory, for one more socket. The client waits in the
     /// system's queue; the listener itself works.

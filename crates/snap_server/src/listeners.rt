@@ -1,8 +1,7 @@
 //! Several listeners in one.
 ghost use Rattle.std.specs.Prelude.{◌≡◌, List};
 
-use crate::endpoint::Endpoint;
-use crate::listen::{AcceptFault, Accepted, Listen, LocalAddress, why_not};
+use crate::listen::{AcceptFault, Accepted, Endpoint, Listen, LocalAddress, why_not};
 use crate::tcp::Tcp;
 use crate::unix::{BindFault, UnixSocket};
 use mio::unix::SourceFd;
@@ -11,7 +10,7 @@ use std::alloc::Global;
 use std::fs::File;
 use std::io;
 use std::net::Net;
-use std::os::fd::RawFd;
+use std::os::fd::{AsRawFd, RawFd};
 use std::rt::{Clock, Files};
 
 /// The most events of one wait.
@@ -36,16 +35,16 @@ impl<R: Files<File = File> + Clock> Opened<'_, R> {
     /// Makes the listener non-blocking.
     fn stop_waiting(&self) -> io::Result<()> {
         match self {
-            Opened::Tcp(tcp) => tcp.stop_waiting(),
-            Opened::Unix(socket) => socket.stop_waiting(),
+            Opened::Tcp(tcp) => tcp.listener.set_nonblocking(true),
+            Opened::Unix(socket) => socket.listener.set_nonblocking(true),
         }
     }
 
     /// The listener's descriptor.
     fn descriptor(&self) -> RawFd {
         match self {
-            Opened::Tcp(tcp) => tcp.descriptor(),
-            Opened::Unix(socket) => socket.descriptor(),
+            Opened::Tcp(tcp) => tcp.listener.as_raw_fd(),
+            Opened::Unix(socket) => socket.listener.as_raw_fd(),
         }
     }
 
@@ -73,9 +72,8 @@ impl<'a, R: Files<File = File> + Clock> Listeners<'a, R> {
     /// An empty set of listeners. Fails if the system refuses its event queue, or if memory runs out.
     pub fn new(net: &impl Net, alloc: Global) -> Result<Listeners<'a, R>, BindFault> {
         let poll = Poll::new(net)?;
-        let Ok(events) = Events::with_capacity(alloc, MAX_EVENTS) else {
-            return Err(BindFault::NoMemory);
-        };
+        let events = Events::with_capacity(alloc, MAX_EVENTS);
+        let events = events.map_err(|_| BindFault::NoMemory)?;
         Ok(Listeners {
             poll,
             events,
@@ -92,10 +90,8 @@ impl<'a, R: Files<File = File> + Clock> Listeners<'a, R> {
     }
 
     /// Adds a Unix socket. After a fault the set is unusable.
-    pub fn add_unix(&mut self, alloc: Global, socket: UnixSocket<'a, R>) -> Result<(), BindFault> {
-        let Ok(path) = format!(in alloc; "{path}", path = socket.path()) else {
-            return Err(BindFault::NoMemory);
-        };
+    pub fn add_unix(&mut self, socket: UnixSocket<'a, R>) -> Result<(), BindFault> {
+        let path = socket.path.clone().map_err(|_| BindFault::NoMemory)?;
         self.add(Opened::Unix(socket), Endpoint::Unix(path))
     }
 

@@ -67,9 +67,7 @@ pub struct MailboxSender<O: Drop> {
     arrivals: Sender<Accepted>,
     messages: Sender<Message<O>>,
     waker: Waker,
-    sleeps: Arc<AtomicBool, Global>,
-    busy: Arc<AtomicBool, Global>,
-    idle: Arc<AtomicBool, Global>,
+    state: Arc<WorkerState, Global>,
     /// Whether its worker is the last one, which is never busy.
     is_last: bool,
     /// The index of its worker. Only clauses read it.
@@ -81,15 +79,21 @@ pub struct MailboxSender<O: Drop> {
 pub struct Mailbox<O: Drop> {
     pub arrivals: Receiver<Accepted>,
     pub messages: Receiver<Message<O>>,
-    /// Whether the worker sleeps, or is about to.
-    sleeps: Arc<AtomicBool, Global>,
-    /// Whether the worker is busy with its only connection, or gets another one just now. Whoever changes it from
-    /// `false` changes it back. That of the last worker is always `true`, so that nobody changes it.
-    busy: Arc<AtomicBool, Global>,
-    /// Whether the worker has no connection, and none was delivered since it said so.
-    idle: Arc<AtomicBool, Global>,
+    state: Arc<WorkerState, Global>,
     /// The index of its worker. Only clauses read it.
     place: usize,
+}
+
+/// What both sides of a mailbox know of its worker.
+#[derive(Drop)]
+struct WorkerState {
+    /// Whether the worker sleeps, or is about to.
+    sleeps: AtomicBool,
+    /// Whether the worker is busy with its only connection, or gets another one just now. Whoever changes it from
+    /// `false` changes it back. That of the last worker is always `true`.
+    busy: AtomicBool,
+    /// Whether the worker has no connection, and none was delivered since it said so.
+    idle: AtomicBool,
 }
 
 impl<O: Drop> MailboxSender<O> {
@@ -105,24 +109,23 @@ impl<O: Drop> MailboxSender<O> {
     {
         let (arrivals, arrived) = unbounded(alloc)?;
         let (messages, came) = unbounded(alloc)?;
-        let sleeps = Arc::new(alloc, AtomicBool::new(false))?;
-        let busy = Arc::new(alloc, AtomicBool::new(is_last))?;
-        let idle = Arc::new(alloc, AtomicBool::new(true))?;
+        let state = WorkerState {
+            sleeps: AtomicBool::new(false),
+            busy: AtomicBool::new(is_last),
+            idle: AtomicBool::new(true),
+        };
+        let state = Arc::new(alloc, state)?;
         let mailbox = Mailbox {
             arrivals: arrived,
             messages: came,
-            sleeps: Arc::try_clone(&sleeps)?,
-            busy: Arc::try_clone(&busy)?,
-            idle: Arc::try_clone(&idle)?,
+            state: Arc::try_clone(&state)?,
             place,
         };
         let sender = MailboxSender {
             arrivals,
             messages,
             waker,
-            sleeps,
-            busy,
-            idle,
+            state,
             is_last,
             place,
         };
@@ -138,7 +141,8 @@ impl<O: Drop> MailboxSender<O> {
         let mut what = what;
         for _ in rt.forever() {
             what = match to.send(rt, what) {
-                Ok(()) => return !self.sleeps.load(Ordering::SeqCst) || self.waker.wake().is_ok(),
+                Ok(()) => return !self.state.sleeps.load(Ordering::SeqCst)
+                    || self.waker.wake().is_ok(),
                 Err(SendError::Disconnected(_)) => return false,
                 Err(SendError::OutOfMemory(back)) => back,
             };
@@ -162,7 +166,7 @@ impl<O: Drop> Mailbox<O> {
     /// Marks the worker as busy with its only connection, so that no other one is delivered to it; `false` if one is
     /// delivered, or the worker is the last one.
     pub fn try_be_busy(&self) -> bool {
-        if self.busy.swap(true, Ordering::SeqCst) {
+        if self.state.busy.swap(true, Ordering::SeqCst) {
             return false;
         }
         let is_alone = !self.has_arrivals();
@@ -173,19 +177,19 @@ impl<O: Drop> Mailbox<O> {
     /// Marks the worker as busy no more, if it was.
     pub fn be_free(&self, was_busy: bool) {
         if was_busy {
-            self.busy.store(false, Ordering::SeqCst);
+            self.state.busy.store(false, Ordering::SeqCst);
         }
     }
 
     /// Marks the worker as one without a connection.
     pub fn be_idle(&self) {
-        self.idle.store(true, Ordering::SeqCst);
+        self.state.idle.store(true, Ordering::SeqCst);
     }
 
     /// Marks the worker as about to sleep, then checks the mailbox. If the mailbox isn't empty the
     /// worker may not sleep, and is marked as awake.
     pub fn may_sleep(&self) -> bool {
-        self.sleeps.store(true, Ordering::SeqCst);
+        self.state.sleeps.store(true, Ordering::SeqCst);
         if self.has_some() {
             self.is_awake();
             return false;
@@ -195,7 +199,7 @@ impl<O: Drop> Mailbox<O> {
 
     /// Marks the worker as awake.
     pub fn is_awake(&self) {
-        self.sleeps.store(false, Ordering::SeqCst);
+        self.state.sleeps.store(false, Ordering::SeqCst);
     }
 }
 
@@ -210,19 +214,16 @@ impl<O: Drop> Deliver for MailboxSender<O> {
     ghost was_idle = { λ _. Unit {0} };
 
     fn is_idle(&self) -> bool {
-        self.idle.load(Ordering::SeqCst)
+        self.state.idle.load(Ordering::SeqCst)
     }
 
     fn deliver<X: Wait + Clock>(&self, rt: &X, arrival: Accepted) -> Result<bool, Accepted> {
-        self.idle.store(false, Ordering::SeqCst);
-        if self.is_last {
-            return Ok(self.send(rt, &self.arrivals, arrival));
-        }
-        if self.busy.swap(true, Ordering::SeqCst) {
+        self.state.idle.store(false, Ordering::SeqCst);
+        if self.state.busy.swap(true, Ordering::SeqCst) && !self.is_last {
             return Err(arrival);
         }
         let is_sent = self.send(rt, &self.arrivals, arrival);
-        self.busy.store(false, Ordering::SeqCst);
+        self.state.busy.store(self.is_last, Ordering::SeqCst);
         Ok(is_sent)
     }
 

@@ -1,33 +1,29 @@
 //! The threads of a server.
-ghost use Rattle.std.specs.Prelude.{◌≡◌, ◌⊎◌, [], All, IfOk, IfErr, OnOk, Some, map, true, vec_len};
+ghost use Rattle.std.specs.Prelude.{◌≡◌, ◌⊎◌, [], All, IfOk, IfErr, OnErr, OnOk, Some, map, true, vec_len};
 ghost use Rattle.std.specs.{List.range_with_len, Thread.IsSync, Thread.IsSend};
 ghost use Rattle.snap_session.specs.Asked.{AllAsked};
-ghost use Rattle.snap_server.specs.Announced.{Announced, end_of, was_announced};
+ghost use Rattle.snap_server.specs.Announced.{Announced, end_of};
 ghost use Rattle.snap_server.specs.Deals.{Deals, GivesSoMany};
 
-use crate::acceptor::Acceptor;
-use crate::announce::Announce;
-use crate::connection_limit::ConnectionLimit;
+use crate::acceptor::{Acceptor, ConnectionLimit};
 use crate::dispatcher::Dispatcher;
-use crate::fault::{RunFault, ServerFault};
+use crate::fault::{RunFault, ServerEvent, ServerFault};
 use crate::gate::{Gate, Gated};
-use crate::idle_timeout::IdleTimeout;
 use crate::listen::Listen;
 use crate::mailbox::{Deliver, MailboxSender, Message};
-use crate::server_event::ServerEvent;
 use crate::threads::{Work, have_served, start_backgrounds, start_workers};
 use crate::worker::Worker;
 use snap_session::{Background, Service};
 use std::alloc::Global;
+use std::io;
 use std::net::Net;
 use std::rt::Clock;
 use std::sync::Wait;
-use std::thread;
-use std::thread::Threads;
+use std::thread::{self, Threads};
 use std::time::Duration;
 
 /// The limits of a server.
-#[derive(Clone, Copy, Debug)]
+#[derive(Clone, Copy)]
 pub struct Limits {
     /// The number of connections that it serves in all; `None` for no limit.
     pub connections: Option<u64>,
@@ -39,6 +35,34 @@ pub struct Limits {
     /// The idle timeout: how long a connection may be silent with no request being worked on;
     /// `None` for no limit. A silent connection is closed at most a quarter of this time late.
     pub idle: Option<Duration>,
+}
+
+/// Announces to `T` that a server is ready, for example by printing its address.
+pub trait Announce<T> {
+    /// The effects of an announcement that succeeded, on `to`.
+    ghost announces: { Self → T → T → Type 0 };
+
+    /// The effects of an announcement that failed, on `to`.
+    ghost fails: { Self → T → T → Type 0 };
+
+    /// Announces the server to `to`. After an error no connection is accepted.
+    fn announce(&self, to: &mut T) -> io::Result<()>
+        ensures said { OnOk result (Self.announces self.now to.old to.new) }
+        ensures failed { OnErr result (Self.fails self.now to.old to.new) };
+}
+
+/// An announcement that does nothing.
+#[derive(Clone, Copy, Drop)]
+pub struct NoAnnouncement;
+
+impl<T> Announce<T> for NoAnnouncement {
+    ghost announces = { λ _ old new. old ≡ new };
+
+    ghost fails = { λ _ _ _. ⊥ };
+
+    fn announce(&self, _to: &mut T) -> io::Result<()> {
+        Ok(())
+    }
 }
 
 /// Tells the workers that no more connections will arrive. They serve their connections until these
@@ -54,35 +78,26 @@ fn close_all<X: Wait + Clock, H: Deliver>(rt: &X, senders: &[H], has_served: boo
     }
 }
 
-/// Wraps each service with the hook `gate`.
-fn gate_all<'a, S: Service + Drop, G: Gate>(
-    alloc: Global,
-    services: Vec<S>,
-    gate: &'a G,
-) -> Result<Vec<Gated<'a, S, G>>, ServerFault>
-    ensures gated { IfOk result (λ gated. map (λ one. one.service) gated.items ≡ services.items) }
-    ensures faults { IfErr result (λ fault. fault ≡ ServerFault.NoMemory) }
-{
-    let mut gated = Vec::new(alloc);
-    'services: for service in services {
-        let Ok(()) = gated.push(Gated::new(service, gate)) else {
-            return Err(ServerFault::NoMemory);
-        };
-    }
-    Ok(gated)
-}
-
-/// Makes a worker for each service, and their senders in the same order, numbered by index.
-fn open_workers<X: Net, S: Service + Drop>(
+/// Makes a worker for each service, wrapped with the hook `gate`, and their senders in the same order, numbered by
+/// index.
+fn open_workers<'a, X: Net, S: Service + Drop, G: Gate>(
     net: &X,
     alloc: Global,
     services: Vec<S>,
+    gate: &'a G,
     idle: Option<Duration>,
-) -> Result<(Vec<Worker<S>>, Vec<MailboxSender<S::Outcome>>), ServerFault>
+    limit: &'a ConnectionLimit,
+) -> Result<
+    (
+        Vec<Worker<'a, Gated<'a, S, G>>>,
+        Vec<MailboxSender<S::Outcome>>,
+    ),
+    ServerFault,
+>
 where
     S::Outcome: Drop,
-    ensures workers { IfOk result (λ made. map (λ worker. worker.sessions.service) made.0.items ≡ services.items) }
-    ensures senders { IfOk result (λ made. vec_len made.1 ≡ vec_len services) }
+    ensures workers { IfOk result (λ made. map (λ worker. worker.sessions.service.service) made.0.items
+        ≡ services.items) }
     ensures places { IfOk result (λ made. map (λ worker. worker.mailbox.place) made.0.items
         ≡ range_with_len 0 (vec_len services)) }
     ensures theirs { IfOk result (λ made. map (λ sender. sender.place) made.1.items
@@ -94,39 +109,14 @@ where
     let count = services.len();
     'services: for service in services {
         let place = workers.len();
-        let (worker, sender) = Worker::new(
-            net,
-            alloc,
-            service,
-            place,
-            place + 1 == count,
-            idle.map(IdleTimeout::of),
-        )?;
+        let is_last = place + 1 == count;
+        let service = Gated { service, gate };
+        let (worker, sender) = Worker::new(net, alloc, service, place, is_last, idle, limit)?;
         if workers.push(worker).is_err() || senders.push(sender).is_err() {
             return Err(ServerFault::NoMemory);
         }
     }
     Ok((workers, senders))
-}
-
-/// Makes a worker for each service, wrapped with the hook `gate`, and their senders in the same order.
-fn open_all<'a, X: Net, S: Service + Drop, G: Gate>(
-    net: &X,
-    alloc: Global,
-    services: Vec<S>,
-    gate: &'a G,
-    idle: Option<Duration>,
-) -> Result<(Vec<Worker<Gated<'a, S, G>>>, Vec<MailboxSender<S::Outcome>>), ServerFault>
-where
-    S::Outcome: Drop,
-    ensures places { IfOk result (λ made. map (λ worker. worker.mailbox.place) made.0.items
-        ≡ range_with_len 0 (vec_len made.0)) }
-    ensures theirs { IfOk result (λ made. map (λ sender. sender.place) made.1.items
-        ≡ range_with_len 0 (vec_len made.0)) }
-    ensures faults { IfErr result (λ fault. (fault ≡ ServerFault.NoPoll) ⊎ (fault ≡ ServerFault.NoMemory)) }
-{
-    let services = gate_all(alloc, services, gate)?;
-    open_workers(net, alloc, services, idle)
 }
 
 /// Announces the server, which has all its threads, then accepts `connections` connections and
@@ -147,27 +137,21 @@ where
     H: Deliver,
     N: Fn(&ServerEvent),
     A: Announce<T>,
-    requires none { dispatcher.dealt ≡ 0 }
     requires first { dispatcher.next ≡ 0 }
     requires note { N.IsAlwaysCallable note.now }
     ensures whole { OnOk result (is_whole ≡ true) }
     ensures asked { IfOk result (λ k. connections ≡ Some k) }
     ensures deals { IfOk result (λ k. Deals L.accepts H.takes H.is_busy H.was_idle dispatcher.entry.senders.now k
         listener.old listener.new) }
-    ensures accepted { IfOk result (λ k. GivesSoMany L.accepts k listener.old listener.new) }
     ensures deaf { IfErr result (λ why. why ≡ RunFault.Server ServerFault.AcceptFailed → L.refuses listener.old) }
     ensures announced { Announced (A.announces announce.now) (A.fails announce.now) to.old result to.new }
 {
     if !is_whole {
         return Err(RunFault::Server(ServerFault::NoThread));
     }
-    if let Err(why) = announce.announce(to) {
-        return Err(RunFault::Announcement(why));
-    }
-    match dispatcher.accept_all(rt, listener, connections, note) {
-        Ok(accepted) => Ok(accepted),
-        Err(fault) => Err(RunFault::Server(fault)),
-    }
+    announce.announce(to).map_err(RunFault::Announcement)?;
+    let accepted = dispatcher.accept_all(rt, listener, connections, note);
+    accepted.map_err(RunFault::Server)
 }
 
 /// Runs the threads of all workers and backgrounds. Once all are running it announces the server,
@@ -183,6 +167,7 @@ fn run_threads<X, L, K, H, B, N, T, A>(
     senders: &[H],
     backgrounds: Vec<B>,
     limits: Limits,
+    limit: &ConnectionLimit,
     note: &N,
     announce: &A,
     to: &mut T,
@@ -205,8 +190,6 @@ where
     ensures deaf { IfErr result (λ why. why ≡ RunFault.Server ServerFault.AcceptFailed → L.refuses listener) }
     ensures announced { Announced (A.announces announce.now) (A.fails announce.now) to.old result to.new }
 {
-    let limit = ConnectionLimit::new(limits.clients);
-    let limit = &limit;
     let Ok(threads) = Vec::with_capacity(alloc, workers.len()) else {
         return Err(RunFault::Server(ServerFault::NoMemory));
     };
@@ -227,15 +210,15 @@ where
         {
             let mut threads = threads;
             let is_told = start_backgrounds(scope, rt, senders, backgrounds);
-            let is_worked = start_workers(scope, rt, limit, note, workers, &mut threads);
+            let is_worked = start_workers(scope, rt, note, workers, &mut threads);
             let mut listener = listener;
             let dispatcher = Dispatcher::new(Acceptor::new(limit, limits.fault_rest), senders);
-            let asked = limits.connections;
+            let (is_whole, asked) = (is_told && is_worked, limits.connections);
             let accepted = accept_announced(
                 rt,
                 &mut listener,
                 dispatcher,
-                is_told && is_worked,
+                is_whole,
                 asked,
                 note,
                 announce,
@@ -304,10 +287,9 @@ where
     ensures deaf { IfErr result (λ why. why ≡ RunFault.Server ServerFault.AcceptFailed → L.refuses listener) }
     ensures announced { Announced (A.announces announce.now) (A.fails announce.now) to.old result to.new }
 {
-    let (workers, senders) = match open_all(rt, alloc, services, gate, limits.idle) {
-        Ok(opened) => opened,
-        Err(fault) => return Err(RunFault::Server(fault)),
-    };
+    let limit = ConnectionLimit::new(limits.clients);
+    let opened = open_workers(rt, alloc, services, gate, limits.idle, &limit);
+    let (workers, senders) = opened.map_err(RunFault::Server)?;
     run_threads(
         rt,
         alloc,
@@ -316,6 +298,7 @@ where
         senders.as_slice(),
         backgrounds,
         limits,
+        &limit,
         note,
         announce,
         to,
@@ -327,21 +310,9 @@ where
 fn end_of(served: Result<u64, RunFault>, has_failed: bool) -> Result<u64, RunFault>
     ensures { result ≡ end_of served has_failed }
 {
-    if has_failed && was_announced(&served) {
-        return Err(RunFault::Server(ServerFault::PollFailed));
-    }
-    served
-}
-
-/// Whether a server with this result was announced.
-fn was_announced(served: &Result<u64, RunFault>) -> bool
-    ensures { result ≡ was_announced served.now }
-{
     match served {
-        Ok(_) => true,
-        Err(RunFault::Announcement(_)) => false,
-        Err(RunFault::Server(fault)) => {
-            matches!(fault, ServerFault::AcceptFailed | ServerFault::PollFailed)
-        }
+        Ok(_) | Err(RunFault::Server(ServerFault::AcceptFailed | ServerFault::PollFailed))
+            if has_failed => { Err(RunFault::Server(ServerFault::PollFailed)) }
+        _ => served,
     }
 }

@@ -1,7 +1,7 @@
 //! The connections of a worker, whose sessions share its service.
-ghost use Rattle.std.specs.Prelude.{◌≡◌, ◌≢◌, ◌⊎◌, ◌↔◌, ◌≤◌, ◌+◌, ◌++◌, ℕ, length, IfSome, IfNone, IsSome, OnSome};
+ghost use Rattle.std.specs.Prelude.{◌≡◌, ◌≢◌, ◌⊎◌, ◌≤◌, ◌+◌, ◌++◌, ℕ, length, IfSome, IfNone, IsSome, OnSome};
 ghost use Rattle.std.specs.Prelude.{Some, None, true, false, option_to_list, []};
-ghost use Rattle.std.specs.{VecDeque.deque_len, VecDeque.deque_capacity, List.Contains};
+ghost use Rattle.std.specs.{VecDeque.deque_capacity, List.Contains};
 ghost use Rattle.slab.specs.Slab.{get, slab_len, SameValues};
 ghost use Rattle.snap_session.specs.Asked.{AllAsked};
 ghost use Rattle.snap_session.specs.Talk.{Talk, Moves, start};
@@ -10,10 +10,9 @@ ghost use Rattle.snap_server.specs.TurnList.{Lists, enlisted, listed_behind, aga
 ghost use Rattle.snap_server.specs.ConnectionStates.{Waits, HasEnded};
 ghost use Rattle.snap_server.specs.{Scene.scene, Turns.HadRounds, declared.connection.TheConstants.PIECE};
 
-use crate::connection::{CloseReason, Closed, Connection, ConnectionState, PIECE};
-use crate::idle_timeout::IdleCheck;
+use crate::connection::{CloseReason, Closed, Connection, ConnectionState, IdleCheck, PIECE};
 use crate::listen::Accepted;
-use mio::{Registry, Token};
+use mio::{Interest, Registry, Token};
 use slab::Slab;
 use snap_session::{Polled, Service};
 use std::alloc::Global;
@@ -26,10 +25,10 @@ use std::collections::VecDeque;
 /// requests answered between its own.
 #[derive(Drop)]
 pub struct Sessions<S: Service + Drop> {
-    service: S,
-    connections: Slab<Connection>,
+    pub service: S,
+    pub connections: Slab<Connection>,
     /// The keys of the connections to poll, each once. It has capacity for all connections.
-    listed: VecDeque<usize>,
+    pub listed: VecDeque<usize>,
     ghost are: { ∥ AreSessions S.gives service connections ∥₁ },
     ghost lists: { ∥ Lists listed.items connections ∥₁ },
     ghost room: { slab_len connections ≤ deque_capacity listed },
@@ -46,35 +45,6 @@ impl<S: Service + Drop> Sessions<S> {
             connections: Slab::new(alloc),
             listed: VecDeque::new(alloc),
         }
-    }
-
-    /// Whether there is no connection.
-    pub fn is_empty(&self) -> bool
-        ensures { result ≡ true ↔ slab_len self.now.connections ≡ 0 }
-    {
-        self.connections.is_empty()
-    }
-
-    /// Whether there is one connection.
-    pub fn is_single(&self) -> bool {
-        self.connections.len() == 1
-    }
-
-    /// Tells the service whether it may let its connections wait.
-    pub fn let_wait(&self, may_wait: bool) {
-        self.service.let_wait(may_wait);
-    }
-
-    /// An exclusive upper bound of all connections' keys.
-    pub fn places(&self) -> usize {
-        self.connections.capacity()
-    }
-
-    /// The number of connections on the list.
-    pub fn turns(&self) -> usize
-        ensures { result ≡ deque_len self.now.listed }
-    {
-        self.listed.len()
     }
 
     /// Adds a connection, and registers it under its key. `false` if memory runs out or the system
@@ -94,8 +64,13 @@ impl<S: Service + Drop> Sessions<S> {
             return false;
         }
         let mut connection = Connection::new(alloc, arrival);
-        let key = self.connections.vacant_key();
-        if connection.register(registry, Token(key)).is_err() {
+        let token = Token(self.connections.vacant_key());
+        let interest = Interest::READABLE | Interest::WRITABLE;
+        if connection
+            .socket
+            .register(registry, token, interest)
+            .is_err()
+        {
             return false;
         }
         self.connections.insert_reserved(connection);
@@ -213,7 +188,7 @@ impl<S: Service + Drop> Sessions<S> {
         let Some(connection) = self.connections.get(key) else {
             return;
         };
-        if connection.is_over() && connection.is_free() {
+        if connection.is_over() && connection.session.is_free() {
             self.connections.try_remove(key);
         }
     }

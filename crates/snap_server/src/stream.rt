@@ -2,14 +2,15 @@
 
 use mio::net::{TcpStream, UnixStream};
 use mio::{Interest, Registry, Token};
-use std::io::{self, Read, Write};
+use std::io::{self, ErrorKind, Read, Write};
 use std::net::Shutdown;
 
-/// A socket whose reads and writes return `WouldBlock` instead of blocking.
+/// A socket whose reads and writes return `WouldBlock` instead of blocking. Once it is closed, they fail.
 #[derive(Drop)]
 pub enum Stream {
     Tcp(TcpStream),
     Unix(UnixStream),
+    Closed,
 }
 
 impl Stream {
@@ -23,15 +24,18 @@ impl Stream {
         match self {
             Stream::Tcp(stream) => registry.register(stream, token, interest),
             Stream::Unix(stream) => registry.register(stream, token, interest),
+            Stream::Closed => Err(io::Error::from(ErrorKind::NotConnected)),
         }
     }
 
-    /// Shuts down reading, writing or both.
-    pub(crate) fn shutdown(&self, how: Shutdown) -> io::Result<()> {
-        match self {
-            Stream::Tcp(stream) => stream.shutdown(how),
-            Stream::Unix(stream) => stream.shutdown(how),
-        }
+    /// Shuts the writing side down, so that the peer reads all that was written, and closes the descriptor.
+    pub(crate) fn close(&mut self) {
+        let _ = match self {
+            Stream::Tcp(stream) => stream.shutdown(Shutdown::Write),
+            Stream::Unix(stream) => stream.shutdown(Shutdown::Write),
+            Stream::Closed => Ok(()),
+        };
+        *self = Stream::Closed;
     }
 }
 
@@ -47,6 +51,7 @@ impl Read for &Stream {
                 let mut stream: &UnixStream = stream;
                 stream.read(buf)
             }
+            Stream::Closed => Err(io::Error::from(ErrorKind::NotConnected)),
         }
     }
 }
@@ -63,6 +68,7 @@ impl Write for &Stream {
                 let mut stream: &UnixStream = stream;
                 stream.write(buf)
             }
+            Stream::Closed => Err(io::Error::from(ErrorKind::NotConnected)),
         }
     }
 

@@ -1,9 +1,11 @@
 //! A TCP listener.
+ghost use Rattle.libc.specs.Net.{SockOption};
 
-use crate::endpoint::Peer;
-use crate::listen::{AcceptFault, Accepted, Listen, why_not};
+use crate::listen::{AcceptFault, Accepted, Listen, Peer, why_not};
 use crate::stream::Stream;
-use libc::net;
+use libc::net::{
+    self, IPPROTO_TCP, SO_KEEPALIVE, SOL_SOCKET, TCP_KEEPCNT, TCP_KEEPIDLE, TCP_KEEPINTVL,
+};
 use mio::net::TcpStream;
 use std::io::{self, ErrorKind};
 use std::net::{Net, SocketAddr, TcpListener};
@@ -13,7 +15,7 @@ use std::os::fd::{AsRawFd, RawFd};
 /// peer within two minutes of silence.
 #[derive(Drop)]
 pub struct Tcp {
-    listener: TcpListener,
+    pub(crate) listener: TcpListener,
 }
 
 impl Tcp {
@@ -32,16 +34,6 @@ impl Tcp {
         self.listener.local_addr()
     }
 
-    /// Makes the listener non-blocking: from now on [`take`](Tcp::take) doesn't wait.
-    pub(crate) fn stop_waiting(&self) -> io::Result<()> {
-        self.listener.set_nonblocking(true)
-    }
-
-    /// The listener's descriptor.
-    pub(crate) fn descriptor(&self) -> RawFd {
-        self.listener.as_raw_fd()
-    }
-
     /// Accepts the next connection; `None` if the listener doesn't block and no connection waits.
     pub(crate) fn take(&self) -> Result<Option<Accepted>, AcceptFault> {
         let (stream, peer) = match self.listener.accept() {
@@ -58,31 +50,18 @@ impl Tcp {
         Ok(Some(Accepted { stream, peer }))
     }
 
-    /// Waits for the next connection.
-    fn wait_for_one(&self) -> Result<Accepted, AcceptFault> {
-        self.take()?.ok_or(AcceptFault::Gone)
-    }
-}
-
-impl Listen for Tcp {
-    /// The system may fail at any time.
-    ghost refuses = { λ _. Unit {0} };
-
-    fn accept(&mut self) -> Result<Accepted, AcceptFault> {
-        self.wait_for_one()
-    }
-
     /// Closes the listener to further connections. Its descriptor stays open.
-    fn close(&self) {
+    pub fn close(&self) {
         net::shutdown(self.listener.as_raw_fd(), net::SHUT_RDWR);
     }
 }
 
 impl Listen for &Tcp {
+    /// The system may fail at any time.
     ghost refuses = { λ _. Unit {0} };
 
     fn accept(&mut self) -> Result<Accepted, AcceptFault> {
-        Tcp::wait_for_one(*self)
+        self.take()?.ok_or(AcceptFault::Gone)
     }
 
     fn close(&self) {
@@ -102,35 +81,17 @@ const QUESTIONS: u8 = 6;
 /// lost peer is found at the next write.
 fn ask_silent_peers(listener: &TcpListener) {
     let listener = listener.as_raw_fd();
-    unsafe {
-        net::setsockopt(listener, net::SOL_SOCKET, net::SO_KEEPALIVE, &option(1), 4);
-        net::setsockopt(
-            listener,
-            net::IPPROTO_TCP,
-            net::TCP_KEEPIDLE,
-            &option(SILENCE),
-            4,
-        );
-        net::setsockopt(
-            listener,
-            net::IPPROTO_TCP,
-            net::TCP_KEEPINTVL,
-            &option(QUESTION_REST),
-            4,
-        );
-        net::setsockopt(
-            listener,
-            net::IPPROTO_TCP,
-            net::TCP_KEEPCNT,
-            &option(QUESTIONS),
-            4,
-        );
-    }
+    set_option(listener, SOL_SOCKET, SO_KEEPALIVE, 1);
+    set_option(listener, IPPROTO_TCP, TCP_KEEPIDLE, SILENCE);
+    set_option(listener, IPPROTO_TCP, TCP_KEEPINTVL, QUESTION_REST);
+    set_option(listener, IPPROTO_TCP, TCP_KEEPCNT, QUESTIONS);
 }
 
-/// Encodes a socket option's value: the four bytes of an `int`.
-fn option(number: u8) -> [u8; 16] {
+/// Sets a socket's option, whose value is the four bytes of an `int`.
+fn set_option(socket: RawFd, level: i32, name: i32, number: u8)
+    requires { SockOption level name }
+{
     let mut value = [0; 16];
     value[..4].copy_from_slice(&u32::from(number).to_ne_bytes());
-    value
+    unsafe { net::setsockopt(socket, level, name, &value, 4) };
 }

@@ -1,10 +1,9 @@
 //! The threads of workers and backgrounds, and the result of each worker.
-ghost use Rattle.std.specs.Prelude.{◌≡◌, [], All, Bool, IfSome, map, true};
+ghost use Rattle.std.specs.Prelude.{◌≡◌, [], All, map, true};
 ghost use Rattle.std.specs.Thread.{IsSend, IsSync};
 
-use crate::connection_limit::ConnectionLimit;
+use crate::fault::ServerEvent;
 use crate::mailbox::{Deliver, Message};
-use crate::server_event::ServerEvent;
 use snap_session::{Background, Completion};
 use std::rt::Clock;
 use std::snapshot::Snapshot;
@@ -20,15 +19,10 @@ pub trait Work {
     ghost serves: { Self → Type 0 };
 
     /// Works until no more connections will arrive and none is left; `false` if it failed.
-    fn work_off<X: Wait + Clock, N: Fn(&ServerEvent)>(
-        self,
-        rt: &X,
-        limit: &ConnectionLimit,
-        note: &N,
-    ) -> bool
+    fn work<X: Wait + Clock, N: Fn(&ServerEvent)>(&mut self, rt: &X, note: &N) -> bool
         requires note { N.IsAlwaysCallable note.now }
         requires needs { needs }
-        ensures { result ≡ true → serves self };
+        ensures { result ≡ true → serves self.old };
 }
 
 /// A promise that a thread returns `true` only if its worker has served.
@@ -39,29 +33,6 @@ pub struct Serving<K> {
 
 impl<K: Work> Promise<bool> for Serving<K> {
     ghost kept_by = { λ promise has_served. has_served ≡ true → K.serves promise.worker.value };
-}
-
-/// Starts a thread for a worker; `None` if the system refuses it.
-fn start<'s, E, K: Work, F: FnOnce() -> bool + Send + Drop + 's>(
-    scope: &Scope<'s, E>,
-    promise: Serving<K>,
-    work: F,
-) -> Option<PromisedHandle<bool, Serving<K>>>
-    requires runs { F.pre work }
-    requires keeps { (r : Bool) → F.post work r → r ≡ true → K.serves promise.worker.value }
-    ensures { IfSome result (λ thread. thread.promise ≡ promise) }
-{
-    match scope.spawn_with(promise, work) {
-        Ok(thread) => Some(thread),
-        Err(_) => None,
-    }
-}
-
-/// Starts a thread for `work`; `false` if the system refuses it.
-fn starts<'s, E, F: FnOnce() + Send + Drop + 's>(scope: &Scope<'s, E>, work: F) -> bool
-    requires { F.pre work }
-{
-    scope.spawn(work).is_ok()
 }
 
 /// Starts a thread for each background; `false` if the system refuses one.
@@ -84,7 +55,7 @@ where
         {
             tell_all(rt, background, senders);
         };
-        is_whole &= starts(scope, told);
+        is_whole &= scope.spawn(told).is_ok();
     }
     is_whole
 }
@@ -114,7 +85,6 @@ fn tell_all<X: Wait + Clock, B: Background + Drop, H: Deliver<Outcome = B::Outco
 pub fn start_workers<'s, E, X, K, N>(
     scope: &Scope<'s, E>,
     rt: &'s X,
-    limit: &'s ConnectionLimit,
     note: &'s N,
     workers: Vec<K>,
     threads: &mut Vec<PromisedHandle<bool, Serving<K>>>,
@@ -129,18 +99,17 @@ where
     ensures { result ≡ true → map (λ thread. thread.promise.worker.value) threads.new.items ≡ workers.items }
 {
     'workers: for worker in workers {
-        let worker_then = Snapshot::of(&worker);
+        let promise = Serving {
+            worker: Snapshot::of(&worker),
+        };
         let work = move || -> bool
             requires { IsSync X.row × IsSync N.row × IsSend K.row × N.IsAlwaysCallable note.now × K.needs }
             ensures { result ≡ true → K.serves worker }
-        { worker.work_off(rt, limit, note) };
-        let Some(thread) = start(
-            scope,
-            Serving {
-                worker: worker_then,
-            },
-            work,
-        ) else {
+        {
+            let mut worker = worker;
+            worker.work(rt, note)
+        };
+        let Ok(thread) = scope.spawn_with(promise, work) else {
             return false;
         };
         if threads.push(thread).is_err() {

@@ -1,8 +1,7 @@
 //! A listener on a Unix socket, and the socket's file.
 ghost use Rattle.std.specs.Prelude.{◌≤◌};
 
-use crate::endpoint::Peer;
-use crate::listen::{AcceptFault, Accepted, why_not};
+use crate::listen::{AcceptFault, Accepted, Peer, why_not};
 use crate::stream::Stream;
 use libc::net;
 use mio::net::UnixStream;
@@ -10,7 +9,7 @@ use std::alloc::Global;
 use std::fs::{self, File, Metadata, OpenOptions, Permissions, TryLockError};
 use std::io::{self, ErrorKind};
 use std::net::Net;
-use std::os::fd::{AsFd, AsRawFd, RawFd};
+use std::os::fd::{AsFd, AsRawFd};
 use std::os::unix::fs::{FileTypeExt, MetadataExt, PermissionsExt};
 use std::os::unix::net::{SocketAddr, UnixListener};
 use std::rt::{Clock, Files};
@@ -92,8 +91,9 @@ impl SocketFile {
 /// A listening socket at a path. Dropping it removes its file, if the path still names that file.
 pub struct UnixSocket<'a, R: Files<File = File> + Clock> {
     rt: &'a R,
-    path: String,
-    listener: UnixListener,
+    /// The path, as it was given.
+    pub(crate) path: String,
+    pub(crate) listener: UnixListener,
     file: SocketFile,
 }
 
@@ -112,9 +112,7 @@ impl<'a, R: Files<File = File> + Clock> UnixSocket<'a, R> {
     where
         R: Net,
     {
-        let Ok(own_path) = format!(in alloc; "{path}") else {
-            return Err(BindFault::NoMemory);
-        };
+        let own_path = String::from_str(alloc, path).map_err(|_| BindFault::NoMemory)?;
         let address = SocketAddr::from_pathname(path)?;
         let folder = lock_folder(rt, path)?;
         make_way(rt, path)?;
@@ -135,26 +133,11 @@ impl<'a, R: Files<File = File> + Clock> UnixSocket<'a, R> {
         if found.mode() & MODE_BITS != mode {
             give_back(rt, &folder, path, mode)?;
         }
-        if net::listen(bound.descriptor(), BACKLOG) != 0 {
+        if net::listen(bound.listener.as_raw_fd(), BACKLOG) != 0 {
             return Err(BindFault::System(last_error()));
         }
         drop(folder);
         Ok(bound)
-    }
-
-    /// The path, as it was given.
-    pub(crate) fn path(&self) -> &str {
-        self.path.as_str()
-    }
-
-    /// The listener's descriptor.
-    pub(crate) fn descriptor(&self) -> RawFd {
-        self.listener.as_raw_fd()
-    }
-
-    /// Makes the listener non-blocking: from now on [`take`](UnixSocket::take) doesn't wait.
-    pub(crate) fn stop_waiting(&self) -> io::Result<()> {
-        self.listener.set_nonblocking(true)
     }
 
     /// Accepts the next connection; `None` if the listener doesn't block and no connection waits.
@@ -174,14 +157,14 @@ impl<'a, R: Files<File = File> + Clock> UnixSocket<'a, R> {
 
     /// Closes the listener to further connections, and removes its file.
     pub(crate) fn close(&self) {
-        net::shutdown(self.descriptor(), net::SHUT_RDWR);
+        net::shutdown(self.listener.as_raw_fd(), net::SHUT_RDWR);
         self.remove();
         self.refuse_waiting();
     }
 
     /// Closes the connections that wait in its queue, as the system itself does at a TCP port.
     fn refuse_waiting(&self) {
-        if self.stop_waiting().is_err() {
+        if self.listener.set_nonblocking(true).is_err() {
             return;
         }
         for _ in 0..MAX_QUEUE {
@@ -196,9 +179,9 @@ impl<'a, R: Files<File = File> + Clock> UnixSocket<'a, R> {
     /// While its descriptor is open, no other server takes the file for one without a process, and
     /// no other file gets its inode number.
     fn remove(&self) {
-        if let Ok(found) = fs::symlink_metadata(self.rt, self.path()) {
+        if let Ok(found) = fs::symlink_metadata(self.rt, &self.path) {
             if SocketFile::of(&found) == self.file {
-                let _ = fs::remove_file(self.rt, self.path());
+                let _ = fs::remove_file(self.rt, &self.path);
             }
         }
     }

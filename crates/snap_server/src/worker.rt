@@ -1,17 +1,14 @@
 //! A worker: one thread that serves many connections.
-ghost use Rattle.std.specs.Prelude.{◌≡◌, ◌⊎◌, ◌++◌, ◌∷◌, ℕ, List, [], Some, OnOk, IfOk, IfErr, true, false};
+ghost use Rattle.std.specs.Prelude.{◌≡◌, ◌⊎◌, ◌++◌, ◌∷◌, ℕ, List, [], Some, IfOk, IfErr, true};
 ghost use Rattle.slab.specs.Slab.{get, slab_len};
 ghost use Rattle.snap_session.specs.{Asked.AllAsked, Talk.Moves};
 ghost use Rattle.snap_server.specs.Turns.{HadTurn, HadItsTurn};
 ghost use Rattle.snap_server.specs.{TurnList.KeepsOthers, declared.connection.TheConstants.PIECE};
 
-use crate::connection::{CloseReason, Closed, Connection, PIECE};
-use crate::connection_limit::ConnectionLimit;
-use crate::fault::ServerFault;
-use crate::idle_timeout::{IdleCheck, IdleTimeout};
-use crate::listen::Accepted;
+use crate::acceptor::ConnectionLimit;
+use crate::connection::{CloseReason, Closed, Connection, IdleCheck, IdleTimeout, PIECE};
+use crate::fault::{ServerEvent, ServerFault};
 use crate::mailbox::{Mailbox, MailboxSender, Message};
-use crate::server_event::ServerEvent;
 use crate::sessions::Sessions;
 use crate::threads::Work;
 use mio::{Events, Poll, Token, Waker};
@@ -34,11 +31,12 @@ const SPINS: u32 = 200;
 
 /// A thread that serves many connections, and all that it owns.
 #[derive(Drop)]
-pub struct Worker<S: Service + Drop>
+pub struct Worker<'a, S: Service + Drop>
 where
     S::Outcome: Drop,
 {
     alloc: Global,
+    limit: &'a ConnectionLimit,
     poll: Poll,
     /// The events of the last wait. Allocated at the start, so that a serving worker allocates no memory for itself.
     events: Events,
@@ -121,24 +119,23 @@ fn let_go<S: Service + Drop, N: Fn(&ServerEvent)>(
     sessions.let_go(key);
 }
 
-impl<S: Service + Drop> Worker<S>
+impl<'a, S: Service + Drop> Worker<'a, S>
 where
     S::Outcome: Drop,
 {
     /// Makes a worker without connections, for index `place`, and the sender to its mailbox. The last worker is never
-    /// busy, so that there is one for each connection that arrives.
-    /// `timeout` is the idle timeout of its connections; `None` for no limit.
+    /// busy, so that there is one for each connection that arrives. `idle` is the idle timeout of its connections;
+    /// `None` for no limit. Each that is closed leaves `limit`.
     pub fn new(
         net: &impl Net,
         alloc: Global,
         service: S,
         place: usize,
         is_last: bool,
-        timeout: Option<IdleTimeout>,
-    ) -> Result<(Worker<S>, MailboxSender<S::Outcome>), ServerFault>
+        idle: Option<Duration>,
+        limit: &'a ConnectionLimit,
+    ) -> Result<(Worker<'a, S>, MailboxSender<S::Outcome>), ServerFault>
         ensures service { IfOk result (λ made. made.0.sessions.service ≡ service) }
-        ensures none { IfOk result (λ made. slab_len made.0.sessions.connections ≡ 0) }
-        ensures open { IfOk result (λ made. made.0.is_open ≡ true) }
         ensures mailbox { IfOk result (λ made. made.0.mailbox.place ≡ place) }
         ensures sender { IfOk result (λ made. made.1.place ≡ place) }
         ensures faults { IfErr result (λ fault. (fault ≡ ServerFault.NoPoll) ⊎ (fault ≡ ServerFault.NoMemory)) }
@@ -153,13 +150,14 @@ where
         };
         let worker = Worker {
             alloc,
+            limit,
             poll,
             events,
             mailbox,
             sessions: Sessions::new(alloc, service),
             is_open: true,
             spin: Spin::new(),
-            timeout,
+            timeout: idle.map(IdleTimeout::of),
             looked: None,
         };
         Ok((worker, sender))
@@ -172,59 +170,35 @@ where
     {
         match self.mailbox.messages.try_recv(rt) {
             Ok(Message::Done { key, outcome }) => self.sessions.tell(key, outcome),
-            Ok(Message::Close) => self.close(),
+            Ok(Message::Close) => self.is_open = false,
             Ok(Message::Stop) => {
                 self.timeout = Some(IdleTimeout::last());
-                self.close();
+                self.is_open = false;
             }
             Err(_) => {}
         }
     }
 
-    /// Records that no more connections will arrive.
-    fn close(&mut self)
-        ensures sessions { self.new.sessions ≡ self.old.sessions }
-        ensures closed { self.new.is_open ≡ false }
-    {
-        self.is_open = false;
-    }
-
-    /// Takes one connection out of the mailbox, if it holds one.
-    fn take_arrival<X: Wait, N: Fn(&ServerEvent)>(
-        &mut self,
-        rt: &X,
-        limit: &ConnectionLimit,
-        note: &N,
-    )
+    /// Takes one connection out of the mailbox, if it holds one. If memory runs out, that connection is closed, and the
+    /// others aren't affected.
+    fn take_arrival<X: Wait, N: Fn(&ServerEvent)>(&mut self, rt: &X, note: &N)
         requires { N.IsAlwaysCallable note.now }
         ensures service { self.new.sessions.service ≡ self.old.sessions.service }
     {
-        if let Ok(arrival) = self.mailbox.arrivals.try_recv(rt) {
-            self.welcome(arrival, limit, note);
-        }
-    }
-
-    /// Adds a connection. If memory runs out it is closed, and the others aren't affected.
-    fn welcome<N: Fn(&ServerEvent)>(&mut self, arrival: Accepted, limit: &ConnectionLimit, note: &N)
-        requires { N.IsAlwaysCallable note.now }
-        ensures service { self.new.sessions.service ≡ self.old.sessions.service }
-    {
+        let Ok(arrival) = self.mailbox.arrivals.try_recv(rt) else {
+            return;
+        };
         let peer = arrival.peer;
         let registry = self.poll.registry();
         if !self.sessions.adopt(self.alloc, registry, arrival) {
-            limit.leave();
+            self.limit.leave();
             let how = CloseReason::Session(End::NoMemory);
             note(&ServerEvent::Ended(Closed { peer, how }));
         }
     }
 
     /// Polls the first connection of the list. If it has more to do, it is appended to the list again.
-    fn serve_next<N: Fn(&ServerEvent)>(
-        &mut self,
-        piece: &mut [u8; PIECE],
-        limit: &ConnectionLimit,
-        note: &N,
-    )
+    fn serve_next<N: Fn(&ServerEvent)>(&mut self, piece: &mut [u8; PIECE], note: &N)
         requires note { N.IsAlwaysCallable note.now }
         requires asked { AllAsked S.asked }
         ensures turn { (key : ℕ) → (rest : List ℕ) → self.old.sessions.listed.items ≡ key ∷ rest
@@ -240,18 +214,13 @@ where
             return;
         };
         if let Some(ended) = self.sessions.turn(key, piece) {
-            let_go(&mut self.sessions, key, ended, limit, note);
+            let_go(&mut self.sessions, key, ended, self.limit, note);
         }
     }
 
     /// Runs one round: polls each connection of the list once, in order. A connection that has more
     /// to do is then after all others.
-    fn serve_listed<N: Fn(&ServerEvent)>(
-        &mut self,
-        piece: &mut [u8; PIECE],
-        limit: &ConnectionLimit,
-        note: &N,
-    )
+    fn serve_listed<N: Fn(&ServerEvent)>(&mut self, piece: &mut [u8; PIECE], note: &N)
         requires note { N.IsAlwaysCallable note.now }
         requires asked { AllAsked S.asked }
         ensures turns { (key : ℕ) → (c : Connection) → (d : Connection) → get self.old.sessions.connections key ≡ Some c
@@ -259,25 +228,21 @@ where
             self.old.sessions.service self.new.sessions.service c d }
         ensures moves { Moves S.gives self.old.sessions.service self.new.sessions.service }
     {
-        'round: for _ in 0..self.sessions.turns() {
-            self.serve_next(piece, limit, note);
+        'round: for _ in 0..self.sessions.listed.len() {
+            self.serve_next(piece, note);
         }
     }
 
     /// Waits at most `most` until something is ready; without end if `None`.
-    fn wait_for(&mut self, most: Option<Duration>) -> Result<(), ServerFault>
-        ensures sessions { self.new.sessions ≡ self.old.sessions }
-        ensures fault { IfErr result (λ fault. fault ≡ ServerFault.PollFailed) }
+    fn wait_for(&mut self, most: Option<Duration>) -> io::Result<()>
+        ensures { self.new.sessions ≡ self.old.sessions }
     {
-        self.poll
-            .poll(&mut self.events, most)
-            .map_err(|_| ServerFault::PollFailed)
+        self.poll.poll(&mut self.events, most)
     }
 
     /// Polls without sleeping until something is ready or arrives in the mailbox; `false` if nothing does.
-    fn spin_until_ready(&mut self) -> Result<bool, ServerFault>
-        ensures sessions { self.new.sessions ≡ self.old.sessions }
-        ensures fault { IfErr result (λ fault. fault ≡ ServerFault.PollFailed) }
+    fn spin_until_ready(&mut self) -> io::Result<bool>
+        ensures { self.new.sessions ≡ self.old.sessions }
     {
         for _ in 0..SPINS {
             self.wait_for(Some(Duration::ZERO))?;
@@ -291,28 +256,23 @@ where
 
     /// Sleeps until something is ready, the worker is woken, or an idle check is due. It doesn't
     /// sleep if the mailbox isn't empty.
-    fn sleep(&mut self) -> Result<(), ServerFault>
-        ensures sessions { self.new.sessions ≡ self.old.sessions }
-        ensures fault { IfErr result (λ fault. fault ≡ ServerFault.PollFailed) }
+    fn sleep(&mut self) -> io::Result<()>
+        ensures { self.new.sessions ≡ self.old.sessions }
     {
         if !self.mailbox.may_sleep() {
             return self.wait_for(Some(Duration::ZERO));
         }
-        let slept = match self.timeout {
-            Some(timeout) => self.wait_for(Some(timeout.rest)),
-            None => self.wait_for(None),
-        };
+        let slept = self.wait_for(self.timeout.map(|timeout| timeout.rest));
         self.mailbox.is_awake();
         slept
     }
 
     /// Waits until something is ready, or an idle check is due. It doesn't wait while connections
     /// are listed, or the mailbox isn't empty.
-    fn wait(&mut self) -> Result<(), ServerFault>
-        ensures sessions { self.new.sessions ≡ self.old.sessions }
-        ensures fault { IfErr result (λ fault. fault ≡ ServerFault.PollFailed) }
+    fn wait(&mut self) -> io::Result<()>
+        ensures { self.new.sessions ≡ self.old.sessions }
     {
-        if self.mailbox.has_some() || self.sessions.turns() != 0 {
+        if self.mailbox.has_some() || self.sessions.listed.len() != 0 {
             return self.wait_for(Some(Duration::ZERO));
         }
         if self.spin.is_due() {
@@ -325,95 +285,30 @@ where
     }
 
     /// Checks all connections for silence, if an idle check is due.
-    fn look_around<X: Clock, N: Fn(&ServerEvent)>(
-        &mut self,
-        rt: &X,
-        limit: &ConnectionLimit,
-        note: &N,
-    )
+    fn look_around<X: Clock, N: Fn(&ServerEvent)>(&mut self, rt: &X, note: &N)
         requires { N.IsAlwaysCallable note.now }
         ensures service { self.new.sessions.service ≡ self.old.sessions.service }
     {
         let Some(timeout) = self.timeout else {
             return;
         };
-        if !self.is_due(rt, timeout.rest) {
-            return;
-        }
-        let why = IdleCheck::Silence(timeout);
-        for key in 0..self.sessions.places() {
-            look_at(&mut self.sessions, key, &why, limit, note);
-        }
-    }
-
-    /// Whether the time `rest` has passed since this last returned `true`.
-    fn is_due<X: Clock>(&mut self, rt: &X, rest: Duration) -> bool
-        ensures sessions { self.new.sessions ≡ self.old.sessions }
-    {
         let Ok(now) = Instant::now(rt) else {
-            return false;
+            return;
         };
         if let Some(looked) = self.looked {
-            if now.duration_since(looked) < rest {
-                return false;
+            if now.duration_since(looked) < timeout.rest {
+                return;
             }
         }
         self.looked = Some(now);
-        true
-    }
-
-    /// Lists the connections that are ready, and takes one message and one connection out of the mailbox.
-    fn take_events<X: Wait, N: Fn(&ServerEvent)>(
-        &mut self,
-        rt: &X,
-        limit: &ConnectionLimit,
-        note: &N,
-    )
-        requires { N.IsAlwaysCallable note.now }
-        ensures moves { Moves S.gives self.old.sessions.service self.new.sessions.service }
-    {
-        list_ready(&mut self.sessions, &self.events, limit, note);
-        self.read_messages(rt);
-        self.take_arrival(rt, limit, note);
-    }
-
-    /// Serves until no more connections will arrive and none is left. Fails only if the system's
-    /// wait for events fails, never because memory runs out.
-    pub fn work<X: Wait + Clock, N: Fn(&ServerEvent)>(
-        &mut self,
-        rt: &X,
-        limit: &ConnectionLimit,
-        note: &N,
-    ) -> Result<(), ServerFault>
-        requires note { N.IsAlwaysCallable note.now }
-        requires asked { AllAsked S.asked }
-        ensures closed { OnOk result (self.new.is_open ≡ false) }
-        ensures served { OnOk result (slab_len self.new.sessions.connections ≡ 0) }
-        ensures moves { Moves S.gives self.old.sessions.service self.new.sessions.service }
-        ensures fault { IfErr result (λ fault. fault ≡ ServerFault.PollFailed) }
-    {
-        let mut piece = [0u8; PIECE];
-        for _ in rt.forever() {
-            if self.sessions.is_empty() && !self.mailbox.has_arrivals() {
-                // All connections were sent before the mailbox was closed.
-                if !self.is_open {
-                    return Ok(());
-                }
-                self.mailbox.be_idle();
-            }
-            self.wait()?;
-            self.take_events(rt, limit, note);
-            self.look_around(rt, limit, note);
-            let is_busy = self.sessions.is_single() && self.mailbox.try_be_busy();
-            self.sessions.let_wait(is_busy);
-            self.serve_listed(&mut piece, limit, note);
-            self.mailbox.be_free(is_busy);
+        let why = IdleCheck::Silence(timeout);
+        for key in 0..self.sessions.connections.capacity() {
+            look_at(&mut self.sessions, key, &why, self.limit, note);
         }
-        unreachable!()
     }
 }
 
-impl<S: Service + Drop> Work for Worker<S>
+impl<S: Service + Drop> Work for Worker<'_, S>
 where
     S::Outcome: Drop,
 {
@@ -424,16 +319,29 @@ where
 
     ghost serves = { λ worker. (last : _) × HasServed S.gives worker last };
 
-    fn work_off<X: Wait + Clock, N: Fn(&ServerEvent)>(
-        self,
-        rt: &X,
-        limit: &ConnectionLimit,
-        note: &N,
-    ) -> bool {
-        let mut worker = self;
-        match worker.work(rt, limit, note) {
-            Ok(()) => true,
-            Err(_) => false,
+    /// It fails only if the system's wait for events fails, never because memory runs out.
+    fn work<X: Wait + Clock, N: Fn(&ServerEvent)>(&mut self, rt: &X, note: &N) -> bool {
+        let mut piece = [0u8; PIECE];
+        for _ in rt.forever() {
+            if self.sessions.connections.is_empty() && !self.mailbox.has_arrivals() {
+                // All connections were sent before the mailbox was closed.
+                if !self.is_open {
+                    return true;
+                }
+                self.mailbox.be_idle();
+            }
+            if self.wait().is_err() {
+                return false;
+            }
+            list_ready(&mut self.sessions, &self.events, self.limit, note);
+            self.read_messages(rt);
+            self.take_arrival(rt, note);
+            self.look_around(rt, note);
+            let is_busy = self.sessions.connections.len() == 1 && self.mailbox.try_be_busy();
+            self.sessions.service.let_wait(is_busy);
+            self.serve_listed(&mut piece, note);
+            self.mailbox.be_free(is_busy);
         }
+        unreachable!()
     }
 }

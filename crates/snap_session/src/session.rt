@@ -113,8 +113,7 @@ impl Session {
         self.over.is_none() && self.feed.is_between()
     }
 
-    /// Removes the first `n` bytes of the pending output, which were written. There are at least
-    /// `n`.
+    /// Removes the first `n` bytes of the pending output, which were written. There are at least `n`.
     pub fn sent(&mut self, n: usize)
         requires { n ≤ length self.old.owed }
         ensures { self.new ≡ record self.old { owed = drop n self.old.owed } }

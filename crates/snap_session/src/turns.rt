@@ -76,10 +76,9 @@ fn send_owed<W: Write>(session: &mut Session, writer: &mut W) -> SendOutcome
 /// Takes one turn of at most 16 rounds. Each round writes the pending output, answers the frames
 /// held and reads once, in this order. The turn ends earlier if one of them would block.
 ///
-/// A reader or writer reports by `WouldBlock` that it would block. Every other error ends the
-/// connection without a retry, and so does a write that takes no byte. Nothing is read while output
-/// is pending, and nothing is answered while [`MAX_OWED`](crate::MAX_OWED) bytes of it or more are.
-/// `piece` is the read buffer and isn't empty.
+/// A reader or writer reports by `WouldBlock` that it would block. Every other error ends the connection without a
+/// retry, and so does a write that takes no byte. Nothing is read while output is pending, and nothing is answered
+/// while [`MAX_OWED`](crate::MAX_OWED) bytes of it or more are. `piece` is the read buffer and isn't empty.
 pub fn proceed<R: Read, W: Write, S: Service>(
     session: &mut Session,
     reader: &mut R,

@@ -37,8 +37,7 @@ impl OldFound {
     }
 }
 
-/// Finds the newest number in the bytes of an old file that should be that of segment `index` of
-/// `count`.
+/// Finds the newest number in the bytes of an old file that should be that of segment `index` of `count`.
 ///
 /// Errors, in this order: `Unformatted` if the header's gate is closed; `WrongFile` if the header
 /// is that of another segment or breaks the format; `Damaged` if a slot is bad, none is open, or

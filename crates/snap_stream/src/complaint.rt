@@ -16,8 +16,7 @@ const IN_PLACE: usize = 4096;
 /// Writes `snapd: `, the text and a line feed on standard error: in one call, if there is memory
 /// and the writer takes it whole. Returns whether the whole line was written.
 ///
-/// Without memory, a text of more than 4,096 bytes is cut and ends in dots; then it returns
-/// `false`.
+/// Without memory, a text of more than 4,096 bytes is cut and ends in dots; then it returns `false`.
 pub fn complain<E: Write, T: Display>(alloc: Global, errors: &mut E, text: &T) -> bool
     ensures { Complains (T.output text.now) result (E.contents errors.old) (E.contents errors.new) }
 {

@@ -1,5 +1,4 @@
--- Elements of a list: of one that was written, of one that a function made, of one with a partner
--- at each place.
+-- Elements of a list: of one that was written, of one that a function made, of one with a partner at each place.
 -- what holds for the element that was written and for all others holds for each element
 use Rattle.std.proofs.Common.{rules, ◌≡◌, ◌≢◌, ℕ, zero, suc, ◌<◌, List, [], ◌∷◌, length, map, get_or, replicate, Some}
 use Rattle.std.proofs.Common.{slice_get, slice_set, refl, ap, ◌∙◌, subst, arith}

@@ -6,7 +6,7 @@ use Rattle.snap_scan.specs.Sets.{named, size, IsAt}
 use Rattle.snap_world.specs.Phases.{ScannerIs, scanner_to, WriterIs, writer_to}
 use Rattle.snap_world.specs.Machine.{State, Closed, Opened, with_scanner, WriterState, ScannerState, IsLook}
 use Rattle.snap_world.specs.Machine.{with_writer}
-use Rattle.snap_world.specs.declared.event.Reply.TheVariants.{ScanBegun, Memory, Part, Number}
+use Rattle.snap_world.specs.declared.event.Reply.TheVariants.{ScanBegun, Memory, Part, Number, NotNow}
 use Rattle.snap_world.specs.Answers.{ScanState, scan_from, IsAnswer, all_of, set_of, value_at, entry_at, part_at}
 use Rattle.snap_world.specs.inside.Steps.{phases_of_actors, asking, IsReplyOf}
 use Rattle.snap_world.specs.inside.Stands.{ActorsStand, Stand, WriterStands, ScannerStands, HasBegun}
@@ -15,7 +15,7 @@ use Rattle.snap_world.specs.inside.Gathers.{RegistersStand}
 use Rattle.snap_world.proofs.PhaseMoves.{with_actors_scanner, scanner_moved, writers_phases, writer_read, scanner_read}
 use Rattle.snap_world.proofs.PhaseMoves.{scanner_there, with_actors_writer, writer_moved, writer_kept, scanner_kept}
 use Rattle.snap_world.proofs.Looks.{undecided, decided, look_from}
-use Rattle.snap_world.proofs.Events.{up_at, came, store_begins, writer_goes, scanner_goes}
+use Rattle.snap_world.proofs.Events.{up_at, came, refuses, store_begins, writer_goes, scanner_goes}
 use Rattle.snap_world.proofs.Moves.{whole, WriterFound, ScannerFound, the_writer, the_scanner, within, answered}
 use Rattle.std.proofs.Common.{rules, ◌≡◌, ℕ, suc, ◌^◌, ◌<◌, ◌≤◌, List, [], ◌∷◌, length, map, take, Some, slice_get}
 use Rattle.std.proofs.Common.{refl, ap, sym, ◌∙◌, subst, arith, ◌⊎◌, inl, inr, ◌++◌, get_or}
@@ -30,7 +30,8 @@ use Rattle.snap_world.specs.{declared.writer.WriterActor.WriterActor, declared.r
 use Rattle.snap_world.specs.{declared.drive.Drive.Drive, declared.actors.Actors.Actors}
 use Rattle.snap_world.specs.{declared.event.Event.TheVariants.Answer, declared.event.Event.TheVariants.Look}
 use Rattle.snap_world.specs.{declared.event.Reply.Reply, inside.NodeStands.IsUp, inside.Drives.DriveStands}
-use Rattle.snap_world.specs.{inside.NodeSteps.IsActorsStep}
+use Rattle.snap_world.specs.inside.NodeSteps.{IsActorsStep, node_of}
+use Rattle.snap_world.proofs.{Sizes.all_some}
 use Rattle.std.proofs.{Math.Nat.pow-le-pow_right, Math.Logic.∥∥₁_map, lemmas.Nat.pow_pos}
 use Rattle.std.specs.{Global.Vec}
 use Rattle.snap_world.specs.declared.scanner.ScannerPhase.TheVariants as scanner
@@ -42,6 +43,18 @@ all_among n = let pos : 0 < 2 ^ n = pow_pos n in omega arith
 
 pub some_named : (n set : ℕ) → n ≤ 16 → 0 < set → set < 2 ^ n → 0 < size set
 some_named n set most pos among = search (rules, pow-le-pow_right, some)
+
+-- a scan of no segment, or of one that isn't there, doesn't begin
+pub asks_none : (w : Actors) (i : ℕ) (asked : Asked) → (0 < set_of w.segments asked
+    → set_of w.segments asked < 2 ^ w.segments → ⊥) → IsActorsStep w (asking i asked) NotNow w
+asks_none w i All none = record {
+  each = λ ds. refuses (node_of w ds) _
+      (λ x node e. none (all_some w.segments node.at.actors_stand.least) (all_among w.segments));
+}
+asks_none w i (Only set) none = record {
+  each = λ ds. refuses (node_of w ds) _ (λ x node e.
+      none e.2.0 (subst (λ m. set.bits < 2 ^ m) (writers_phases w x node.at.actors_stand) e.2.1));
+}
 
 -- the answer of a scan in other words
 IsAnswer-as : {set : ℕ} {h : List Update} {s : ScanState} {Is : ℕ → Type 0}

@@ -4,14 +4,12 @@
 ghost use Rattle.std.specs.Prelude.{◌≡◌, ◌↔◌, ◌<◌, ◌≤◌, IfOk, IsTrue};
 ghost use Rattle.snap_history.specs.{declared.limits.TheConstants.MAX_COUNT, Pairs.Pairs};
 ghost use Rattle.snap_world.specs.{Phases.WriterIs, Phases.ScannerIs, Start.start_state, Start.start_phases};
-ghost use Rattle.snap_world.specs.{declared.event.Event.Event, inside.Stands.ActorsStand, inside.Stands.Stand};
+ghost use Rattle.snap_world.specs.{inside.Stands.ActorsStand};
 ghost use Rattle.snap_world.specs.{inside.Fresh.IsHalted, inside.Fresh.IsScannerHalted, inside.Steps.phases_of_actors};
-ghost use Rattle.snap_world.specs.inside.NodeSteps.{IsActorsStep};
 
 mod scans;
 mod updates;
 
-use crate::event::{Actor, Reply};
 use crate::register::Register;
 use crate::scanner::{ScannerActor, ScannerPhase};
 use crate::start::{new_registers, new_scanners, new_writers};
@@ -36,14 +34,11 @@ impl Actors {
         ensures phases { IfOk result (λ p. phases_of_actors p ≡ start_phases segments scanners) }
         ensures stands { IfOk result (λ p. ActorsStand p (start_state segments scanners)) }
     {
-        let registers = new_registers(alloc, segments)?;
-        let writers = new_writers(alloc, segments)?;
-        let scanners = new_scanners(alloc, segments, scanners)?;
         Ok(Actors {
             segments,
-            registers,
-            writers,
-            scanners,
+            registers: new_registers(alloc, segments)?,
+            writers: new_writers(alloc, segments)?,
+            scanners: new_scanners(alloc, segments, scanners)?,
         })
     }
 
@@ -51,31 +46,18 @@ impl Actors {
     pub fn writer_is(&self, segment: usize, phase: WriterPhase) -> bool
         ensures { IsTrue result ↔ WriterIs (phases_of_actors self.now) segment phase }
     {
-        if segment >= self.writers.len() {
-            return false;
-        }
-        self.writers[segment].phase == phase
+        self.writers
+            .get(segment)
+            .is_some_and(|writer| writer.phase == phase)
     }
 
     /// Whether there is this scanner, and it is in this phase.
     pub fn scanner_is(&self, scanner: usize, phase: ScannerPhase) -> bool
         ensures { IsTrue result ↔ ScannerIs (phases_of_actors self.now) scanner phase }
     {
-        if scanner >= self.scanners.len() {
-            return false;
-        }
-        self.scanners[scanner].phase == phase
-    }
-
-    /// Takes one look.
-    pub fn look(&mut self, actor: Actor) -> Reply
-        requires stands { Stand self.old }
-        ensures step { IsActorsStep self.old (Event.Look actor) result self.new }
-    {
-        match actor {
-            Actor::Writer(segment) => self.look_writer(segment),
-            Actor::Scanner(scanner) => self.look_scanner(scanner),
-        }
+        self.scanners
+            .get(scanner)
+            .is_some_and(|it| it.phase == phase)
     }
 
     /// Makes all actors idle: a crash ends their work.
@@ -85,25 +67,11 @@ impl Actors {
         ensures writers { Pairs (λ i. IsHalted) self.old.writers.items self.new.writers.items }
         ensures scanners { Pairs (λ i. IsScannerHalted) self.old.scanners.items self.new.scanners.items }
     {
-        halt_writers(&mut self.writers);
-        halt_scanners(&mut self.scanners);
-    }
-}
-
-/// Makes all writers idle.
-fn halt_writers(writers: &mut Vec<WriterActor>)
-    ensures { Pairs (λ i. IsHalted) writers.old.items writers.new.items }
-{
-    for i in 0..writers.len() {
-        writers[i].phase = WriterPhase::Idle;
-    }
-}
-
-/// Makes all scanners idle.
-fn halt_scanners(scanners: &mut Vec<ScannerActor>)
-    ensures { Pairs (λ i. IsScannerHalted) scanners.old.items scanners.new.items }
-{
-    for i in 0..scanners.len() {
-        scanners[i].phase = ScannerPhase::Idle;
+        'writers: for i in 0..self.writers.len() {
+            self.writers[i].phase = WriterPhase::Idle;
+        }
+        'scanners: for i in 0..self.scanners.len() {
+            self.scanners[i].phase = ScannerPhase::Idle;
+        }
     }
 }

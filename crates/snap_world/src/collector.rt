@@ -40,7 +40,7 @@ impl Collector {
         self.scan.told(segment, number);
         match self.scan.next() {
             Next::Borrow(_) => copy_all(&mut self.memory, &register.view),
-            _ => self.memory[segment].copy_from(&register.value),
+            _ => self.memory[segment].set(register.value.as_slice()),
         }
         number
     }
@@ -62,7 +62,7 @@ pub fn copy_all(to: &mut Vec<Value>, from: &Vec<Value>)
     ensures { to.new.items ≡ from.now.items }
 {
     for i in 0..from.len() {
-        to[i].copy_from(&from[i]);
+        to[i].set(from[i].as_slice());
     }
 }
 
@@ -72,7 +72,7 @@ pub fn bytes_of_all(alloc: Global, values: &Vec<Value>) -> Result<Vec<Vec<u8>>, 
 {
     let mut all = Vec::new(alloc);
     for i in 0..values.len() {
-        all.push(values[i].to_vec(alloc)?)?;
+        all.push(values[i].as_slice().to_vec(alloc)?)?;
     }
     Ok(all)
 }
@@ -89,7 +89,7 @@ pub fn entries_of(
     let mut part = Vec::new(alloc);
     for segment in 0..MAX_SEGMENTS {
         if set.has(segment) {
-            let value = values[segment].to_vec(alloc)?;
+            let value = values[segment].as_slice().to_vec(alloc)?;
             part.push(PartEntry { segment, value })?;
         }
     }

@@ -19,9 +19,6 @@ use snap_persist::{Answer, NextCall, Persist, Stage, Write};
 use snap_slot::{BLOCK_LEN, FILE_LEN, Found, encode_body, encode_fresh_file, recover, slot_of};
 use std::alloc::{AllocError, Global};
 
-/// The body that is passed where none is written.
-static NO_BODY: [u8; BLOCK_LEN] = [0; BLOCK_LEN];
-
 /// The device of one segment, with the persist of the current store, or of the next one.
 #[derive(Drop)]
 pub struct Drive {
@@ -69,7 +66,10 @@ impl Drive {
     {
         let kind = match self.persist.next() {
             NextCall::Write(write) => {
-                self.put(write, number, value);
+                let mut block = [0u8; BLOCK_LEN];
+                encode_body(number, value, &mut block);
+                let place = write.place(self.persist.slot()) as usize;
+                self.image.put(place, write.bytes(&block));
                 Kind::Write(write)
             }
             NextCall::Sync => {
@@ -82,28 +82,6 @@ impl Drive {
         kind
     }
 
-    /// Makes a write of the store of this number and value.
-    fn put(&mut self, write: Write, number: u64, value: &[u8])
-        requires size { length (device_of self.old).bytes ≡ FILE_LEN }
-        requires slot { self.old.persist.slot < SLOT_COUNT }
-        requires number { IsNumber number }
-        requires fits { IsShort value.now }
-        ensures persist { self.new.persist ≡ self.old.persist }
-        ensures written { IsJustWritten (write_at self.old.persist.slot write)
-            (write_bytes (body_block number value.now) write) (device_of self.old) (device_of self.new) }
-    {
-        let place = write.place(self.persist.slot()) as usize;
-        match write {
-            Write::Body => {
-                let mut block = [0u8; BLOCK_LEN];
-                encode_body(number, value, &mut block);
-                self.image.put(place, &block);
-            }
-            // A gate's byte doesn't depend on the body.
-            Write::Close | Write::Open => self.image.put(place, write.bytes(&NO_BODY)),
-        }
-    }
-
     /// Makes the next call of the store, which fails: the touched places get the fill, and the store is over.
     pub fn fail(&mut self, fill: &Fill)
         requires size { length (device_of self.old).bytes ≡ FILE_LEN }
@@ -114,32 +92,14 @@ impl Drive {
             × IsMissed self.old.persist.slot fill.now call (device_of self.old) (device_of self.new) }
     {
         match self.persist.next() {
-            NextCall::Write(write) => self.put_failed(write, fill),
+            NextCall::Write(write) => {
+                let place = write.place(self.persist.slot()) as usize;
+                self.image.put_failed(place, write.len(), fill);
+            }
             NextCall::Sync => self.image.settle_failed(fill),
             NextCall::Done => unreachable!(),
         }
         self.persist.told(Answer::Fault);
-    }
-
-    /// Makes a write of the store that fails.
-    fn put_failed(&mut self, write: Write, fill: &Fill)
-        requires size { length (device_of self.old).bytes ≡ FILE_LEN }
-        requires slot { self.old.persist.slot < SLOT_COUNT }
-        ensures persist { self.new.persist ≡ self.old.persist }
-        ensures failed { IsWriteFailed (write_at self.old.persist.slot write) (write_len write)
-            fill.now (device_of self.old) (device_of self.new) }
-    {
-        let place = write.place(self.persist.slot());
-        self.image.put_failed(place as usize, write.len(), fill);
-    }
-}
-
-impl Drive {
-    /// Crashes the device: the open places get the fill.
-    pub fn crash(&mut self, fill: &Fill)
-        ensures { IsCrashed fill.now self.old self.new }
-    {
-        self.image.crash(fill);
     }
 
     /// Reads the file of segment `index` of `count`, and keeps what it found.
@@ -155,9 +115,7 @@ impl Drive {
             Err(_) => unreachable!(),
         }
     }
-}
 
-impl Drive {
     /// The value that the last restart found.
     pub fn found_value(&self) -> &[u8]
         requires size { length (device_of self.now).bytes ≡ FILE_LEN }
@@ -166,23 +124,6 @@ impl Drive {
         ensures length { IsShort result.now }
     {
         self.found.value(self.image.bytes())
-    }
-
-    /// The value that the last restart found, in a vector of its own.
-    fn found_bytes(&self, alloc: Global) -> Result<Vec<u8>, AllocError>
-        requires size { length (device_of self.now).bytes ≡ FILE_LEN }
-        requires limit { self.now.found.length ≤ MAX_VALUE_LEN }
-        ensures { IfOk result (λ v. v.items ≡ found_value self.now) }
-    {
-        self.found_value().to_vec(alloc)
-    }
-
-    /// Prepares the next store: of the number after the one that the last restart found.
-    pub fn resume(&mut self)
-        requires limit { IsNumber self.old.found.number }
-        ensures { IsResumed self.old self.new }
-    {
-        self.persist = Persist::begin(self.found.spare_open, slot_of(self.found.number + 1));
     }
 }
 
@@ -193,28 +134,30 @@ pub fn found_values(alloc: Global, drives: &Vec<Drive>) -> Result<Vec<Vec<u8>>, 
 {
     let mut all = Vec::new(alloc);
     for i in 0..drives.len() {
-        all.push(drives[i].found_bytes(alloc)?)?;
+        all.push(drives[i].found_value().to_vec(alloc)?)?;
     }
     Ok(all)
 }
 
-/// Prepares each device for its next store.
+/// Prepares each device for its next store: of the number after the one that the last restart found.
 pub fn resume_all(drives: &mut Vec<Drive>)
     requires { ∥ AllReadable drives.old.items ∥₁ }
     ensures { Pairs (λ i. IsResumed) drives.old.items drives.new.items }
 {
     for i in 0..drives.len() {
-        drives[i].resume();
+        let drive = &mut drives[i];
+        let next = drive.found.number + 1;
+        drive.persist = Persist::begin(drive.found.spare_open, slot_of(next));
     }
 }
 
-/// Crashes each device with its fill.
+/// Crashes each device: its open places get its fill.
 pub fn crash_all(drives: &mut Vec<Drive>, fills: &Vec<Fill>)
     requires { length fills.now.items ≡ length drives.old.items }
     ensures { AreCrashed fills.now.items drives.old.items drives.new.items }
 {
     for i in 0..drives.len() {
-        drives[i].crash(&fills[i]);
+        drives[i].image.crash(&fills[i]);
     }
 }
 

@@ -4,7 +4,7 @@ use snap_persist::Write;
 use snap_scan::SegmentSet;
 
 /// The actor that takes a look.
-#[derive(Clone, Copy, Debug, Drop, PartialEq, Eq)]
+#[derive(Clone, Copy, Drop, PartialEq, Eq)]
 pub enum Actor {
     /// The writer of this segment, in the scan that is embedded in its update.
     Writer(usize),
@@ -25,7 +25,7 @@ pub enum Kind {
 
 /// One step of a world. Segments and scanners are counted from 0. Each variant names the world's
 /// reply if the event may come; else the reply is [`Reply::NotNow`].
-#[derive(Debug, Drop, PartialEq, Eq)]
+#[derive(Drop, PartialEq, Eq)]
 pub enum Event {
     /// The writer of this segment, which is idle, begins an update by these bytes, at most 4,080:
     /// `Begun`. Its number has to be below 2^63 - 1.

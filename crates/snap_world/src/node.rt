@@ -10,18 +10,19 @@ mod stores;
 
 use crate::actors::Actors;
 use crate::drive::{Drive, new_drives};
-use crate::event::{Event, Reply};
+use crate::event::{Actor, Event, Reply};
+use crate::scanner::Asked;
 use std::alloc::{AllocError, Global};
 
 /// A device call by which a restart opens a segment: first the sync, then the read of its file.
-#[derive(Clone, Copy, Debug, Drop, PartialEq, Eq)]
+#[derive(Clone, Copy, Drop, PartialEq, Eq)]
 pub enum OpeningCall {
     Sync,
     Read,
 }
 
 /// The state of a node between a crash and the end of its restart.
-#[derive(Clone, Copy, Debug, Drop, PartialEq, Eq)]
+#[derive(Clone, Copy, Drop, PartialEq, Eq)]
 pub enum NodePhase {
     /// Its writers and scanners can act.
     Up,
@@ -51,12 +52,10 @@ impl WorldNode {
         ensures devices { IfOk result (λ w. AreFormatted segments (devices_of_node w)) }
         ensures stands { IfOk result (λ w. NodeStands w (start_state segments scanners)) }
     {
-        let actors = Actors::new(alloc, segments, scanners)?;
-        let drives = new_drives(alloc, segments)?;
         Ok(WorldNode {
             phase: NodePhase::Up,
-            actors,
-            drives,
+            actors: Actors::new(alloc, segments, scanners)?,
+            drives: new_drives(alloc, segments)?,
         })
     }
 
@@ -77,11 +76,12 @@ impl WorldNode {
             (Event::RestartFail(fill), _) => Ok(self.restart_fail(fill)),
             (Event::Serve, _) => self.serve(alloc),
             (Event::Begin(segment, value), NodePhase::Up) => Ok(self.actors.begin(*segment, value)),
-            (Event::Look(actor), NodePhase::Up) => Ok(self.actors.look(*actor)),
+            (Event::Look(Actor::Writer(at)), NodePhase::Up) => Ok(self.actors.look_writer(*at)),
+            (Event::Look(Actor::Scanner(at)), NodePhase::Up) => Ok(self.actors.look_scanner(*at)),
             (Event::Show(segment), NodePhase::Up) => Ok(self.actors.show(*segment)),
             (Event::Acknowledge(segment), NodePhase::Up) => Ok(self.actors.acknowledge(*segment)),
-            (Event::Scan(scanner), NodePhase::Up) => Ok(self.actors.scan(*scanner)),
-            (Event::Pick(scanner, set), NodePhase::Up) => Ok(self.actors.pick(*scanner, *set)),
+            (Event::Scan(scanner), NodePhase::Up) => Ok(self.actors.ask(*scanner, Asked::All)),
+            (Event::Pick(at, set), NodePhase::Up) => Ok(self.actors.ask(*at, Asked::Only(*set))),
             (Event::Answer(scanner), NodePhase::Up) => self.actors.answer(alloc, *scanner),
             _ => Ok(Reply::NotNow),
         }

@@ -10,7 +10,7 @@ use snap_scan::SegmentSet;
 use std::alloc::{AllocError, Global};
 
 /// The state of a scanner's scan.
-#[derive(Clone, Copy, Debug, Drop, PartialEq, Eq)]
+#[derive(Clone, Copy, Drop, PartialEq, Eq)]
 pub enum ScannerPhase {
     /// It has no scan.
     Idle,
@@ -21,7 +21,7 @@ pub enum ScannerPhase {
 }
 
 /// The segments that a scanner was asked for.
-#[derive(Clone, Copy, Debug, Drop, PartialEq, Eq)]
+#[derive(Clone, Copy, Drop, PartialEq, Eq)]
 pub enum Asked {
     /// All segments.
     All,

@@ -40,11 +40,10 @@ pub fn new_registers(alloc: Global, segments: usize) -> Result<Vec<Register>, Al
 {
     let mut registers = Vec::new(alloc);
     for i in 0..segments {
-        let view = blank(alloc, segments)?;
         registers.push(Register {
             number: 0,
             value: Value::new(),
-            view,
+            view: blank(alloc, segments)?,
         })?;
     }
     Ok(registers)
@@ -58,11 +57,10 @@ pub fn new_writers(alloc: Global, segments: usize) -> Result<Vec<WriterActor>, A
 {
     let mut writers = Vec::new(alloc);
     for i in 0..segments {
-        let collector = new_collector(alloc, segments)?;
         writers.push(WriterActor {
             phase: WriterPhase::Idle,
             value: Value::new(),
-            collector,
+            collector: new_collector(alloc, segments)?,
         })?;
     }
     Ok(writers)
@@ -80,11 +78,10 @@ pub fn new_scanners(
 {
     let mut scanners = Vec::new(alloc);
     for i in 0..count {
-        let collector = new_collector(alloc, segments)?;
         scanners.push(ScannerActor {
             phase: ScannerPhase::Idle,
             asked: Asked::All,
-            collector,
+            collector: new_collector(alloc, segments)?,
         })?;
     }
     Ok(scanners)

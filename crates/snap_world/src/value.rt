@@ -1,9 +1,8 @@
 //! A value in a buffer of fixed size, so that copying one takes no memory.
-ghost use Rattle.std.specs.Prelude.{◌≡◌, [], IfOk};
+ghost use Rattle.std.specs.Prelude.{◌≡◌, []};
 ghost use Rattle.snap_history.specs.Limits.{IsShort};
 
 use snap_history::MAX_VALUE_LEN;
-use std::alloc::{AllocError, Global};
 use std::marker::Model;
 
 /// A value: a list of at most 4,080 bytes.
@@ -44,24 +43,11 @@ impl Value {
         self.len = bytes.len();
     }
 
-    /// Sets the value to the other one.
-    pub fn copy_from(&mut self, other: &Value)
-        ensures { self.new ≡ other.now }
-    {
-        self.set(&other.bytes[..other.len]);
-    }
-
     /// The bytes.
     pub fn as_slice(&self) -> &[u8]
-        ensures { result.now ≡ self.now }
+        ensures bytes { result.now ≡ self.now }
+        ensures short { IsShort result.now }
     {
         &self.bytes[..self.len]
-    }
-
-    /// The bytes in a vector of their own.
-    pub fn to_vec(&self, alloc: Global) -> Result<Vec<u8>, AllocError>
-        ensures { IfOk result (λ v. v.items ≡ self.now) }
-    {
-        self.bytes[..self.len].to_vec(alloc)
     }
 }

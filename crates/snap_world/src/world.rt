@@ -34,10 +34,9 @@ impl World {
     ghost use Rattle.snap_world.specs.Crashes.{AnyCrash, CrashInsideAnyWrite, AnyFault};
     ghost use Rattle.snap_world.specs.Surface.{StandsFor, IsRun, segments_of, phases_of, devices_of};
 
-    /// A world of this many segments and scanners, 1 to 16 each: every segment has number 0 and the
-    /// empty value, its device is formatted, and all actors are idle. The world keeps the
-    /// allocator, and takes the memory of all its calls here, except for the replies of `Answer`,
-    /// `Serve` and `run`.
+    /// A world of this many segments and scanners, 1 to 16 each: every segment has number 0 and the empty value, its
+    /// device is formatted, and all actors are idle. The world keeps the allocator, and takes the memory of all its
+    /// calls here, except for the replies of `Answer`, `Serve` and `run`.
     ///
     /// If memory runs out the result is the `AllocError`, and nothing is kept.
     pub fn new(alloc: Global, segments: usize, scanners: usize) -> Result<World, AllocError>

@@ -3,7 +3,7 @@ use crate::collector::Collector;
 use crate::value::Value;
 
 /// The state of a writer's update.
-#[derive(Clone, Copy, Debug, Drop, PartialEq, Eq)]
+#[derive(Clone, Copy, Drop, PartialEq, Eq)]
 pub enum WriterPhase {
     /// It has no update.
     Idle,

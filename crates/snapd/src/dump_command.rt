@@ -1,5 +1,5 @@
 //! The command `dump`: prints all values of a server or a folder as one document.
-ghost use Rattle.std.specs.Prelude.{◌<◌, ◌≤◌, length};
+ghost use Rattle.std.specs.Prelude.{◌≡◌, ◌<◌, ◌≤◌, length};
 ghost use Rattle.snap_order.specs.{Limits.MAX_COUNT, Order.IsDumpable};
 
 use crate::call_command::fetch;
@@ -42,17 +42,24 @@ pub fn dump(rt: &HostRuntime, order: &DumpOptions<'_>) -> Result<Status, Status>
 fn folder_values(rt: &HostRuntime, folder: &str) -> Result<Vec<SegmentValue>, Status> {
     let files = segment_files(rt, folder)?;
     match files_in_order(rt, folder, &files) {
-        Ok(files) => read_files(rt, &files),
+        Ok(files) => {
+            let told = or_stop(rt, first_faults(rt.alloc(), files.len()))?;
+            read_files(rt, &files, &told)
+        }
         Err(FolderReadFault::Path { file, fault }) => Err(fail_at_locked(rt, file, &fault)),
         Err(trouble) => Err(fail_in(rt, &trouble)),
     }
 }
 
-/// The values of these files, in order of segment.
-fn read_files(rt: &HostRuntime, files: &[&str]) -> Result<Vec<SegmentValue>, Status>
-    requires { length files.now ≤ MAX_COUNT }
+/// The values of these files, in order of segment. `told` gets why a call on one fails.
+fn read_files<'f>(
+    rt: &'f HostRuntime,
+    files: &[&'f str],
+    told: &'f Vec<FirstFault>,
+) -> Result<Vec<SegmentValue>, Status>
+    requires files { length files.now ≤ MAX_COUNT }
+    requires told { length told.now.items ≡ length files.now }
 {
-    let told = or_stop(rt, first_faults(rt.alloc(), files.len()))?;
     let count = files.len() as u8;
     let (mut locked, mut values) = (Vec::new(rt.alloc()), Vec::new(rt.alloc()));
     for index in 0..count {

@@ -27,11 +27,11 @@ use serve_command::{say_right_order, serve};
 use snap_args::{WordFault, lack_of, order};
 use snap_disk::Disk;
 use snap_file_commands::system::{
-    FirstFault, examine, fail_in, files_in_order, init, load, say, say_of, segment_files, stop,
-    stop_without_memory, take_file, take_pair, too_short_files, writes,
+    FirstFault, examine, fail, fail_in, fail_of, files_in_order, init, load, say, segment_files,
+    stop, stop_without_memory, take_file, take_pair, too_short_files, writes,
 };
-use snap_file_commands::{Causes, CommandFault, act, act_pair, finish};
-use snap_order::{DumpOptions, DumpSource, FileOrder, MigrateOptions, Order, ServeOptions, Status};
+use snap_file_commands::{CommandFault, act, act_pair, finish};
+use snap_order::{DumpSource, FileOrder, MigrateOptions, Order, ServeOptions, Status};
 use snap_script::play;
 use snap_serve::Runtime;
 use snap_slot::FILE_LEN;
@@ -53,10 +53,7 @@ fn main(rt: HostRuntime) -> ExitCode {
 /// Does what these arguments order. `threads` is the runtime again, as for [`do_order`].
 fn obey<X: Runtime>(threads: &X, rt: &HostRuntime, words: &[String]) -> Status {
     match order(rt.alloc(), words) {
-        Ok(order) => match do_order(threads, rt, order) {
-            Ok(status) => status,
-            Err(status) => status,
-        },
+        Ok(order) => do_order(threads, rt, order).unwrap_or_else(|status| status),
         Err(fault) => explain(rt, &fault),
     }
 }
@@ -75,9 +72,7 @@ fn words_of(rt: &HostRuntime) -> Result<Vec<String>, WordFault> {
 fn do_order<X: Runtime>(threads: &X, rt: &HostRuntime, order: Order<'_>) -> Result<Status, Status>
     requires { IsWithinLimits order }
 {
-    if !may_run(rt, &order) {
-        return Err(Status::Failed);
-    }
+    check_system(rt, &order)?;
     match order {
         Order::File(order) => run(rt, &order),
         Order::Migrate(order) => run_migration(rt, &order),
@@ -94,15 +89,23 @@ fn do_order<X: Runtime>(threads: &X, rt: &HostRuntime, order: Order<'_>) -> Resu
 }
 
 /// Checks what a command needs of the system before it opens a file. Prints a message if something is missing.
-fn may_run(rt: &HostRuntime, order: &Order<'_>) -> bool {
+fn check_system(rt: &HostRuntime, order: &Order<'_>) -> Result<(), Status> {
     match order {
-        Order::Script => true,
-        Order::Serve(serving) => may_serve(rt, serving),
-        Order::ServeFolder { serving, .. } => may_serve(rt, serving),
-        Order::Call(order) => are_streams_open(rt) && is_address(rt, order.address),
-        Order::Watch(order) => are_streams_open(rt) && is_address(rt, order.address),
-        Order::Dump(order) => are_streams_open(rt) && may_dump(rt, order),
-        _ => are_streams_open(rt) && (!is_writing(order) || may_write(rt)),
+        Order::Script => return Ok(()),
+        Order::Serve(serving) | Order::ServeFolder { serving, .. } => {
+            return check_serving(rt, serving);
+        }
+        _ => check_streams(rt)?,
+    }
+    match order {
+        Order::Call(order) => check_address(rt, order.address),
+        Order::Watch(order) => check_address(rt, order.address),
+        Order::Dump(order) => match order.holder {
+            DumpSource::Server { address } => check_address(rt, address),
+            DumpSource::Folder { .. } => Ok(()),
+        },
+        _ if is_writing(order) => check_limit(rt),
+        _ => Ok(()),
     }
 }
 
@@ -112,14 +115,6 @@ fn is_writing(order: &Order<'_>) -> bool {
         Order::File(order) => writes(order),
         Order::Doctor(order) => order.is_measured,
         _ => true,
-    }
-}
-
-/// Checks the address of the server that is dumped, if one is.
-fn may_dump(rt: &HostRuntime, order: &DumpOptions<'_>) -> bool {
-    match order.holder {
-        DumpSource::Server { address } => is_address(rt, address),
-        DumpSource::Folder { .. } => true,
     }
 }
 
@@ -143,7 +138,7 @@ fn explain(rt: &HostRuntime, fault: &WordFault) -> Status {
 }
 
 /// Runs a command on one file.
-fn run(rt: &HostRuntime, order: &FileOrder<'_>) -> Result<Status, Status>
+fn run<'a>(rt: &'a HostRuntime, order: &FileOrder<'a>) -> Result<Status, Status>
     requires { IsFileWithinLimits order.now }
 {
     let told = FirstFault::new();
@@ -162,17 +157,12 @@ fn run_migration<'a>(rt: &'a HostRuntime, order: &MigrateOptions<'a>) -> Result<
     let (old_path, new_path) = (order.old, order.new);
     let (old, new) = take_pair(rt, order, old_path, new_path, &told_old, &told_new)?;
     let (_old, _new, end) = act_pair(rt.alloc(), order, old, new, &mut rt.stdout());
-    let causes = Causes {
-        old: &told_old,
-        new: &told_new,
-    };
-    match end {
-        Ok(status) => Ok(status),
-        Err(failure) => {
-            let ended = failure.report(rt.alloc(), order, &causes, &mut rt.stderr());
-            Err(ended.status)
-        }
-    }
+    end.map_err(|failure| {
+        let causes = (&told_old, &told_new);
+        failure
+            .report(rt.alloc(), order, causes, &mut rt.stderr())
+            .status
+    })
 }
 
 /// Serves the order's files. `threads` is the runtime again, for what may block, start threads and open sockets.
@@ -214,77 +204,65 @@ fn with_files<'a>(serving: ServeOptions<'a>, files: Vec<&'a str>) -> ServeOption
     ensures servable { IsServable result }
     ensures same { result ≡ record serving.entry { files = files.entry } }
 {
-    let mut order = serving;
-    order.files = files;
-    order
+    ServeOptions { files, ..serving }
 }
 
 /// Checks what a server needs of the system before it opens a file. Prints a message if something is missing.
-fn may_serve(rt: &HostRuntime, order: &ServeOptions<'_>) -> bool {
-    let is_http_address = match order.http {
-        Some(address) => is_address(rt, address),
-        None => true,
-    };
-    are_streams_open(rt)
-        && order.addresses.iter().all(|it| is_address(rt, *it))
-        && is_http_address
-        && may_write(rt)
+fn check_serving(rt: &HostRuntime, order: &ServeOptions<'_>) -> Result<(), Status> {
+    let http = order
+        .http
+        .map_or(Ok(()), |address| check_address(rt, address));
+    check_streams(rt)?;
+    'addresses: for address in &order.addresses {
+        check_address(rt, *address)?;
+    }
+    http?;
+    check_limit(rt)
 }
 
-/// Whether standard input, output and error are all open. Prints which one isn't.
+/// Checks that standard input, output and error are all open. Prints which one isn't.
 ///
 /// An opened file gets the lowest free descriptor. If one of the three were closed, a segment file
 /// would get its number, and the program's output would be written into the segment.
-fn are_streams_open(rt: &HostRuntime) -> bool {
-    is_open(rt, "standard input", &rt.stdin())
-        && is_open(rt, "standard output", &rt.stdout())
-        && is_open(rt, "standard error", &rt.stderr())
+fn check_streams(rt: &HostRuntime) -> Result<(), Status> {
+    check_open(rt, "standard input", &rt.stdin())?;
+    check_open(rt, "standard output", &rt.stdout())?;
+    check_open(rt, "standard error", &rt.stderr())
 }
 
-/// Whether the stream is open: a closed descriptor can't be duplicated. Prints the reason if it isn't.
-fn is_open<F: AsFd>(rt: &HostRuntime, name: &str, stream: &F) -> bool {
+/// Checks that the stream is open: a closed descriptor can't be duplicated. Prints the reason if it isn't.
+fn check_open<F: AsFd>(rt: &HostRuntime, name: &str, stream: &F) -> Result<(), Status> {
     match stream.as_fd().try_clone_to_owned() {
-        Ok(_copy) => true,
-        Err(reason) => {
-            say_of(rt, name, &reason);
-            false
-        }
+        Ok(_copy) => Ok(()),
+        Err(reason) => Err(fail_of(rt, name, &reason)),
     }
 }
 
-/// Whether the process may write files as long as a segment's. Prints the limit if it may not.
-fn may_write(rt: &HostRuntime) -> bool {
-    match too_short_files() {
-        None => true,
-        Some(most) => {
-            let line = format_args!(
-                "files may have {most} bytes here, and a segment file has {FILE_LEN}: raise the limit (ulimit -f)"
-            );
-            say(rt, &line);
-            false
-        }
-    }
+/// Checks that the process may write files as long as a segment's. Prints the limit if it may not.
+fn check_limit(rt: &HostRuntime) -> Result<(), Status> {
+    let Some(most) = too_short_files() else {
+        return Ok(());
+    };
+    let line = format_args!(
+        "files may have {most} bytes here, and a segment file has {FILE_LEN}: raise the limit (ulimit -f)"
+    );
+    Err(fail(rt, &line))
 }
 
-/// Whether the address has a host and a port, or a path. Prints what is missing.
-fn is_address(rt: &HostRuntime, address: &str) -> bool {
+/// Checks that the address has a host and a port, or a path. Prints what is missing.
+fn check_address(rt: &HostRuntime, address: &str) -> Result<(), Status> {
     match lack_of(address) {
-        None => true,
-        Some(lack) => {
-            say_of(rt, address, &lack);
-            false
-        }
+        None => Ok(()),
+        Some(lack) => Err(fail_of(rt, address, &lack)),
     }
 }
 
 /// Runs the script on standard input, which need not end. `waiting` is the runtime again, for what
 /// may block. The output is buffered, so that each line is one write, and flushed before each read.
 fn play_script<X: Wait>(waiting: &X, rt: &HostRuntime) -> Status {
-    match BufWriter::new(rt.alloc(), rt.stdout()) {
-        Ok(mut writer) => {
-            let (mut reader, mut errors) = (rt.stdin(), rt.stderr());
-            play(waiting, rt.alloc(), &mut reader, &mut writer, &mut errors).status
-        }
-        Err(_) => stop_without_memory(rt),
-    }
+    let Ok(mut writer) = BufWriter::new(rt.alloc(), rt.stdout()) else {
+        return stop_without_memory(rt);
+    };
+    let (mut reader, mut errors) = (rt.stdin(), rt.stderr());
+    play(waiting, rt.alloc(), &mut reader, &mut writer, &mut errors).status
 }

@@ -86,18 +86,32 @@ fn filter_of(level: snap_order::Level) -> LevelFilter {
 /// Opens the order's files, and serves them. A thread of its own writes the log to standard error,
 /// and another one answers HTTP if the order has an address for it. `folder` is that of the files,
 /// if the arguments name one. Prints the reason if it can't start.
-pub fn serve<X: Runtime>(
+pub fn serve<'x, X: Runtime>(
     rt: &X,
-    system: &HostRuntime,
-    order: &ServeOptions<'_>,
-    folder: Option<&str>,
+    system: &'x HostRuntime,
+    order: &'x ServeOptions<'x>,
+    folder: Option<&'x str>,
 ) -> Result<Status, Status>
     requires { IsServable order.now }
 {
     let place = open_http(system, order)?;
     let told = or_stop(system, first_faults(system.alloc(), order.files.len()))?;
-    let devices = take_files(system, &order.files, &told)?;
-    match serve_counted(rt, system, order, folder, devices, &told, place) {
+    serve_files(rt, system, order, folder, &told, place)
+}
+
+/// Opens the order's files, and serves them. `told` gets why a call on one fails.
+fn serve_files<'x, X: Runtime>(
+    rt: &X,
+    system: &'x HostRuntime,
+    order: &'x ServeOptions<'x>,
+    folder: Option<&'x str>,
+    told: &'x Vec<FirstFault>,
+    place: Option<HttpPlace>,
+) -> Result<Status, Status>
+    requires { IsServable order.now }
+{
+    let devices = take_files(system, &order.files, told)?;
+    match serve_counted(rt, system, order, folder, devices, told, place) {
         Ok(ended) => Ok(ended.status),
         Err(ServerFault::NoMemory) => Err(stop_without_memory(system)),
         Err(fault) => Err(fail(system, &fault)),

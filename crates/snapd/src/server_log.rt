@@ -78,7 +78,7 @@ impl<X: Wait + Clock> UpdateObserver for ServerLog<'_, X> {
         else {
             return;
         };
-        match first.place().get() {
+        match first.0.get() {
             Some(fault) => self.log_unstored(file, segment, number, fault),
             None => self.log_unstored(file, segment, number, &"a call of its device failed"),
         }

@@ -8,7 +8,7 @@ use libc::net::{POLLERR, POLLHUP, poll};
 use libc::types::pollfd;
 use snap_client::{Client, ClientFault};
 use snap_client_commands::watch::{
-    Form, Panel, Row, Track, WatchFault, changes, drawing, followed, look, set_of,
+    Panel, Row, Track, WatchFault, changes, drawing, followed, look, set_of,
 };
 use snap_file_commands::CommandFault;
 use snap_file_commands::system::{fail_of, or_stop, refuse, say_of, stop, stop_without_memory};
@@ -140,7 +140,8 @@ fn rows_by(
 #[derive(Drop)]
 struct Screen<'a> {
     address: &'a str,
-    form: Form,
+    /// Whether changes are printed as JSON objects.
+    is_json: bool,
     /// Whether the rows are drawn as a board in a terminal, anew at each poll.
     is_board: bool,
     /// Whether the board has colours.
@@ -172,7 +173,7 @@ impl<'a> Screen<'a> {
     fn new(rt: &HostRuntime, address: &'a str, is_json: bool) -> Screen<'a> {
         Screen {
             address,
-            form: if is_json { Form::Objects } else { Form::Lines },
+            is_json,
             is_board: !is_json && rt.stdout().is_terminal(),
             is_coloured: are_colours_wanted(rt),
             shown: Vec::new(rt.alloc()),
@@ -194,7 +195,7 @@ impl<'a> Screen<'a> {
             self.shown = rows;
             return self.draw(rt, None);
         }
-        let text = or_stop(rt, changes(rt.alloc(), self.form, &self.shown, &rows))?;
+        let text = or_stop(rt, changes(rt.alloc(), self.is_json, &self.shown, &rows))?;
         self.shown = rows;
         print(rt, text.as_slice())
     }
@@ -251,11 +252,10 @@ fn are_colours_wanted(rt: &HostRuntime) -> bool {
 
 /// Prints this on standard output. An error is the exit status.
 fn print(rt: &HostRuntime, text: &[u8]) -> Result<(), Status> {
-    match write_whole(&mut rt.stdout(), text) {
-        Ok(()) => Ok(()),
-        Err(error) if error.kind() == ErrorKind::BrokenPipe => Err(Status::Failed),
-        Err(error) => Err(stop(rt, &CommandFault::Output(error))),
-    }
+    write_whole(&mut rt.stdout(), text).map_err(|error| match error.kind() {
+        ErrorKind::BrokenPipe => Status::Failed,
+        _ => stop(rt, &CommandFault::Output(error)),
+    })
 }
 
 /// Prints why there was no first answer, with advice.

@@ -2,9 +2,8 @@
 //!
 //!     try_bench memory look|scan|update SEGMENTS WRITERS ROUNDS LENGTH
 //!
-//! does ROUNDS looks at the first register, scans, or updates of the last segment, over values of
-//! LENGTH bytes, while WRITERS of the other segments make updates in threads of their own, and
-//! prints how many rounds it did.
+//! does ROUNDS looks at the first register, scans, or updates of the last segment, over values of LENGTH bytes, while
+//! WRITERS of the other segments make updates in threads of their own, and prints how many rounds it did.
 //!
 //!     try_bench memory fill SEGMENTS 0 0 LENGTH
 //!

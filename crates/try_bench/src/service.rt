@@ -2,9 +2,8 @@
 //!
 //!     try_bench service update|scan|status SEGMENTS ROUNDS LENGTH
 //!
-//! updates each of SEGMENTS to number 1 with LENGTH bytes, makes the same request ROUNDS times, and
-//! prints its last reply. The update is that of the first segment to number 2: the first round
-//! stores it, and the others repeat it.
+//! updates each of SEGMENTS to number 1 with LENGTH bytes, makes the same request ROUNDS times, and prints its last
+//! reply. The update is that of the first segment to number 2: the first round stores it, and the others repeat it.
 //!
 //!     try_bench service copy SEGMENTS ROUNDS LENGTH
 //!

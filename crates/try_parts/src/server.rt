@@ -2,10 +2,9 @@
 //!
 //!     try_parts server WORKERS MICROS [CONNECTIONS]
 //!
-//! Each store rests MICROS microseconds over an update. On standard error it prints
-//! `listening ADDRESS`. Once all connections have ended it prints how each of them did, in the
-//! order in which they ended, then how many requests entered the gate and left it, and what `run`
-//! answered.
+//! Each store rests MICROS microseconds over an update. On standard error it prints `listening ADDRESS`. Once all
+//! connections have ended it prints how each of them did, in the order in which they ended, then how many requests
+//! entered the gate and left it, and what `run` answered.
 mod desk;
 mod tally;
 

@@ -3,9 +3,8 @@
 //!
 //!     try_parts segment-sweep
 //!
-//! does so with a format, with stores and with a migration. What it must print is worked out from
-//! the disk model and the file's format by tests/oracle/segment_sweep.py, which knows nothing of
-//! this code.
+//! does so with a format, with stores and with a migration. What it must print is worked out from the disk model and
+//! the file's format by tests/oracle/segment_sweep.py, which knows nothing of this code.
 //!
 //!     try_parts restart-sweep
 //!
@@ -65,8 +64,7 @@ fn sweep(rt: &HostRuntime, subject: Subject) -> io::Result<()> {
     Ok(())
 }
 
-/// One line: how the run was stopped, what it answered, and what is found after a crash with each
-/// garbage.
+/// One line: how the run was stopped, what it answered, and what is found after a crash with each garbage.
 fn row(rt: &HostRuntime, subject: Subject, stop: Stop) -> io::Result<()> {
     print_stop(rt, stop, subject.first_call())?;
     let (answer, found) = subject.cell(rt.alloc(), stop, Garbage::Keep)?;

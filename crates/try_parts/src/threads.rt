@@ -3,9 +3,8 @@
 //! no scan had shown more than the crash left. Before each crash all writers and scanners are put back into their
 //! store, and it is closed.
 //!
-//! Which calls fail, and what a fault and a crash leave, is drawn from a fixed seed, so the numbers
-//! are the same in every run, whatever the threads do. tests/oracle/restart_threads.py works them
-//! out from the disk model.
+//! Which calls fail, and what a fault and a crash leave, is drawn from a fixed seed, so the numbers are the same in
+//! every run, whatever the threads do. tests/oracle/restart_threads.py works them out from the disk model.
 mod draw;
 mod generation;
 mod worker;

@@ -39,8 +39,7 @@ impl Watcher {
     }
 }
 
-/// Waits for the others, but for no more than `turns` of yielding: if no thread can be made
-/// they come after this one.
+/// Waits for the others, but for no more than `turns` of yielding: if no thread can be made they come after this one.
 pub fn wait_for_all(arrived: &AtomicU64, workers: u64, turns: u64) {
     arrived.fetch_add(1, Ordering::SeqCst);
     for _ in 0..turns {

@@ -110,7 +110,9 @@ impl HttpConnection {
         ensures { Answered S.answers service.old service.new }
     {
         if self.leaves {
-            return self.drain();
+            // The bytes after the last response are dropped, until the peer has closed too.
+            let count = self.stream.read(&mut [0u8; READ_SIZE])?;
+            return Ok(count > 0 && self.may_drain(count));
         }
         self.connection.advance(service);
         if self.connection.wants_write() {
@@ -125,12 +127,6 @@ impl HttpConnection {
         }
         self.connection.read_from(&mut self.stream)?;
         Ok(true)
-    }
-
-    /// Reads once after the last response, and drops the bytes, until the peer has closed too.
-    fn drain(&mut self) -> io::Result<bool> {
-        let count = self.stream.read(&mut [0u8; READ_SIZE])?;
-        Ok(count > 0 && self.may_drain(count))
     }
 
     /// Counts bytes that were dropped. Returns whether more may be.

@@ -37,10 +37,15 @@ impl Connections {
         }
     }
 
-    /// Adds a connection. If memory for it runs out, or the system can't register it, it is closed;
-    /// the others aren't affected.
+    /// Adds a connection. If the table is full, it replaces the one whose last progress was longest ago. If memory for
+    /// it runs out, or the system can't register it, it is closed; the others aren't affected.
     pub(crate) fn welcome(&mut self, registry: &Registry, stream: TcpStream, now: Instant) {
-        self.make_room();
+        if self.connections.len() >= MAX_CONNECTIONS {
+            let slowest = self.connections.iter().min_by_key(|entry| entry.1.moved);
+            if let Some((key, _)) = slowest {
+                self.connections.try_remove(key);
+            }
+        }
         if self.connections.len() >= MAX_CONNECTIONS || self.connections.reserve(1).is_err() {
             return;
         }
@@ -48,19 +53,6 @@ impl Connections {
         let key = self.connections.vacant_key();
         if connection.register(registry, Token(key)).is_ok() {
             self.connections.insert_reserved(connection);
-        }
-    }
-
-    /// If the table is full, closes the connection whose last progress was longest ago.
-    fn make_room(&mut self)
-        ensures { slab_len self.new.connections ≤ slab_len self.old.connections }
-    {
-        if self.connections.len() < MAX_CONNECTIONS {
-            return;
-        }
-        let slowest = self.connections.iter().min_by_key(|entry| entry.1.moved);
-        if let Some((key, _)) = slowest {
-            self.connections.try_remove(key);
         }
     }
 
@@ -83,15 +75,11 @@ impl Connections {
     }
 
     /// Closes the connections without progress for [`MAX_REST`] seconds.
-    pub(crate) fn let_slow_go(&mut self, now: Instant)
-        ensures { slab_len self.new.connections ≤ slab_len self.old.connections }
-    {
+    pub(crate) fn let_slow_go(&mut self, now: Instant) {
+        let most = Duration::from_secs(MAX_REST);
         for key in 0..self.connections.capacity() {
-            let is_slow = match self.connections.get(key) {
-                Some(it) => now.duration_since(it.moved) >= Duration::from_secs(MAX_REST),
-                None => false,
-            };
-            if is_slow {
+            let moved = self.connections.get(key).map(|it| it.moved);
+            if moved.is_some_and(|moved| now.duration_since(moved) >= most) {
                 self.connections.try_remove(key);
             }
         }

@@ -10,7 +10,7 @@ use std::alloc::{AllocError, Global};
 use std::io::{Read, Write};
 
 /// One segment on a board.
-#[derive(Debug, PartialEq, Eq, Drop)]
+#[derive(PartialEq, Eq, Drop)]
 pub struct Row {
     /// The segment's index.
     pub segment: usize,
@@ -40,7 +40,7 @@ pub fn set_of(segments: &[u8]) -> Option<SegmentSet>
 }
 
 /// The reason why a poll returned no rows.
-#[derive(Clone, Copy, Debug, PartialEq, Eq)]
+#[derive(Clone, Copy, PartialEq, Eq)]
 pub enum WatchFault {
     /// The server refused a request.
     Refused { why: Refusal, detail: u64 },

@@ -7,20 +7,12 @@ use snap_json::put_bytes;
 use snap_order::OutputFormat;
 use std::alloc::{AllocError, Global};
 
-/// The format in which a board's rows are printed, one a line.
-#[derive(Clone, Copy, Debug, PartialEq, Eq)]
-pub enum Form {
-    /// As `segment I number K ..`, with each value as quoted text if it is printable.
-    Lines,
-    /// As one JSON object each.
-    Objects,
-}
-
-/// The text of the changes between the rows that were shown and these: a line for each row whose
-/// segment wasn't shown with that number and that fence, in order.
+/// The text of the changes between the rows that were shown and these: a line for each row whose segment wasn't shown
+/// with that number and that fence, in order. It is a JSON object, or `segment I number K ..`, with the value as quoted
+/// text if it is printable.
 pub fn changes(
     alloc: Global,
-    form: Form,
+    is_json: bool,
     shown: &[Row],
     rows: &[Row],
 ) -> Result<Vec<u8>, AllocError> {
@@ -30,21 +22,17 @@ pub fn changes(
             one.segment == row.segment && one.number == row.number && one.is_fenced == row.is_fenced
         });
         if !is_shown {
-            match form {
-                Form::Lines => put_line(alloc, &mut text, row)?,
-                Form::Objects => text = append_object(alloc, text, row)?,
+            if is_json {
+                text = append_object(alloc, text, row)?;
+            } else {
+                put_segment(&mut text, row.segment, row.number)?;
+                put_fence(&mut text, row.is_fenced)?;
+                put_shown(alloc, &mut text, OutputFormat::Text, row.value.as_slice())?;
             }
             text.push(b'\n')?;
         }
     }
     Ok(text)
-}
-
-/// Appends a row as a line, without its line feed.
-fn put_line(alloc: Global, out: &mut Vec<u8>, row: &Row) -> Result<(), AllocError> {
-    put_segment(out, row.segment, row.number)?;
-    put_fence(out, row.is_fenced)?;
-    put_shown(alloc, out, OutputFormat::Text, row.value.as_slice())
 }
 
 /// Appends a row as an object.

@@ -26,7 +26,7 @@ const RED: &str = "\x1b[31m";
 const PLAIN: &str = "\x1b[0m";
 
 /// The contents of a board in a terminal.
-#[derive(Clone, Copy, Debug)]
+#[derive(Clone, Copy)]
 pub struct Panel<'a> {
     /// The server's address.
     pub address: &'a str,

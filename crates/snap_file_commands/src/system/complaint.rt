@@ -3,7 +3,7 @@ ghost use Rattle.std.specs.Prelude.{◌≡◌, IfOk, Ok};
 ghost use Rattle.snap_order.specs.declared.status.Status.TheVariants as status;
 
 use super::file_system::remedy_of;
-use super::folder::FolderReadFault;
+use super::folder_refusal::FolderReadFault;
 use crate::CommandFault;
 use snap_devices::FileFault;
 use snap_disk::Refusal;
@@ -95,8 +95,8 @@ pub fn fail_twice(rt: &HostRuntime, first: &str, second: &str) -> Status {
 pub fn fail_in(rt: &HostRuntime, trouble: &FolderReadFault<'_>) -> Status {
     match trouble {
         FolderReadFault::Path { file, fault } => fail_at(rt, file, fault),
-        FolderReadFault::Refused(why) => refuse(rt, why),
-        FolderReadFault::NoMemory => stop_without_memory(rt),
+        FolderReadFault::NoMemory(_) => stop_without_memory(rt),
+        why => refuse(rt, why),
     }
 }
 

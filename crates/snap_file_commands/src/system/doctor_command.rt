@@ -3,9 +3,8 @@ ghost use Rattle.std.specs.Prelude.{◌≡◌, IfOk};
 
 use super::complaint::{stop, stop_without_memory};
 use super::file_system::{file_system_of, is_taken, keeps_locks, remedy_of, try_as_server};
-use super::folder::{
-    FolderReadFault, SegmentContents, contents_of, order_of, path_at, segment_files,
-};
+use super::folder::{contents_of, order_of, path_at, segment_files};
+use super::folder_refusal::FolderReadFault;
 use super::store_times::{MeasureFault, STORED_LEN, STORES, measure};
 use crate::{CommandFault, SegmentPlace};
 use snap_devices::FileFault;
@@ -83,7 +82,7 @@ fn report_file(
 ) -> io::Result<FileState> {
     if is_awaited || !is_taken(rt, file) {
         match contents_of(rt, folder, file) {
-            Ok(found) => return report_segment(rt, file, found),
+            Ok((place, number)) => return report_segment(rt, file, place, number),
             Err(
                 FolderReadFault::Path {
                     fault: FileFault::InUse(_),
@@ -101,9 +100,14 @@ fn report_file(
 }
 
 /// Reports on a segment's file: its place and number, and whether a server started by this user could use it.
-fn report_segment(rt: &HostRuntime, file: &str, found: SegmentContents) -> io::Result<FileState> {
-    let SegmentPlace { index, count } = found.place;
-    let Some(number) = found.number else {
+fn report_segment(
+    rt: &HostRuntime,
+    file: &str,
+    place: SegmentPlace,
+    number: Option<u64>,
+) -> io::Result<FileState> {
+    let SegmentPlace { index, count } = place;
+    let Some(number) = number else {
         let why = format_args!(
             "segment {index} of {count}, but its slots give no answer: see snapd check {file}, and bring a copy back, \
                 or save what a slot holds by snapd check {file} --slot S --value"
@@ -111,7 +115,7 @@ fn report_segment(rt: &HostRuntime, file: &str, found: SegmentContents) -> io::R
         return tell(rt, file, &why, FileState::Ill);
     };
     let line = format_args!("segment {index} of {count} number {number}");
-    let whole = tell(rt, file, &line, FileState::Whole(found.place))?;
+    let whole = tell(rt, file, &line, FileState::Whole(place))?;
     let Err(reason) = try_as_server(rt, file) else {
         return Ok(whole);
     };
@@ -146,8 +150,8 @@ fn report_trouble(rt: &HostRuntime, trouble: &FolderReadFault<'_>) -> io::Result
                 _ => Ok(()),
             }
         }
-        FolderReadFault::Refused(why) => rt.println(why),
-        FolderReadFault::NoMemory => Err(io::Error::from(ErrorKind::OutOfMemory)),
+        FolderReadFault::NoMemory(_) => Err(io::Error::from(ErrorKind::OutOfMemory)),
+        why => rt.println(why),
     }
 }
 
@@ -179,7 +183,7 @@ const SHORTEST: u128 = 40;
 
 /// Reports how long a store takes in the folder, and whether it can have waited for a disk.
 fn report_stores(rt: &HostRuntime, folder: &str) -> io::Result<bool> {
-    let times = match measure(rt, folder) {
+    let (median, late) = match measure(rt, folder) {
         Ok(times) => times,
         Err(fault) => {
             let why = format_args!("nothing could be stored: {fault}");
@@ -190,7 +194,7 @@ fn report_stores(rt: &HostRuntime, folder: &str) -> io::Result<bool> {
             return Ok(false);
         }
     };
-    let (median, late) = (times.median.as_micros(), times.late.as_micros());
+    let (median, late) = (median.as_micros(), late.as_micros());
     let line = format_args!(
         "a store takes {median} us (p50), {late} us (p99): {STORES} stores of {STORED_LEN} bytes"
     );

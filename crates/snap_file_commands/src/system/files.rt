@@ -4,7 +4,7 @@ ghost use Rattle.snap_devices.specs.FileDisk.{IsUncalled};
 
 use super::complaint::{fail_at, fail_twice, fail_without};
 use super::file_system::limit_of;
-use crate::{Causes, CommandFault, MigrationFault, words_of_format};
+use crate::{CommandFault, MigrationFault, words_of_format};
 use snap_devices::{CallFault, FileDisk, FileFault, Lock};
 use snap_disk::{Disk, Refusal};
 use snap_order::{FileOrder, MigrateOptions, Status};
@@ -16,17 +16,12 @@ use std::sync::OnceLock;
 
 /// The reason why a call on an open file failed first. The file's device sets it; it outlives the device.
 #[derive(Drop)]
-pub struct FirstFault(OnceLock<CallFault>);
+pub struct FirstFault(pub OnceLock<CallFault>);
 
 impl FirstFault {
     /// No call has failed yet.
     pub fn new() -> FirstFault {
         FirstFault(OnceLock::new())
-    }
-
-    /// Where the file's device puts the reason.
-    pub fn place(&self) -> &OnceLock<CallFault> {
-        &self.0
     }
 }
 
@@ -50,7 +45,9 @@ pub fn first_faults(alloc: Global, count: usize) -> Result<Vec<FirstFault>, Allo
     Ok(told)
 }
 
-/// Opens the order's file by [`open_file`]. Prints the reason if that fails.
+/// Opens the order's file as a device. `format` makes the file if it doesn't exist. A command that writes gets an
+/// exclusive lock. `file` is the order's path, and `told` gets the reason why a call on the file fails. Prints the
+/// reason if it can't be opened.
 pub fn take_file<'a>(
     rt: &'a HostRuntime,
     order: &FileOrder<'_>,
@@ -59,8 +56,15 @@ pub fn take_file<'a>(
 ) -> Result<FileDisk<'a, HostRuntime>, Status>
     ensures { IfOk result IsUncalled }
 {
-    match open_file(rt, order, file, told) {
-        Ok(disk) => Ok(disk),
+    let opened = match *order {
+        FileOrder::Format { .. } => FileDisk::create(rt, file),
+        FileOrder::Put { .. } => FileDisk::open(rt, file, Lock::Exclusive),
+        FileOrder::Get { .. } | FileOrder::Check { .. } | FileOrder::Slot { .. } => {
+            FileDisk::open(rt, file, Lock::Shared)
+        }
+    };
+    match opened {
+        Ok(disk) => Ok(disk.telling(&told.0)),
         Err(FileFault::WrongFile { len }) => {
             let refused = CommandFault::Refused(Refusal::WrongFile);
             let ended = refused.report_of(rt.alloc(), order, len, told, &mut rt.stderr());
@@ -71,26 +75,6 @@ pub fn take_file<'a>(
             Err(fail_without(rt, file, &fault, command.ok()))
         }
     }
-}
-
-/// Opens the order's file as a device. `format` makes the file if it doesn't exist. A command that writes gets an
-/// exclusive lock. `file` is the order's path, and `told` gets the reason why a call on the file fails.
-fn open_file<'a>(
-    rt: &'a HostRuntime,
-    order: &FileOrder<'_>,
-    file: &'a str,
-    told: &'a FirstFault,
-) -> Result<FileDisk<'a, HostRuntime>, FileFault>
-    ensures { IfOk result IsUncalled }
-{
-    let disk = match *order {
-        FileOrder::Format { .. } => FileDisk::create(rt, file)?,
-        FileOrder::Put { .. } => FileDisk::open(rt, file, Lock::Exclusive)?,
-        FileOrder::Get { .. } | FileOrder::Check { .. } | FileOrder::Slot { .. } => {
-            FileDisk::open(rt, file, Lock::Shared)?
-        }
-    };
-    Ok(disk.telling(told.place()))
 }
 
 /// Opens the file at this path as a device, with this lock. `told` gets the reason why a call on it fails.
@@ -104,7 +88,7 @@ pub fn open_telling<'a>(
 {
     let disk = FileDisk::open(rt, file, lock)?;
     match told {
-        Some(told) => Ok(disk.telling(told.place())),
+        Some(told) => Ok(disk.telling(&told.0)),
         None => Ok(disk),
     }
 }
@@ -128,11 +112,11 @@ pub fn take_pair<'a>(
     ensures { IfOk result (λ pair. IsUncalled pair.0 × IsUncalled pair.1) }
 {
     let old = match FileDisk::open(rt, old_path, Lock::Shared) {
-        Ok(old) => old.telling(told_old.place()),
+        Ok(old) => old.telling(&told_old.0),
         Err(fault) => return Err(fail_at(rt, old_path, &fault)),
     };
     let fault = match FileDisk::create(rt, new_path) {
-        Ok(new) => return Ok((old, new.telling(told_new.place()))),
+        Ok(new) => return Ok((old, new.telling(&told_new.0))),
         Err(fault) => fault,
     };
     let (len, id) = (old.len(), old.id());
@@ -145,11 +129,8 @@ pub fn take_pair<'a>(
     };
     let why = Refusal::WrongFile;
     let refused = MigrationFault::OfFile { which, why };
-    let causes = Causes {
-        old: told_old,
-        new: told_new,
-    };
-    let ended = refused.report(rt.alloc(), order, &causes, &mut rt.stderr());
+    let causes = (told_old, told_new);
+    let ended = refused.report(rt.alloc(), order, causes, &mut rt.stderr());
     Err(ended.status)
 }
 

@@ -8,9 +8,9 @@ ghost use Rattle.snap_order.specs.Limits.{MAX_COUNT};
 
 use super::complaint::fail_at_folder;
 use super::files::{FirstFault, open_telling};
-use super::folder_refusal::{FileRefusal, FolderRefusal};
-use crate::{FolderFault, SegmentPlace, file_name, is_further, is_segment_name, order_files};
-use snap_devices::{FileFault, Lock, sync_folder_of};
+use super::folder_refusal::FolderReadFault;
+use crate::{FolderFault, SegmentPlace, file_name, is_segment_name, order_files};
+use snap_devices::{Lock, sync_folder_of};
 use snap_disk::{Disk, Refusal};
 use snap_order::{OLD_FILE_LEN, Status};
 use snap_segment::{Findings, Header, check};
@@ -20,29 +20,14 @@ use std::fs;
 use std::io::{self, ErrorKind};
 use std::path::Path;
 
-/// The reason why the files of a folder can't be used.
-#[derive(Drop)]
-pub enum FolderReadFault<'f> {
-    /// The file at this path couldn't be opened.
-    Path { file: &'f str, fault: FileFault },
-    /// They are not the segments of one server.
-    Refused(FolderRefusal<'f>),
-    /// Memory ran out.
-    NoMemory,
-}
-
-impl From<AllocError> for FolderReadFault<'_> {
-    fn from(_error: AllocError) -> Self {
-        FolderReadFault::NoMemory
-    }
-}
-
-/// Makes the folder at this path, if nothing is there yet, and syncs its name, if the system allows that.
-pub fn make_folder(rt: &HostRuntime, folder: &str) -> io::Result<()> {
-    match fs::create_dir(rt, folder) {
+/// Makes the folder at this path, if nothing is there yet, and syncs its name, if the system allows that. Prints the
+/// reason if that fails.
+pub fn make_folder(rt: &HostRuntime, folder: &str) -> Result<(), Status> {
+    let made = match fs::create_dir(rt, folder) {
         Err(reason) if reason.kind() != ErrorKind::AlreadyExists => Err(reason),
         _ => sync_folder_of(rt, folder),
-    }
+    };
+    made.map_err(|reason| fail_at_folder(rt, folder, reason))
 }
 
 /// The paths of the folder's files whose names end in `.seg`, in order of name. Names that aren't UTF-8 are skipped.
@@ -57,7 +42,8 @@ fn listed(rt: &HostRuntime, folder: &str) -> io::Result<Vec<String>> {
     for entry in fs::read_dir(rt, folder)? {
         match entry {
             Ok(entry) if is_segment_name(entry.file_name()) => {
-                files.push(path_in(rt.alloc(), folder, entry.file_name())?)?;
+                let path = Path::new(folder).join(rt.alloc(), entry.file_name())?;
+                files.push(path.into_string())?;
             }
             Err(reason) if reason.kind() != ErrorKind::InvalidFilename => return Err(reason),
             _ => {}
@@ -67,17 +53,12 @@ fn listed(rt: &HostRuntime, folder: &str) -> io::Result<Vec<String>> {
     Ok(files)
 }
 
-/// The path of this name in the folder.
-fn path_in(alloc: Global, folder: &str, name: &str) -> Result<String, AllocError> {
-    Ok(Path::new(folder).join(alloc, name)?.into_string())
-}
-
 /// The path of the file that this segment gets in the folder.
 pub fn segment_path(alloc: Global, folder: &str, index: u8) -> Result<String, AllocError>
     requires { index < MAX_COUNT }
 {
     let name = file_name(alloc, index)?;
-    path_in(alloc, folder, name.as_str())
+    Ok(Path::new(folder).join(alloc, name.as_str())?.into_string())
 }
 
 /// The segment among `count` whose file has this name, by the names that [`segment_path`] gives.
@@ -92,29 +73,6 @@ pub fn index_of_name(alloc: Global, name: &str, count: u8) -> Result<Option<u8>,
     Ok(None)
 }
 
-/// Checks that no file of the folder has the name of a segment `count` or above.
-pub fn check_names<'f>(
-    alloc: Global,
-    folder: &'f str,
-    files: &'f [String],
-    count: u8,
-) -> Result<(), FolderReadFault<'f>>
-    requires { count ≤ MAX_COUNT }
-{
-    for file in files {
-        let file = file.as_str();
-        let name = Path::new(file).file_name().unwrap_or("");
-        if is_further(alloc, name, count)? {
-            return Err(FolderReadFault::Refused(FolderRefusal::Further {
-                folder,
-                file,
-                count,
-            }));
-        }
-    }
-    Ok(())
-}
-
 /// The folder's files in order of segment, by their headers. Nothing is written.
 pub fn files_in_order<'f>(
     rt: &HostRuntime,
@@ -126,10 +84,8 @@ pub fn files_in_order<'f>(
 {
     let mut places = Vec::with_capacity(rt.alloc(), files.len())?;
     for file in files {
-        let found = contents_of(rt, folder, file.as_str())?;
-        if places.push(found.place).is_err() {
-            return Err(FolderReadFault::NoMemory);
-        }
+        let (place, _) = contents_of(rt, folder, file.as_str())?;
+        places.push(place)?;
     }
     order_of(rt.alloc(), folder, files, &places)
 }
@@ -141,55 +97,35 @@ pub fn order_of<'f>(
     files: &'f [String],
     places: &[SegmentPlace],
 ) -> Result<Vec<&'f str>, FolderReadFault<'f>>
-    requires { length places.now ≡ length files.now }
     ensures some { IfOk result (λ paths. 0 < length paths.items) }
     ensures few { IfOk result (λ paths. length paths.items ≤ MAX_COUNT) }
 {
-    match order_files(alloc, places) {
-        Ok(order) => Ok(taken(alloc, files, &order)?),
-        Err(fault) => Err(trouble_of(alloc, folder, files, places, fault)),
-    }
-}
-
-/// The files in this order.
-fn taken<'f>(
-    alloc: Global,
-    files: &'f [String],
-    order: &[usize],
-) -> Result<Vec<&'f str>, AllocError>
-    requires { All (λ at. at < length files.now) order.now }
-    ensures { IfOk result (λ paths. length paths.items ≡ length order.now) }
-{
+    let order = match order_files(alloc, places) {
+        Ok(order) => order,
+        Err(fault) => return Err(trouble_of(alloc, folder, files, places, fault)),
+    };
     let mut paths = Vec::with_capacity(alloc, order.len())?;
-    for at in order {
-        paths.push(files[*at].as_str())?;
+    for at in &order {
+        paths.push(path_at(folder, files, *at))?;
     }
     Ok(paths)
 }
 
-/// The contents of a segment's file.
-#[derive(Clone, Copy)]
-pub struct SegmentContents {
-    /// Its place, by its header.
-    pub place: SegmentPlace,
-    /// The number that a restart would recover, if there is one.
-    pub number: Option<u64>,
-}
-
-/// The contents of the file at this path. Others may read it at the same time.
+/// The place in the header of the file at this path, and the number that a restart would recover, if there is one.
+/// Others may read the file at the same time.
 pub fn contents_of<'f>(
     rt: &HostRuntime,
     folder: &'f str,
     file: &'f str,
-) -> Result<SegmentContents, FolderReadFault<'f>> {
+) -> Result<(SegmentPlace, Option<u64>), FolderReadFault<'f>> {
     let findings = findings_of(rt, folder, file)?;
     match findings.header {
-        Header::Open { index, count } => Ok(SegmentContents {
-            place: SegmentPlace { index, count },
-            number: findings.answer.map(|found| found.number),
-        }),
-        Header::Closed => Err(refused(FileRefusal::Unformatted { folder, file })),
-        Header::Wrong => Err(refused(FileRefusal::NoSegment { folder, file })),
+        Header::Open { index, count } => {
+            let number = findings.answer.map(|found| found.number);
+            Ok((SegmentPlace { index, count }, number))
+        }
+        Header::Closed => Err(FolderReadFault::Unformatted { folder, file }),
+        Header::Wrong => Err(FolderReadFault::NoSegment { folder, file }),
     }
 }
 
@@ -204,24 +140,18 @@ pub fn findings_of<'f>(
         Ok(disk) => disk,
         Err(fault) => return Err(FolderReadFault::Path { file, fault }),
     };
-    let why = match check(&mut disk) {
-        Ok(findings) => return Ok(findings),
+    match check(&mut disk) {
+        Ok(findings) => Ok(findings),
         Err(Refusal::DeviceFailed) => match told.text(rt.alloc()) {
-            Some(reason) => FileRefusal::Failed { file, reason },
-            None => return Err(FolderReadFault::NoMemory),
+            Some(reason) => Err(FolderReadFault::Failed { file, reason }),
+            None => Err(FolderReadFault::NoMemory(AllocError)),
         },
-        Err(_) => match disk.len() {
-            0 => FileRefusal::Unformatted { folder, file },
-            OLD_FILE_LEN => FileRefusal::OldFormat { folder, file },
-            _ => FileRefusal::NoSegment { folder, file },
-        },
-    };
-    Err(refused(why))
-}
-
-/// The refusal of one file.
-fn refused(why: FileRefusal<'_>) -> FolderReadFault<'_> {
-    FolderReadFault::Refused(FolderRefusal::File(why))
+        Err(_) => Err(match disk.len() {
+            0 => FolderReadFault::Unformatted { folder, file },
+            OLD_FILE_LEN => FolderReadFault::OldFormat { folder, file },
+            _ => FolderReadFault::NoSegment { folder, file },
+        }),
+    }
 }
 
 /// The fault of the files, if their headers have these places.
@@ -235,56 +165,48 @@ fn trouble_of<'f>(
     requires { IsFaultOf places.now fault }
 {
     match fault {
-        FolderFault::Empty => FolderReadFault::Refused(FolderRefusal::NoFiles { folder }),
-        FolderFault::NoPlace { file } => refused(FileRefusal::NoSegment {
+        FolderFault::Empty => FolderReadFault::NoFiles { folder },
+        FolderFault::NoPlace { file } => FolderReadFault::NoSegment {
             folder,
             file: path_at(folder, files, file),
-        }),
-        FolderFault::OtherCount { file } => refused(FileRefusal::OtherCount {
+        },
+        FolderFault::OtherCount { file } => FolderReadFault::OtherCount {
             folder,
             first: path_at(folder, files, 0),
             first_count: place_at(places, 0).count,
             file: path_at(folder, files, file),
             count: place_at(places, file).count,
-        }),
-        FolderFault::Twice { first, second } => refused(FileRefusal::Twice {
-            folder,
-            first: path_at(folder, files, first),
-            file: path_at(folder, files, second),
-            place: place_at(places, second),
-        }),
-        FolderFault::Missing { index, count } => missing(alloc, folder, index, count),
-        FolderFault::NoMemory => FolderReadFault::NoMemory,
+        },
+        FolderFault::Twice { first, second } => {
+            let SegmentPlace { index, count } = place_at(places, second);
+            FolderReadFault::Twice {
+                folder,
+                first: path_at(folder, files, first),
+                file: path_at(folder, files, second),
+                index,
+                count,
+            }
+        }
+        FolderFault::Missing { index, count } => match segment_path(alloc, folder, index) {
+            Ok(file) => FolderReadFault::Missing {
+                folder,
+                file,
+                index,
+                count,
+            },
+            Err(failure) => FolderReadFault::NoMemory(failure),
+        },
+        FolderFault::NoMemory => FolderReadFault::NoMemory(AllocError),
     }
 }
 
 /// The path of one of the folder's files.
 pub fn path_at<'f>(folder: &'f str, files: &'f [String], at: usize) -> &'f str {
-    match files.get(at) {
-        Some(file) => file.as_str(),
-        None => folder,
-    }
+    files.get(at).map_or(folder, |file| file.as_str())
 }
 
 /// The place of one of the files.
 fn place_at(places: &[SegmentPlace], at: usize) -> SegmentPlace {
-    match places.get(at) {
-        Some(place) => *place,
-        None => SegmentPlace { index: 0, count: 0 },
-    }
-}
-
-/// The refusal of a folder without the file of this segment.
-fn missing(alloc: Global, folder: &str, index: u8, count: u8) -> FolderReadFault<'_>
-    requires { index < MAX_COUNT }
-{
-    match segment_path(alloc, folder, index) {
-        Ok(file) => FolderReadFault::Refused(FolderRefusal::Missing {
-            folder,
-            file,
-            index,
-            count,
-        }),
-        Err(_) => FolderReadFault::NoMemory,
-    }
+    let none = SegmentPlace { index: 0, count: 0 };
+    places.get(at).copied().unwrap_or(none)
 }

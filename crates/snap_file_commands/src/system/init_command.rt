@@ -2,20 +2,18 @@
 ghost use Rattle.std.specs.Prelude.{◌<◌, ◌≤◌};
 ghost use Rattle.snap_order.specs.{Limits.MAX_COUNT, Order.IsOneTo};
 
-use super::complaint::{fail_at_folder, fail_in, or_stop, refuse};
+use super::complaint::{fail_in, or_stop, refuse};
 use super::files::{FirstFault, take_file};
 use super::folder::{
-    FolderReadFault, check_names, findings_of, index_of_name, make_folder, path_at, segment_files,
-    segment_path,
+    findings_of, index_of_name, make_folder, path_at, segment_files, segment_path,
 };
-use super::folder_refusal::{FileRefusal, FolderRefusal};
-use crate::{finish, found, sign_of_loss};
+use super::folder_refusal::FolderReadFault;
+use crate::{finish, found, is_further, sign_of_loss};
 use snap_devices::FileFault;
 use snap_disk::Disk;
 use snap_order::{FileOrder, InitOptions, Status};
 use snap_segment::{Findings, Header, Slot};
 use std::alloc::{AllocError, Global};
-use std::fmt::{self, Display, Formatter, Write};
 use std::path::Path;
 
 /// Makes the folder, and in it the file of each segment in order. Whole files are left as they are. It stops at the
@@ -25,17 +23,16 @@ pub fn init(rt: &HostRuntime, order: &InitOptions<'_>) -> Result<Status, Status>
     requires { IsOneTo MAX_COUNT order.now.count }
 {
     let folder = order.folder;
-    if let Err(reason) = make_folder(rt, folder) {
-        return Err(fail_at_folder(rt, folder, reason));
-    }
+    make_folder(rt, folder)?;
     let files = segment_files(rt, folder)?;
     let survey = match survey_of(rt, folder, order.count, &files) {
         Ok(survey) => survey,
         Err(trouble) => return Err(fail_in(rt, &trouble)),
     };
-    match sign_of_loss(survey.lacking.len(), &survey.numbers) {
+    let lacking = survey.kept.iter().filter(|file| file.is_none()).count();
+    match sign_of_loss(lacking, &survey.numbers) {
         Some(at) if !order.is_missing_empty => {
-            let (lacking, count) = (Listed(&survey.lacking), order.count);
+            let (lacking, count) = (survey.lacking.as_str(), order.count);
             let (sign, number) = (path_at(folder, &files, at), survey.numbers[at]);
             let why = format_args!(
                 "{lacking}: missing or never formatted, though {sign} holds number {number}: restore what is missing \
@@ -52,8 +49,8 @@ pub fn init(rt: &HostRuntime, order: &InitOptions<'_>) -> Result<Status, Status>
 struct Survey<'f> {
     /// The file of each segment in order, if it has one.
     kept: Vec<Option<&'f str>>,
-    /// The paths of the missing files, which are to be made.
-    lacking: Vec<String>,
+    /// The paths of the missing files, which are to be made, with a comma between them.
+    lacking: String,
     /// The greatest number in each file of the folder.
     numbers: Vec<u64>,
 }
@@ -67,14 +64,21 @@ fn survey_of<'f>(
 ) -> Result<Survey<'f>, FolderReadFault<'f>>
     requires { count ≤ MAX_COUNT }
 {
-    check_names(rt.alloc(), folder, files, count)?;
+    for file in files {
+        let file = file.as_str();
+        let name = Path::new(file).file_name().unwrap_or("");
+        if is_further(rt.alloc(), name, count)? {
+            return Err(FolderReadFault::Further {
+                folder,
+                file,
+                count,
+            });
+        }
+    }
     let mut kept: Vec<Option<&'f str>> = vec![in rt.alloc(); None; usize::from(count)]?;
     let mut numbers = Vec::with_capacity(rt.alloc(), files.len())?;
     for file in files {
-        let number = look_at(rt, folder, count, file.as_str(), &mut kept)?;
-        if numbers.push(number).is_err() {
-            return Err(FolderReadFault::NoMemory);
-        }
+        numbers.push(look_at(rt, folder, count, file.as_str(), &mut kept)?)?;
     }
     let lacking = lacking_files(rt.alloc(), folder, count, &kept)?;
     Ok(Survey {
@@ -84,19 +88,22 @@ fn survey_of<'f>(
     })
 }
 
-/// The paths of the files that are missing.
+/// The paths of the files that are missing, with a comma between them.
 fn lacking_files(
     alloc: Global,
     folder: &str,
     count: u8,
     kept: &[Option<&str>],
-) -> Result<Vec<String>, AllocError>
+) -> Result<String, AllocError>
     requires { count ≤ MAX_COUNT }
 {
-    let mut lacking = Vec::new(alloc);
+    let mut lacking = String::new(alloc);
     for index in 0..count {
         if file_in(kept, index).is_none() {
-            lacking.push(segment_path(alloc, folder, index)?)?;
+            if !lacking.is_empty() {
+                lacking.push_str(", ")?;
+            }
+            lacking.push_str(segment_path(alloc, folder, index)?.as_str())?;
         }
     }
     Ok(lacking)
@@ -127,12 +134,12 @@ fn look_at<'f>(
             segment_by(count, file, named, findings.header, number)?
         }
         Err(trouble) => match trouble {
-            FolderReadFault::Refused(FolderRefusal::File(FileRefusal::Unformatted { .. })) => None,
+            FolderReadFault::Unformatted { .. } => None,
             FolderReadFault::Path {
                 fault: FileFault::InUse(_),
                 ..
             }
-            | FolderReadFault::NoMemory => return Err(trouble),
+            | FolderReadFault::NoMemory(_) => return Err(trouble),
             // Any other fault is reported later, in its turn.
             _ => named,
         },
@@ -157,11 +164,11 @@ fn segment_by<'f>(
 ) -> Result<Option<u8>, FolderReadFault<'f>> {
     match header {
         Header::Open { count, .. } if count != wanted => {
-            Err(FolderReadFault::Refused(FolderRefusal::AnotherCount {
+            Err(FolderReadFault::AnotherCount {
                 file,
                 count,
                 wanted,
-            }))
+            })
         }
         Header::Open { index, .. } if named.is_none() => Ok(Some(index)),
         Header::Closed if number == 0 => Ok(None),
@@ -179,21 +186,6 @@ fn greatest_number(findings: &Findings) -> u64 {
         }
     }
     greatest
-}
-
-/// Shows paths with a comma between them.
-#[derive(Clone, Copy)]
-struct Listed<'f>(&'f [String]);
-
-impl Display for Listed<'_> {
-    fn fmt<W: Write>(&self, f: &mut Formatter<W>) -> fmt::Result {
-        let mut between = "";
-        for file in self.0 {
-            write!(f, "{between}{file}")?;
-            between = ", ";
-        }
-        Ok(())
-    }
 }
 
 /// Makes the files of the segments in order, or leaves those that are kept.
@@ -220,7 +212,7 @@ fn found_all(
 }
 
 /// Makes the file of a segment, or leaves it if it is whole, and prints which.
-fn found_at(rt: &HostRuntime, file: &str, index: u8, count: u8) -> Result<Status, Status>
+fn found_at<'a>(rt: &'a HostRuntime, file: &'a str, index: u8, count: u8) -> Result<Status, Status>
     requires below { index < count }
     requires few { count ≤ MAX_COUNT }
 {

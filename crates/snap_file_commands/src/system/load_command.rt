@@ -83,37 +83,23 @@ fn make_folder(
     requires values { All IsKeepable values.now }
 {
     let loading = LoadingFolder::take(rt, folder)?;
-    make_files(rt, loading.path.as_str(), count, values)?;
+    for index in 0..count {
+        let file = or_stop(rt, segment_path(rt.alloc(), loading.path.as_str(), index))?;
+        let status = make_file(rt, file.as_str(), index, count, values)?;
+        if status != Status::Done {
+            return Err(status);
+        }
+    }
     // The line is made first, so that if memory runs out the folder isn't renamed.
     let line = or_stop(rt, format!(in rt.alloc(); "ready {folder}\n"))?;
     loading.put_in_place(rt)?;
     print_whole(rt, line.as_bytes())
 }
 
-/// Makes the files of `count` segments, one after the other.
-fn make_files(
-    rt: &HostRuntime,
-    folder: &str,
-    count: u8,
-    values: &[SegmentValue],
-) -> Result<(), Status>
-    requires count { IsOneTo MAX_COUNT count }
-    requires values { All IsKeepable values.now }
-{
-    for index in 0..count {
-        let file = or_stop(rt, segment_path(rt.alloc(), folder, index))?;
-        let status = make_file(rt, file.as_str(), index, count, values)?;
-        if status != Status::Done {
-            return Err(status);
-        }
-    }
-    Ok(())
-}
-
 /// Makes the file of a segment, with its value if there is one.
-fn make_file(
-    rt: &HostRuntime,
-    file: &str,
+fn make_file<'a>(
+    rt: &'a HostRuntime,
+    file: &'a str,
     index: u8,
     count: u8,
     values: &[SegmentValue],

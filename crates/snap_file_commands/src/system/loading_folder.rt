@@ -70,26 +70,18 @@ fn bare_path(rt: &HostRuntime, wanted: &str) -> Result<String, Status> {
 
 /// Makes the folder at this path, which is to replace the wanted one. Returns its lock.
 fn make_for(rt: &HostRuntime, wanted: &str, path: &str) -> Result<File, Status> {
-    if let Err(reason) = make_folder(rt, path) {
-        return Err(fail_at_folder(rt, path, reason));
-    }
+    make_folder(rt, path)?;
     let lock = lock_folder(rt, path)?;
-    match prepare(rt, wanted, path, &lock) {
-        Ok(()) => Ok(lock),
-        Err(status) => {
-            // Removes the folder again if it is empty, as a new one is.
-            let _ = fs::remove_dir(rt, path);
-            Err(status)
-        }
-    }
-}
-
-/// Prepares the locked folder for its files.
-fn prepare(rt: &HostRuntime, wanted: &str, path: &str, lock: &File) -> Result<(), Status> {
     // Another load may have finished before this one got the lock.
-    check_free(rt, wanted)?;
-    clear(rt, path)?;
-    carry_over(rt, wanted, lock)
+    let prepared = check_free(rt, wanted)
+        .and_then(|()| clear(rt, path))
+        .and_then(|()| carry_over(rt, wanted, &lock));
+    if prepared.is_err() {
+        // Removes the folder again if it is empty, as a new one is.
+        let _ = fs::remove_dir(rt, path);
+    }
+    prepared?;
+    Ok(lock)
 }
 
 /// Gives the new folder the owner, group and mode of the empty one that it replaces, before it has a file that others
@@ -162,14 +154,13 @@ fn try_lock_folder(rt: &HostRuntime, path: &str) -> io::Result<Option<File>> {
 /// Removes the files of an interrupted load. If anything else is there, prints that and removes nothing.
 fn clear(rt: &HostRuntime, loading: &str) -> Result<(), Status> {
     let entries = fs::read_dir(rt, loading).map_err(|reason| fail_at_folder(rt, loading, reason))?;
-    let mut names = Vec::new(rt.alloc());
+    let mut paths = Vec::new(rt.alloc());
     for entry in entries {
-        if names.push(own_name(rt, loading, entry)?).is_err() {
+        if paths.push(own_path(rt, loading, entry)?).is_err() {
             return Err(stop_without_memory(rt));
         }
     }
-    for name in names {
-        let path = or_stop(rt, Path::new(loading).join(rt.alloc(), name.as_str()))?;
+    for path in paths {
         if let Err(reason) = fs::remove_file(rt, path.as_str()) {
             return Err(fail_at(rt, path.as_str(), &FileFault::System(reason)));
         }
@@ -177,8 +168,8 @@ fn clear(rt: &HostRuntime, loading: &str) -> Result<(), Status> {
     Ok(())
 }
 
-/// The name of this entry of the folder, if it is one that a load gives. Prints a message if it isn't.
-fn own_name(
+/// The path of this entry of the folder, if it has a name that a load gives. Prints a message if it hasn't.
+fn own_path(
     rt: &HostRuntime,
     loading: &str,
     entry: io::Result<DirEntry>,
@@ -193,7 +184,7 @@ fn own_name(
     };
     let name = entry.file_name();
     match or_stop(rt, index_of_name(rt.alloc(), name, MAX_COUNT))? {
-        Some(_) => or_stop(rt, String::from_str(rt.alloc(), name)),
+        Some(_) => Ok(or_stop(rt, Path::new(loading).join(rt.alloc(), name))?.into_string()),
         None => Err(refuse(
             rt,
             &format_args!("{loading}/{name}: it is not what a load leaves: move it out of there"),

@@ -8,12 +8,12 @@ use snap_segment::{Segment, format};
 use snap_slot::FILE_LEN;
 use snap_stream::SystemReason;
 use std::alloc::AllocError;
-use std::fmt::{self, Display, Formatter, Write};
 use std::fs::{self, File};
 use std::io::{self, ErrorKind};
 use std::os::unix::fs::MetadataExt;
 use std::path::Path;
 use std::time::{Duration, Instant};
+use thiserror::Error;
 
 /// How many values are stored.
 pub const STORES: usize = 200;
@@ -24,65 +24,35 @@ pub const STORED_LEN: usize = 1_000;
 /// How many names there are for the temporary file, and so how many measurements can run at once.
 const NAMES: u8 = 100;
 
-/// The measured times of the stores.
-#[derive(Clone, Copy)]
-pub struct StoreTimes {
-    /// The median: half of them took no longer.
-    pub median: Duration,
-    /// The 99th percentile.
-    pub late: Duration,
-}
-
 /// The reason why nothing was measured.
-#[derive(Drop)]
+#[derive(Debug, Drop, Error)]
 pub enum MeasureFault {
     /// The file couldn't be made.
+    #[error("{0}")]
     File(FileFault),
     /// A call on the file failed, for this reason if the system gave one.
+    #[error("{}", .0.as_deref().unwrap_or("a call of its device failed"))]
     Store(Option<String>),
     /// The system has no clock, or the file couldn't be removed.
-    System(io::Error),
+    #[error("{0}")]
+    System(#[from] io::Error),
     /// All names are taken.
+    #[error("all names from doctor-0.tmp on are taken: remove what is left of them")]
     Crowded,
     /// Memory ran out.
-    NoMemory,
+    #[error("out of memory")]
+    NoMemory(#[from(alloc)] AllocError),
 }
 
-impl Display for MeasureFault {
-    fn fmt<W: Write>(&self, f: &mut Formatter<W>) -> fmt::Result {
-        match self {
-            MeasureFault::File(fault) => fault.fmt(f),
-            MeasureFault::Store(Some(reason)) => reason.fmt(f),
-            MeasureFault::Store(None) => f.write_str("a call of its device failed"),
-            MeasureFault::System(reason) => reason.fmt(f),
-            MeasureFault::Crowded => f.write_str(
-                "all names from doctor-0.tmp on are taken: remove what is left of them",
-            ),
-            MeasureFault::NoMemory => f.write_str("out of memory"),
-        }
-    }
-}
-
-impl From<AllocError> for MeasureFault {
-    fn from(_error: AllocError) -> Self {
-        MeasureFault::NoMemory
-    }
-}
-
-impl From<io::Error> for MeasureFault {
-    fn from(error: io::Error) -> Self {
-        MeasureFault::System(error)
-    }
-}
-
-/// Stores [`STORES`] values of [`STORED_LEN`] bytes in a temporary file in the folder, and returns the times. The file
-/// is removed however this ends, or by a later measurement if the process is killed.
-pub fn measure(rt: &HostRuntime, folder: &str) -> Result<StoreTimes, MeasureFault> {
+/// Stores [`STORES`] values of [`STORED_LEN`] bytes in a temporary file in the folder, and returns the median and the
+/// 99th percentile of the times. The file is removed however this ends, or by a later measurement if the process is
+/// killed.
+pub fn measure(rt: &HostRuntime, folder: &str) -> Result<(Duration, Duration), MeasureFault> {
     let own = own_path(rt, folder)?;
     let path = own.as_str();
     let told = FirstFault::new();
     let disk = match FileDisk::create(rt, path) {
-        Ok(disk) => disk.telling(told.place()),
+        Ok(disk) => disk.telling(&told.0),
         Err(fault) => {
             let _ = fs::remove_file(rt, path);
             return Err(MeasureFault::File(fault));
@@ -137,7 +107,10 @@ fn store_all<'p>(
     rt: &'p HostRuntime,
     mut disk: FileDisk<'p, HostRuntime>,
     told: &FirstFault,
-) -> (FileDisk<'p, HostRuntime>, Result<StoreTimes, MeasureFault>)
+) -> (
+    FileDisk<'p, HostRuntime>,
+    Result<(Duration, Duration), MeasureFault>,
+)
     requires { IsUncalled disk }
 {
     if format(&mut disk, 0, 1).is_err() {
@@ -157,29 +130,18 @@ fn time_stores<D: Disk>(
     rt: &HostRuntime,
     segment: &mut Segment<D>,
     told: &FirstFault,
-) -> Result<StoreTimes, MeasureFault> {
+) -> Result<(Duration, Duration), MeasureFault> {
     let mut times = Vec::with_capacity(rt.alloc(), STORES)?;
     for _ in 0..STORES {
-        if times.push(time_store(rt, segment, told)?).is_err() {
-            return Err(MeasureFault::NoMemory);
+        let began = Instant::now(rt)?;
+        if segment.store(&[b'v'; STORED_LEN]).is_err() {
+            return Err(MeasureFault::Store(told.text(rt.alloc())));
         }
+        times.push(began.elapsed(rt)?)?;
     }
     times.sort_unstable();
     match (times.get(STORES / 2), times.get(STORES * 99 / 100)) {
-        (Some(&median), Some(&late)) => Ok(StoreTimes { median, late }),
-        _ => Err(MeasureFault::NoMemory),
+        (Some(&median), Some(&late)) => Ok((median, late)),
+        _ => Err(MeasureFault::NoMemory(AllocError)),
     }
-}
-
-/// The time of one store.
-fn time_store<D: Disk>(
-    rt: &HostRuntime,
-    segment: &mut Segment<D>,
-    told: &FirstFault,
-) -> Result<Duration, MeasureFault> {
-    let began = Instant::now(rt)?;
-    if segment.store(&[b'v'; STORED_LEN]).is_err() {
-        return Err(MeasureFault::Store(told.text(rt.alloc())));
-    }
-    Ok(began.elapsed(rt)?)
 }

@@ -192,8 +192,7 @@ impl Access {
         Ok(Bytes::from_vec(value)?)
     }
 
-    /// Copies the named segments' part of the view in the pinned record of `j`, an update's, to
-    /// `out`.
+    /// Copies the named segments' part of the view in the pinned record of `j`, an update's, to `out`.
     pub(crate) fn view(&mut self, j: usize, set: SegmentSet, out: &mut SnapshotBuf)
         requires segment { j < segments (view_of self.old).plan }
         requires updated { HasFoundUpdate (known_of self.old) j }

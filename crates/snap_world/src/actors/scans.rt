@@ -1,48 +1,31 @@
 //! The events of a scanner.
-ghost use Rattle.std.specs.Prelude.{◌≡◌, ◌<◌, ◌^◌, IfOk, OnErr};
+ghost use Rattle.std.specs.Prelude.{◌≡◌, IfOk, OnErr};
 ghost use Rattle.snap_world.specs.inside.Steps.{phases_of_actors, asking};
-ghost use Rattle.snap_world.specs.{Answers.set_of, Phases.ScannerIs, declared.event.Event.Event};
+ghost use Rattle.snap_world.specs.{Phases.ScannerIs, declared.event.Event.Event};
 ghost use Rattle.snap_world.specs.{inside.Stands.Stand, inside.NodeSteps.IsActorsStep, declared.event.Actor.Actor};
 
 use crate::actors::Actors;
 use crate::event::Reply;
 use crate::scanner::{Asked, ScannerPhase};
-use snap_scan::{Scan, SegmentSet};
+use snap_scan::Scan;
 use std::alloc::{AllocError, Global};
 
 impl Actors {
-    /// Begins a scan of all segments.
-    pub fn scan(&mut self, at: usize) -> Reply
+    /// Begins a scan of the segments that `asked` names: at least one, all of which have to exist.
+    pub fn ask(&mut self, at: usize, asked: Asked) -> Reply
         requires stands { Stand self.old }
-        ensures step { IsActorsStep self.old (Event.Scan at) result self.new }
+        ensures step { IsActorsStep self.old (asking at asked) result self.new }
     {
-        self.ask(at, Asked::All)
-    }
-
-    /// Begins a scan of these segments.
-    pub fn pick(&mut self, at: usize, set: SegmentSet) -> Reply
-        requires stands { Stand self.old }
-        ensures step { IsActorsStep self.old (Event.Pick at set) result self.new }
-    {
+        let set = asked.set(self.segments);
         if set.is_empty() || !set.is_among(self.segments) {
             return Reply::NotNow;
         }
-        self.ask(at, Asked::Only(set))
-    }
-
-    /// Begins a scan of the segments that `asked` names, at least one, all of which exist.
-    fn ask(&mut self, at: usize, asked: Asked) -> Reply
-        requires stands { Stand self.old }
-        requires some { 0 < set_of self.old.segments asked }
-        requires among { set_of self.old.segments asked < 2 ^ self.old.segments }
-        ensures step { IsActorsStep self.old (asking at asked) result self.new }
-    {
         if !self.scanner_is(at, ScannerPhase::Idle) {
             return Reply::NotNow;
         }
         let scanner = &mut self.scanners[at];
         scanner.asked = asked;
-        scanner.collector.scan = Scan::of(asked.set(self.segments));
+        scanner.collector.scan = Scan::of(set);
         scanner.phase = ScannerPhase::Scanning;
         Reply::ScanBegun
     }

@@ -58,7 +58,7 @@ impl Actors {
         let register = &mut self.registers[segment];
         let writer = &mut self.writers[segment];
         register.number += 1;
-        register.value.copy_from(&writer.value);
+        register.value.set(writer.value.as_slice());
         copy_all(&mut register.view, &writer.collector.memory);
         writer.phase = WriterPhase::Shown;
         Reply::Shown

@@ -26,14 +26,12 @@ impl WorldNode {
         let number = self.actors.registers[segment].number + 1;
         let drive = &mut self.drives[segment];
         let kind = drive.call(number, self.actors.writers[segment].value.as_slice());
-        match drive.persist.next() {
-            NextCall::Done => {
-                drive.persist = Persist::begin(true, slot_of(number + 1));
-                self.actors.end_store(segment);
-                Reply::Called(kind)
-            }
-            _ => Reply::Called(kind),
-        }
+        let NextCall::Done = drive.persist.next() else {
+            return Reply::Called(kind);
+        };
+        drive.persist = Persist::begin(true, slot_of(number + 1));
+        self.actors.end_store(segment);
+        Reply::Called(kind)
     }
 
     /// Makes a device call of a store, which fails: the segment is fenced.
@@ -53,9 +51,6 @@ impl WorldNode {
     fn may_store(&self, segment: usize) -> bool
         ensures { IsTrue result ↔ MayStore self.now segment }
     {
-        match self.phase {
-            NodePhase::Up => self.actors.writer_is(segment, WriterPhase::Storing),
-            _ => false,
-        }
+        self.phase == NodePhase::Up && self.actors.writer_is(segment, WriterPhase::Storing)
     }
 }

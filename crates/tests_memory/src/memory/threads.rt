@@ -101,8 +101,7 @@ fn work(worker: &mut Worker, course: &Course, size: Size) {
     }
 }
 
-/// Whether the worker did all of its work, and all that it saw is right and ordered with
-/// what each of these saw.
+/// Whether the worker did all of its work, and all that it saw is right and ordered with what each of these saw.
 fn did_all(worker: &Worker, others: &[Worker], scans: usize) -> bool {
     let record = match worker {
         Worker::Writer { is_done, .. } => return *is_done,

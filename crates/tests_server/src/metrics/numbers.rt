@@ -10,7 +10,7 @@ use std::time::Duration;
 
 #[test]
 fn counter_stays_at_the_largest(rt: HostRuntime) {
-    let counter = Counter::new();
+    let counter = Counter::default();
     assert!(rt; counter.get() == 0);
     counter.add(3);
     counter.add(4);
@@ -47,7 +47,7 @@ fn nanoseconds_stay_at_the_largest(rt: HostRuntime) {
 
 #[test]
 fn histogram_sorts_times(rt: HostRuntime) {
-    let histogram = Histogram::new();
+    let histogram = Histogram::default();
     for micros in [16, 17, 20, 40, 20_000_000] {
         histogram.observe(Some(Duration::from_micros(micros)));
     }

@@ -96,7 +96,7 @@ fn times(place: usize, count: u64, micros: u64) -> HistogramSnapshot {
 
 #[test]
 fn times_two_stores(rt: HostRuntime) -> Result<(), Fail> {
-    let metrics = SegmentMetrics::new();
+    let metrics = SegmentMetrics::default();
     let clock = Ticking::new(u64::MAX);
     let mut disk = TimedDisk::new(MemDisk::zeroed(rt.alloc(), 8)?, &clock, &metrics);
     assert!(rt; metrics.read().updated.is_none());
@@ -113,7 +113,7 @@ fn times_two_stores(rt: HostRuntime) -> Result<(), Fail> {
 
 /// The counts if the call of this number fails, and a whole store is made after it.
 fn with_fault(alloc: Global, number: u64) -> Result<(u64, u64, u64), AllocError> {
-    let metrics = SegmentMetrics::new();
+    let metrics = SegmentMetrics::default();
     let clock = Ticking::new(u64::MAX);
     let mut disk = TimedDisk::new(failing(alloc, number)?, &clock, &metrics);
     for one in STORE {
@@ -143,7 +143,7 @@ fn broken_store_is_not_counted(rt: HostRuntime) -> Result<(), Fail> {
 
 #[test]
 fn failing_clock_counts_no_times(rt: HostRuntime) -> Result<(), Fail> {
-    let metrics = SegmentMetrics::new();
+    let metrics = SegmentMetrics::default();
     let clock = Ticking::new(0);
     let mut disk = TimedDisk::new(MemDisk::zeroed(rt.alloc(), 8)?, &clock, &metrics);
     assert!(rt; count_failures(&mut disk, &STORE) == 0);
@@ -155,7 +155,7 @@ fn failing_clock_counts_no_times(rt: HostRuntime) -> Result<(), Fail> {
 
 #[test]
 fn clock_that_fails_within_a_store(rt: HostRuntime) -> Result<(), Fail> {
-    let metrics = SegmentMetrics::new();
+    let metrics = SegmentMetrics::default();
     let clock = Ticking::new(3);
     let mut disk = TimedDisk::new(MemDisk::zeroed(rt.alloc(), 8)?, &clock, &metrics);
     assert!(rt; count_failures(&mut disk, &STORE) == 0);
@@ -167,7 +167,7 @@ fn clock_that_fails_within_a_store(rt: HostRuntime) -> Result<(), Fail> {
 
 #[test]
 fn update_without_a_store_is_a_repeat(rt: HostRuntime) -> Result<(), Fail> {
-    let metrics = SegmentMetrics::new();
+    let metrics = SegmentMetrics::default();
     let clock = Ticking::new(u64::MAX);
     let mut disk = TimedDisk::new(MemDisk::zeroed(rt.alloc(), 8)?, &clock, &metrics);
     assert!(rt; count_failures(&mut disk, &STORE) == 0);

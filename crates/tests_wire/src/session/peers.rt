@@ -125,8 +125,7 @@ pub(crate) struct Peer {
 }
 
 impl Peer {
-    /// A peer that sends these bytes in such pieces, and may make its session wait at every other
-    /// step.
+    /// A peer that sends these bytes in such pieces, and may make its session wait at every other step.
     pub(crate) fn new(
         alloc: Global,
         bytes: &[u8],

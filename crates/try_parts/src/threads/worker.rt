@@ -39,8 +39,7 @@ impl Client {
         }
     }
 
-    /// Sends the last update again, which is answered as before, and then the next one. Whether it
-    /// was stored.
+    /// Sends the last update again, which is answered as before, and then the next one. Whether it was stored.
     fn send(&mut self) -> bool {
         let segment = self.writer.segment();
         let number = self.writer.number();

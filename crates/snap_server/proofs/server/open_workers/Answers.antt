@@ -13,7 +13,8 @@ services-preserved g c =
     (c.is_err-else-is_err.ensures.negation ∙ ap not c.if-is_err-2.false) in
     record {
       made = made_more _ c.services.workers.items _ c.in_ok-worker.worker _ _ _ c.services.invariant.made one_more
-          (next ∙ ap (λ s. s ∷ into_iter_items c.next.new.self) (sym c.in_ok-worker.ensures.service));
+          (next ∙ ap (λ s. s ∷ into_iter_items c.next.new.self)
+          (sym (ap (λ gated. gated.service) c.in_ok-worker.ensures.service)));
       places = numbered_more _ c.services.workers.items _ c.in_ok-worker.worker c.services.invariant.places one_more
           (c.in_ok-worker.ensures.mailbox ∙ c.len-place.ensures ∙ c.services.workers.ok.0);
       theirs = numbered_more _ c.services.senders.items _ c.in_ok-worker.sender c.services.invariant.theirs door_more
@@ -31,7 +32,6 @@ returns g c =
     let made = made_all _ _ _ _ c.services.invariant.made (sym c.services.invariant.long ∙ c.in-None.ensures.steps.0) in
     record {
       workers = made;
-      senders = c.services.senders.ok.0 ∙ c.services.invariant.senders ∙ made_len _ _ _ made ∙ sym c.args.services.ok.0;
       places = c.services.invariant.places ∙ ap (range_with_len 0) (made_len _ _ _ made ∙ sym c.args.services.ok.0);
       theirs = c.services.invariant.theirs ∙ ap (range_with_len 0) (c.services.invariant.senders ∙ made_len _ _ _ made
           ∙ sym c.args.services.ok.0);

@@ -4,7 +4,8 @@ use Rattle.snap_server.proofs.server.open_workers.Given as goal
 
 abbrev pub invariant-services : goal.invariant-services
 invariant-services g l = record {
-  made : map (λ one. one.sessions.service) l.workers.items ++ into_iter_items l.service-iterator ≡ l.fn.services.items;
+  made : map (λ one. one.sessions.service.service) l.workers.items ++ into_iter_items l.service-iterator
+      ≡ l.fn.services.items;
   places : map (λ one. one.mailbox.place) l.workers.items ≡ range_with_len 0 (length l.workers.items);
   theirs : map (λ one. one.place) l.senders.items ≡ range_with_len 0 (length l.senders.items);
   senders : length l.senders.items ≡ length l.workers.items;

@@ -9,10 +9,10 @@ workers-preserved g c =
     c.next.new.self =
     c.in-Some.ensures.steps.0 in
     record {
-      made = made_more _ c.workers.threads.items _ c.in-Some-start.thread _ _ _ c.workers.invariant.made
+      made = made_more _ c.workers.threads.items _ c.in-Ok.thread _ _ _ c.workers.invariant.made
           (pushed _ _ _ _ c.push.ensures.items (c.is_err.ensures.negation ∙ ap not c.if-is_err.false))
           (next ∙ ap (λ s. s ∷ into_iter_items c.next.new.self)
-          (sym (ap (λ p. p.worker.value) c.in-Some-start.ensures ∙ c.of-worker_then.ensures)));
+          (sym (ap (λ p. p.worker.value) c.in-Ok.ensures.ok ∙ c.of.ensures)));
       long = omega (arith, c.workers.invariant.long, c.in-Some.ensures.steps.1, ap length next);
     }
 

@@ -35,11 +35,13 @@ loop-segment-preserved c =
           let v = w.index.result.now in
           let value : v ≡ value_in memory k = sym (get_or_from_slice_get memory k v []
           (slice_get_read memory (length memory) k v refl there w.index.ensures)) in
+          let copied : w.in_ok-value.value.items ≡ value_in memory k =
+          w.in_ok-value.ensures.items_if_clones_equal (λ x y e. e) ∙ w.as_slice.ensures.bytes ∙ value in
           let entry : PartEntry = record { segment = k; value = w.in_ok-value.value } in record {
             set = refl;
             entries = ap (λ p. map pair_of p.items) w.part-is ∙ ap (map pair_of) w.in_ok-push.ensures.items
                 ∙ map_push pair_of c.loop-segment.part.items entry ∙ ap (λ xs. xs ++ pair_of entry ∷ []) inv.entries
-                ∙ ap (behind (map (entry_in memory) (named_below set k)) k) (w.in_ok-value.ensures ∙ value)
+                ∙ ap (behind (map (entry_in memory) (named_below set k)) k) copied
                 ∙ sym (map_push (entry_in memory) (named_below set k) k)
                 ∙ ap (map (entry_in memory)) (sym (with set k names) ∙ ap (named_below set) one);
           })

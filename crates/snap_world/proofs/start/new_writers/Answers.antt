@@ -9,6 +9,6 @@ loop-i-preserved c = record {
   count = ap length c.in_ok-push.ensures.items ∙ length_push c.loop-i.writers.items _
       ∙ ap (λ k. k + 1) c.loop-i.invariant.count;
   each = λ i x e. get-push (IsFreshWriter c.args.segments) c.loop-i.writers.items _
-      c.loop-i.invariant.each (record { phase = refl; size = c.in_ok-collector.ensures }) i x
+      c.loop-i.invariant.each (record { phase = refl; size = c.in_ok-new_collector.ensures }) i x
       (subst (λ v. slice_get v i ≡ Some x) c.in_ok-push.ensures.items e);
 }

@@ -4,8 +4,7 @@ use crate::seats::is_value_of;
 use snap_memory::{SegmentSet, Snapshot};
 use snap_scan::MAX_SEGMENTS;
 
-/// A scan: of which segments, what had ended before it, the numbers that it answered, and what had
-/// begun after it.
+/// A scan: of which segments, what had ended before it, the numbers that it answered, and what had begun after it.
 #[derive(Drop)]
 pub(crate) struct Seen {
     pub(crate) set: SegmentSet,

@@ -13,12 +13,12 @@ invariant_of-self g c =
     let Asks : WriterState _ → Type 0 = λ w. asked (own_of w.seat) c.args.number c.args.value.now in
     let is_of = subst Of same c.self.invariant.0 in
     let asks = subst Asks (sym c.self.view_is ∙ same) c.requires.asked in
-    let done = c.update.ensures.updated in
-    let shown = c.update.ensures.shown in (
+    let done = c.update-told.ensures.updated in
+    let shown = c.update-told.ensures.shown in (
       record {
         table_is = done.same_seat.table ∙ is_of.table_is;
         plan_is = done.same_seat.plan ∙ is_of.plan_is;
       },
-      asked_update asked c.as_mut.result.now c.update.new.writer c.args.number c.args.value.now asks
-          (subst Stores same c.self.invariant.1) g.D.Disk c.update.result shown.1 shown.0 done,
+      asked_update asked c.as_mut.result.now c.update-told.new.writer c.args.number c.args.value.now asks
+          (subst Stores same c.self.invariant.1) g.D.Disk c.update-told.result shown.1 shown.0 done,
     )

@@ -8,3 +8,6 @@ returns-clause-settled g c =
     let P : ℕ → Type 0 = λ i. IsSettledAt reply.new.scanner i c.args.number c.args.value.now reply.result in
     subst P (c.update-told.ensures.updated.same_seat.low ∙ c.in_ok-writer.ensures)
     (reply.ensures.settled _ _ c.update-told.ensures.tellable)
+
+pub returns-clause-limits : goal.returns-clause-limits
+returns-clause-limits g c = c.reply_told-reply.ensures.limits _ _ c.update-told.ensures.tellable

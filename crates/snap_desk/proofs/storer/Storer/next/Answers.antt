@@ -14,9 +14,9 @@ returns-clause-stored g c =
     IsUpdated g.D.Disk c.in_ok-writer.writer outcome.writer job.number job.value outcome.told in
     record {
       writer = c.in_ok-writer.writer;
-      own = c.in_ok-writer.ensures ∙ sym c.self.invariant ∙ ap segment c.self.view_is;
+      own = c.in_ok-writer.ensures ∙ ap segment c.self.view_is ∙ ap segment waited;
       updated = subst P (sym c.store_one-outcome.ensures.job) c.store_one-outcome.ensures.updated;
-      same = ap segment after ∙ ap segment waited ∙ ap segment c.self.view_is;
-      one = ap taken after ∙ ap next_count (ap taken waited ∙ ap taken c.self.view_is);
+      same = ap segment after ∙ ap segment waited;
+      one = ap taken after ∙ ap next_count (ap taken waited);
       no_more = ap (λ (q : Queued). q.came) after ∙ c.wait.ensures.one c.if-not-wait.false ∙ sym (ap taken after);
     }

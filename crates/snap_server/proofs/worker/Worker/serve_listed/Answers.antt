@@ -15,7 +15,7 @@ round-preserved g c =
     let more : i < length keys = omega (
       arith,
       c.round-test.true,
-      c.turns-end.ensures,
+      c.len-end.ensures,
       c.args.self.now.sessions.listed.ok.0,
     ) in
     let first = next_first g.S.Service.gives PIECE keys i _ _ _ _ _ round more in
@@ -32,7 +32,7 @@ returns-clause-turns g c = λ key b d old new.
       arith,
       c.round-test.false,
       c.round.auto.counter-end,
-      c.turns-end.ensures,
+      c.len-end.ensures,
       c.args.self.now.sessions.listed.ok.0,
     ) in
     round_done g.S.Service.gives PIECE c.args.self.now.sessions.listed.items c.round.counter _ _

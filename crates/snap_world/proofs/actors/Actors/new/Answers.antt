@@ -6,13 +6,13 @@ pub returns : goal.returns
 returns c =
     let w : Actors = record {
       segments = c.args.segments;
-      registers = c.in_ok-registers.registers;
-      writers = c.in_ok-writers.writers;
-      scanners = c.in_ok-scanners.scanners;
+      registers = c.in_ok-new_registers.field-0;
+      writers = c.in_ok-new_writers.field-0;
+      scanners = c.in_ok-new_scanners.field-0;
     } in
-    let a = c.in_ok-registers.ensures in
-    let b = c.in_ok-writers.ensures in
-    let d = c.in_ok-scanners.ensures in record {
+    let a = c.in_ok-new_registers.ensures in
+    let b = c.in_ok-new_writers.ensures in
+    let d = c.in_ok-new_scanners.ensures in record {
       segments = refl;
       phases = phases_idle w c.args.segments c.args.scanners b.0 d.0
           (λ i x e. (b.1 i x e).phase) (λ i x e. (d.1 i x e).phase);

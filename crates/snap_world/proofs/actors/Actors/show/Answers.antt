@@ -40,7 +40,7 @@ returns c =
     let new : WriterActor = record old { phase = writer.Shown } in
     let register : Register = record {
       number = c.index_mut-register.result.now.number + 1;
-      value = c.copy_from.new.self;
+      value = c.set.new.self;
       view = c.copy_all.new.to;
     } in record {
       step = came w _ _ _ (λ e. cc) (λ _ _ _ _ _ _. (refl, tt)) refl (λ ds x up. (
@@ -54,7 +54,7 @@ returns c =
           let u : Update = record { segment = i; value = v } in
           let state : WriterState = record (a.state) { pending = Shown v; view = a.state.scan.moment } in
           let here_r = shown_register w.segments h u register (ap (λ y. y + 1) r.number)
-          c.copy_from.ensures (ap length c.copy_all.ensures ∙ a.size) in
+          (c.set.ensures ∙ c.as_slice.ensures.bytes) (ap length c.copy_all.ensures ∙ a.size) in
           let here_v = shown_view h u w.segments i register stands.since state answer.p answer.moment (record {
             until = omega (arith, begun.gathers.end, answer.is_moment.until);
             before = ap (λ y. y + 1) (own_moment w.segments h stands.since i old a.state begun answer.p

@@ -21,5 +21,5 @@ returns-in_default-next c = record {
       (sym c.next.ensures.same ∙ c.in-Look.is) c.args.registers.now.items born regs c.index-register.result.now
       c.index-register.ensures c.told.new.self c.told.ensures.set c.told.ensures.told c.next-2.result
       c.next-2.ensures.same c.next-2.ensures.decides c.in_default-next.not-Borrow _ refl
-      (ap (slice_set c.args.self.now.memory.items c.in-Look.segment) c.copy_from.ensures);
+      (ap (slice_set c.args.self.now.memory.items c.in-Look.segment) (c.set.ensures ∙ c.as_slice.ensures.bytes));
 }

@@ -7,8 +7,8 @@ use Rattle.snap_world.specs.{Calls.store_call, declared.drive.Drive.Drive}
 use Rattle.snap_persist.specs.{declared.persist.NextCall.TheVariants.Done}
 use Rattle.snap_world.proofs.node.WorldNode.call.Goals as goal
 
-pub returns-in-Done : goal.returns-in-Done
-returns-in-Done c =
+pub returns : goal.returns
+returns c =
     let w = c.args.self.now in
     let i = c.args.segment in
     let may = c.if-not-may_store.ensures.0 refl in
@@ -30,7 +30,7 @@ returns-in-Done c =
             tt,
             call_ends w x stands i may d read e kind c.index.result.now.number c.as_slice.result.now
                 (number_is w x stands i may c.index.result.now c.index.ensures)
-                (c.as_slice.ensures ∙ value_is w x stands i may c.index-2.result.now c.index-2.ensures)
+                (c.as_slice.ensures.bytes ∙ value_is w x stands i may c.index-2.result.now c.index-2.ensures)
                 c.call-kind.ensures.made mid.persist actors c.call-kind.ensures.kind at done
                 c.begin-drive.ensures.stage (c.begin-drive.ensures.slot ∙ c.slot_of.ensures)
                 c.end_store.ensures.segments
@@ -54,7 +54,7 @@ returns-in_default c =
         tt,
         call_goes w x stands i may d read e kind c.index.result.now.number c.as_slice.result.now
             (number_is w x stands i may c.index.result.now c.index.ensures)
-            (c.as_slice.ensures ∙ value_is w x stands i may c.index-2.result.now c.index-2.ensures)
+            (c.as_slice.ensures.bytes ∙ value_is w x stands i may c.index-2.result.now c.index-2.ensures)
             c.call-kind.ensures.made c.call-kind.ensures.kind c.call-kind.ensures.slot c.call-kind.ensures.stage going,
       ));
     }

@@ -17,32 +17,32 @@ ready_of i n d is = record { spare_open = false; rest = is.rest; slot = is.slot;
 pub returns-clause-phases : goal.returns-clause-phases
 returns-clause-phases c =
     let n = c.args.segments in
-    let drives = c.in_ok-drives.drives.items in
-    let w : WorldNode = record { phase = Up; actors = c.in_ok-actors.actors; drives = c.in_ok-drives.drives } in
-    same_phases (start_world_phases n c.args.scanners) (phases_of_node w) refl c.in_ok-actors.ensures.phases
-    (all_same store_left (store_calls false) drives n c.in_ok-drives.ensures.0
-    (λ i d e. ap calls_left (c.in_ok-drives.ensures.1 i d e).stage))
+    let drives = c.in_ok-new_drives.field-0.items in
+    let w : WorldNode = record { phase = Up; actors = c.in_ok-new.field-0; drives = c.in_ok-new_drives.field-0 } in
+    same_phases (start_world_phases n c.args.scanners) (phases_of_node w) refl c.in_ok-new.ensures.phases
+    (all_same store_left (store_calls false) drives n c.in_ok-new_drives.ensures.0
+    (λ i d e. ap calls_left (c.in_ok-new_drives.ensures.1 i d e).stage))
 
 pub returns-clause-stands : goal.returns-clause-stands
 returns-clause-stands c =
     let n = c.args.segments in
-    let same = c.in_ok-actors.ensures.segments in record {
-      drives_n = c.in_ok-drives.ensures.0 ∙ sym same;
+    let same = c.in_ok-new.ensures.segments in record {
+      drives_n = c.in_ok-new_drives.ensures.0 ∙ sym same;
       at = record {
-        actors_stand = c.in_ok-actors.ensures.stands;
+        actors_stand = c.in_ok-new.ensures.stands;
         drives_stand = λ i d s phase ed es ep. (
             let idle : writer.Idle ≡ phase = get-replicate n i writer.Idle phase
-            (subst (λ (p : Phases). slice_get p.writers i ≡ Some phase) c.in_ok-actors.ensures.phases ep) in
-            subst (λ z. DriveStands c.in_ok-actors.actors.segments [] i z s.pending d) idle (subst (λ m. DriveStands m
-            [] i writer.Idle s.pending d) (sym same) (ready_of i n d (c.in_ok-drives.ensures.1 i d ed))));
+            (subst (λ (p : Phases). slice_get p.writers i ≡ Some phase) c.in_ok-new.ensures.phases ep) in
+            subst (λ z. DriveStands c.in_ok-new.field-0.segments [] i z s.pending d) idle (subst (λ m. DriveStands m
+            [] i writer.Idle s.pending d) (sym same) (ready_of i n d (c.in_ok-new_drives.ensures.1 i d ed))));
       };
     }
 
 pub returns-clause-devices : goal.returns-clause-devices
 returns-clause-devices c =
-    let drives = c.in_ok-drives.drives.items in record {
-      size = length-map drives device_of ∙ c.in_ok-drives.ensures.0;
+    let drives = c.in_ok-new_drives.field-0.items in record {
+      size = length-map drives device_of ∙ c.in_ok-new_drives.ensures.0;
       each = λ i d e. (
           let drive = map_element device_of drives i d e in
-          subst (IsAtRest i c.args.segments 0 [] false) drive.2 (c.in_ok-drives.ensures.1 i drive.0 drive.1).rest);
+          subst (IsAtRest i c.args.segments 0 [] false) drive.2 (c.in_ok-new_drives.ensures.1 i drive.0 drive.1).rest);
     }

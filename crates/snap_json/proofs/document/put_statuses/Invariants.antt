@@ -1,7 +1,0 @@
-use Rattle.std.proofs.Common.{◌≡◌, ◌++◌, take}
-use Rattle.snap_json.specs.{Each.each_from, Documents.status_tokens}
-use Rattle.snap_json.proofs.document.put_statuses.Given as goal
-
-abbrev pub invariant-loop-index : goal.invariant-loop-index
-invariant-loop-index l = (l.writer.tokens ≡ l.fn.writer.tokens ++ each_from status_tokens 0 (take l.index l.statuses))
-    × (l.writer.before ≡ l.fn.writer.before)

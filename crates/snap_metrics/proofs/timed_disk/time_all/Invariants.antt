@@ -1,0 +1,11 @@
+use Rattle.std.proofs.Common.{◌≡◌, ◌≤◌, length, drop}
+use Rattle.std.specs.Vec.Iter.{into_iter_items, into_iter_len}
+use Rattle.snap_metrics.proofs.timed_disk.time_all.Given as goal
+
+abbrev pub invariant-devices : goal.invariant-devices
+invariant-devices g l = record {
+  rest : into_iter_items l.device-iterator ≡ drop (length l.yielded) l.fn.devices.items;
+  long : into_iter_len l.device-iterator ≡ length (into_iter_items l.device-iterator);
+  within : length l.yielded ≤ length l.fn.devices.items;
+  timed : l.timed.items ≡ l.yielded;
+}
