@@ -1,7 +1,7 @@
 //! Writers return to their storers when a worker ends, and a desk whose storers have ended refuses new updates.
 use crate::frames::{EMPTY, FENCED, HI, Pair, REPEAT, SCAN, STORED_0, halves};
 use crate::stores::{new_files, open};
-use crossbeam_channel::{Sender, bounded};
+use crossbeam_channel::{Sender, unbounded};
 use snap_desk::{Desk, NoUpdateObserver, Outcome, Storer};
 use snap_devices::MemDisk;
 use snap_memory::Scanner;
@@ -79,7 +79,7 @@ fn run_memory<R: Threads + Wait + Clock + Sync + Send + Copy, M: Memory + Send>(
     if !has_storers {
         storers.clear();
     }
-    let (to, inbox) = bounded::<Completion<Outcome<R, M, MemDisk>>, _>(alloc, 4)?;
+    let (to, inbox) = unbounded::<Completion<Outcome<R, M, MemDisk>>, _>(alloc)?;
     let all = storers.as_mut_slice();
     let ((), written) = join(
         rt,
