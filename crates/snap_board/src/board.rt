@@ -4,8 +4,7 @@ ghost use Rattle.std.specs.List.{list_all, list_any};
 ghost use Rattle.snap_board.specs.Pages as pages;
 ghost use Rattle.snap_frame.specs.declared.request.Request.TheVariants as requests;
 
-use crate::fact_source::FactSource;
-use crate::facts::ServerFacts;
+use crate::facts::FactSource;
 use crate::figures::figures_document;
 use crate::home::HOME;
 use crate::metrics::metrics_text;
@@ -19,7 +18,6 @@ use http_server::Response;
 use httpdate::HttpDate;
 use snap_frame::{Reply, SegmentStatus};
 use snap_json::{health_document, scan_document, status_document};
-use snap_metrics::milliseconds_of;
 use snap_session::Service;
 use std::alloc::{AllocError, Global};
 
@@ -141,23 +139,12 @@ impl<S: Service + Drop, X: FactSource + Drop> Board<S, X> {
     fn tell_metrics(&self, page: Page, statuses: &[SegmentStatus]) -> Result<PageAnswer, AllocError>
         ensures { IfOk result (λ a. a.status ≡ 200) }
     {
-        let reading = self.surroundings.reading(self.alloc)?;
-        let surroundings = &self.surroundings;
-        let facts = ServerFacts {
-            reading: &reading,
-            statuses,
-            version: surroundings.version(),
-            addresses: surroundings.addresses(),
-            files: surroundings.files(),
-            uptime: surroundings.uptime().map(|time| milliseconds_of(time)),
-            time: surroundings.now_millis(),
-            resident: surroundings.resident_bytes(),
-        };
+        let facts = self.surroundings.facts(self.alloc, statuses)?;
         if let Page::Stats = page {
             let text = figures_document(self.alloc, &facts)?;
             return PageAnswer::made(StatusCode::OK, ContentKind::Json, text);
         }
-        let text = metrics_text(self.alloc, &facts, &surroundings.usage())?;
+        let text = metrics_text(self.alloc, &facts, &self.surroundings.usage())?;
         PageAnswer::made(StatusCode::OK, ContentKind::Metrics, text.into_bytes())
     }
 

@@ -43,7 +43,7 @@ fn put_server(writer: &mut Writer, facts: &ServerFacts) -> Result<(), AllocError
         writer.string(address.as_str())?;
     }
     writer.end_array()?;
-    let reading = facts.reading;
+    let reading = &facts.reading;
     let connections = [("total", reading.accepted), ("open", reading.open)];
     put_object(writer, "connections", &connections)
 }

@@ -8,7 +8,6 @@
 
 mod board;
 mod document;
-mod fact_source;
 mod facts;
 mod figures;
 mod history;
@@ -22,7 +21,7 @@ mod server;
 mod style;
 
 pub use board::Board;
-pub use fact_source::{FactSource, Usage};
+pub use facts::{FactSource, ServerFacts, Usage};
 pub use history::History;
 pub use page::Page;
 pub use server::{Beat, HttpServer, MAX_CONNECTIONS, StopHandle};

@@ -4,8 +4,7 @@
 ghost use Rattle.std.specs.Prelude.{◌<◌};
 ghost use Rattle.snap_metrics.specs.declared.snapshot.TheConstants.{BOUNDS};
 
-use crate::fact_source::Usage;
-use crate::facts::{ServerFacts, name_of};
+use crate::facts::{ServerFacts, Usage, name_of};
 use crate::metric::Unit::{Microsecond, Millisecond, Nanosecond, Whole};
 use crate::metric::{Amount, Escaped, put_head, put_singles};
 use snap_disk::Refusal;
@@ -20,7 +19,7 @@ pub(crate) fn metrics_text(
     usage: &Usage,
 ) -> Result<String, AllocError> {
     let mut out = String::new(alloc);
-    let reading = facts.reading;
+    let reading = &facts.reading;
     put_version(&mut out, "snapd_info", facts.version)?;
     put_singles(
         &mut out,

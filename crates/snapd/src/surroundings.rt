@@ -2,10 +2,11 @@
 //! processor time and clocks.
 
 use snap_args::VERSION;
-use snap_board::{Beat, FactSource, History, Usage};
+use snap_board::{Beat, FactSource, History, ServerFacts, Usage};
 use snap_file_commands::system::limit_of;
+use snap_frame::SegmentStatus;
 use snap_log::Lines;
-use snap_metrics::{Metrics, MetricsSnapshot};
+use snap_metrics::{Metrics, milliseconds_of};
 use std::alloc::{AllocError, Global};
 use std::rt::Clock;
 use std::sync::Wait;
@@ -62,6 +63,11 @@ fn ignored_signals(rt: &HostRuntime) -> Option<u64> {
 }
 
 impl Process<'_> {
+    /// The time since its start; `None` if no clock can be read.
+    fn uptime(&self) -> Option<Duration> {
+        self.began?.elapsed(self.rt).ok()
+    }
+
     /// The number at this place in the memory report, in bytes.
     fn memory_at(&self, place: usize) -> Option<u64> {
         let numbers = fs::read_to_string(self.rt, MEMORY).ok()?;
@@ -119,31 +125,33 @@ impl<X: Wait + Clock> Beat for Seen<'_, '_, X> {
         let Ok(reading) = self.process.metrics.read(self.process.rt.alloc()) else {
             return;
         };
-        if let Some(uptime) = self.uptime() {
+        if let Some(uptime) = self.process.uptime() {
             self.history.take(&reading, uptime);
         }
     }
 }
 
 impl<X: Wait + Clock> FactSource for Seen<'_, '_, X> {
-    ghost use Rattle.snap_args.specs.declared.grammar.TheConstants.{VERSION};
-
-    ghost version_of = { λ _. VERSION.now };
-
-    fn reading(&self, alloc: Global) -> Result<MetricsSnapshot, AllocError> {
-        self.process.metrics.read(alloc)
-    }
-
-    fn uptime(&self) -> Option<Duration> {
-        self.process.began?.elapsed(self.process.rt).ok()
+    fn facts<'a>(
+        &'a self,
+        alloc: Global,
+        statuses: &'a [SegmentStatus],
+    ) -> Result<ServerFacts<'a>, AllocError> {
+        let process = self.process;
+        Ok(ServerFacts {
+            reading: process.metrics.read(alloc)?,
+            statuses,
+            version: VERSION,
+            addresses: process.addresses.as_slice(),
+            files: process.files.as_slice(),
+            uptime: process.uptime().map(|time| milliseconds_of(time)),
+            time: self.now_millis(),
+            resident: process.memory_at(1),
+        })
     }
 
     fn now_millis(&self) -> Option<u64> {
         millis_since_1970(self.process.rt)
-    }
-
-    fn resident_bytes(&self) -> Option<u64> {
-        self.process.memory_at(1)
     }
 
     fn usage(&self) -> Usage {
@@ -160,17 +168,5 @@ impl<X: Wait + Clock> FactSource for Seen<'_, '_, X> {
 
     fn history(&self) -> &History {
         self.history
-    }
-
-    fn version(&self) -> &str {
-        VERSION
-    }
-
-    fn addresses(&self) -> &[String] {
-        self.process.addresses.as_slice()
-    }
-
-    fn files(&self) -> &[&str] {
-        self.process.files.as_slice()
     }
 }

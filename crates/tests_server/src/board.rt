@@ -11,7 +11,7 @@ use std::io;
 use std::process::Abort;
 use std::test::Fail;
 use std::time::Duration;
-use told::{ALL_FENCED, Around, FENCED, NOTHING, REFUSED, SCAN, STATUS, Teller};
+use told::{ALL_FENCED, Around, FENCED, NOTHING, REFUSED, SCAN, STATUS, Teller, reading};
 
 /// The bytes that a board answers to these requests on one connection, over a service with these replies.
 fn conversation(
@@ -330,7 +330,7 @@ fn metrics_are_these_lines(rt: HostRuntime) -> Result<(), Fail> {
 #[test]
 fn the_history_keeps_three_minutes(rt: HostRuntime) -> Result<(), Fail> {
     let alloc = rt.alloc();
-    let reading = Around::new(alloc)?.reading(alloc)?;
+    let reading = reading(alloc)?;
     let history = History::new(alloc);
     assert!(rt; history.document(alloc)?.as_slice() == b"{\"samples\":[]}\n".as_slice());
     for number in 1..400 {

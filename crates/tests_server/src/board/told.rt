@@ -1,7 +1,7 @@
 //! The replies and facts that a board shows in the tests.
-use snap_board::{FactSource, History, Usage};
+use snap_board::{FactSource, History, ServerFacts, Usage};
 use snap_disk::Refusal;
-use snap_frame::{Reply, ReplyFeed, Request};
+use snap_frame::{Reply, ReplyFeed, Request, SegmentStatus};
 use snap_metrics::{BOUNDS, HistogramSnapshot, MetricsSnapshot, RequestCounts, SegmentSnapshot};
 use snap_session::Service;
 use std::alloc::{AllocError, Global};
@@ -92,7 +92,7 @@ impl Around {
         };
         around
             .history
-            .take(&around.reading(alloc)?, Duration::from_millis(1_001));
+            .take(&reading(alloc)?, Duration::from_millis(1_001));
         Ok(around)
     }
 }
@@ -130,42 +130,25 @@ fn tally() -> RequestCounts {
 }
 
 impl FactSource for Around {
-    ghost version_of = { λ _. codes "1.2\"3\\" };
-
-    fn reading(&self, alloc: Global) -> Result<MetricsSnapshot, AllocError> {
-        let mut segments = Vec::new(alloc);
-        segments.push(SegmentSnapshot {
-            stores: six(3_000_000_004),
-            first_waits: six(9),
-            second_waits: six(10),
-            repeats: 8,
-            updated: Some(1_000),
-        })?;
-        segments.push(SegmentSnapshot {
-            stores: NEVER,
-            first_waits: NEVER,
-            second_waits: NEVER,
-            repeats: 0,
-            updated: None,
-        })?;
-        Ok(MetricsSnapshot {
-            requests: tally(),
-            segments,
-            accepted: 40,
-            open: 41,
+    fn facts<'a>(
+        &'a self,
+        alloc: Global,
+        statuses: &'a [SegmentStatus],
+    ) -> Result<ServerFacts<'a>, AllocError> {
+        Ok(ServerFacts {
+            reading: reading(alloc)?,
+            statuses,
+            version: "1.2\"3\\",
+            addresses: self.addresses.as_slice(),
+            files: self.files.as_slice(),
+            uptime: Some(61_002),
+            time: self.now_millis(),
+            resident: Some(4_096),
         })
-    }
-
-    fn uptime(&self) -> Option<Duration> {
-        Some(Duration::from_millis(61_002))
     }
 
     fn now_millis(&self) -> Option<u64> {
         Some(2_500)
-    }
-
-    fn resident_bytes(&self) -> Option<u64> {
-        Some(4_096)
     }
 
     fn usage(&self) -> Usage {
@@ -183,16 +166,29 @@ impl FactSource for Around {
     fn history(&self) -> &History {
         &self.history
     }
+}
 
-    fn version(&self) -> &str {
-        "1.2\"3\\"
-    }
-
-    fn addresses(&self) -> &[String] {
-        self.addresses.as_slice()
-    }
-
-    fn files(&self) -> &[&str] {
-        self.files.as_slice()
-    }
+/// Metrics of which no two are the same.
+pub(crate) fn reading(alloc: Global) -> Result<MetricsSnapshot, AllocError> {
+    let mut segments = Vec::new(alloc);
+    segments.push(SegmentSnapshot {
+        stores: six(3_000_000_004),
+        first_waits: six(9),
+        second_waits: six(10),
+        repeats: 8,
+        updated: Some(1_000),
+    })?;
+    segments.push(SegmentSnapshot {
+        stores: NEVER,
+        first_waits: NEVER,
+        second_waits: NEVER,
+        repeats: 0,
+        updated: None,
+    })?;
+    Ok(MetricsSnapshot {
+        requests: tally(),
+        segments,
+        accepted: 40,
+        open: 41,
+    })
 }
