@@ -44,40 +44,12 @@ impl Destination {
 }
 
 /// Whether `named`, the variable's value, is `DEVICE:INODE` with these numbers.
-fn is_named(alloc: Global, named: &[u8], device: u64, inode: u64) -> Result<bool, AllocError> {
+pub(crate) fn is_named(
+    alloc: Global,
+    named: &[u8],
+    device: u64,
+    inode: u64,
+) -> Result<bool, AllocError> {
     let stream = format!(in alloc; "{device}:{inode}")?;
     Ok(named == stream.as_bytes())
-}
-
-#[cfg(test)]
-mod tests {
-    use super::*;
-    use std::test::Fail;
-
-    #[test]
-    fn names_a_stream(rt: HostRuntime) -> Result<(), Fail> {
-        assert!(rt; is_named(rt.alloc(), b"9:4711", 9, 4711)?);
-        assert!(rt; is_named(rt.alloc(), b"0:18446744073709551615", 0, u64::MAX)?);
-        for other in [
-            b"9:471".as_slice(),
-            b"9:47110",
-            b"8:4711",
-            b"9:",
-            b":4711",
-            b"",
-            b"9 4711",
-            b"4711:9",
-        ] {
-            assert!(rt; !is_named(rt.alloc(), other, 9, 4711)?, "{other:?}");
-        }
-        Ok(())
-    }
-
-    #[test]
-    fn is_no_journal_here(rt: HostRuntime) {
-        assert_eq!(rt;
-            Destination::of_standard_error(&rt, rt.alloc()),
-            Destination::Other
-        );
-    }
 }

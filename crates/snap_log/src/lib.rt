@@ -19,7 +19,6 @@
 mod destination;
 mod line;
 mod lines;
-mod message;
 mod output;
 mod stamp;
 #[cfg(test)]

@@ -42,32 +42,3 @@ fn push_char(line: &mut String, c: char) -> Result<(), AllocError> {
         _ => line.push(c),
     }
 }
-
-#[cfg(test)]
-mod tests {
-    use super::*;
-    use std::test::Fail;
-
-    #[test]
-    fn shows_a_text_on_one_line(rt: HostRuntime) -> Result<(), Fail> {
-        for (text, line) in [
-            ("", "WARN accept: \n"),
-            ("full: 97 open", "WARN accept: full: 97 open\n"),
-            ("a\nERROR b: c\r\n", "WARN accept: a\\nERROR b: c\\r\\n\n"),
-            (
-                "\t\u{1b}[31m\0\u{7f}",
-                "WARN accept: \\t\\u{1b}[31m\\u{0}\\u{7f}\n",
-            ),
-            (
-                "é\u{85}\u{2028}→ \\n",
-                "WARN accept: é\\u{85}\\u{2028}→ \\n\n",
-            ),
-        ] {
-            let shown = line_of(rt.alloc(), "", Level::Warn, "accept", text)?;
-            assert_eq!(rt; shown.as_str(), line);
-        }
-        let shown = line_of(rt.alloc(), "now ", Level::Error, "a\nb", "c")?;
-        assert_eq!(rt; shown.as_str(), "now ERROR a\\nb: c\n");
-        Ok(())
-    }
-}

@@ -4,7 +4,6 @@ ghost use Rattle.log.specs.Level.{allows};
 
 use crate::Destination;
 use crate::line::line_of;
-use crate::message::MessageText;
 use crate::stamp::{beginning, stamp};
 use crossbeam_channel::{Receiver, Sender, unbounded};
 use log::kv::Source;
@@ -103,7 +102,7 @@ impl<'a, R: Wait + Clock> Lines<'a, R> {
         record: &Record<'_, D, K, S>,
     ) -> Result<String, AllocError> {
         let stamp = stamp(self.rt, self.destination);
-        let text = format!(in self.alloc; "{}", MessageText(record))?;
+        let text = format!(in self.alloc; "{}", record.args())?;
         line_of(
             self.alloc,
             beginning(self.destination, record.level(), stamp.as_str()),

@@ -32,25 +32,6 @@ pub(crate) fn beginning<'a>(destination: Destination, level: Level, time: &'a st
 }
 
 /// A time in RFC 3339 format, in UTC and cut to milliseconds, and a space.
-fn stamp_of(now: Timestamp) -> InlineText<ROOM> {
+pub(crate) fn stamp_of(now: Timestamp) -> InlineText<ROOM> {
     InlineText::of(format_args!("{now:.3} "))
-}
-
-#[cfg(test)]
-mod tests {
-    use super::*;
-    use std::test::Fail;
-
-    #[test]
-    fn shows_milliseconds(rt: HostRuntime) -> Result<(), Fail> {
-        for (nanoseconds, text) in [
-            (0, "1970-01-01T00:00:00.000Z "),
-            (1_764_089_248_123_999_999, "2025-11-25T16:47:28.123Z "),
-            (951_782_400_000_000_000, "2000-02-29T00:00:00.000Z "),
-        ] {
-            let stamp = stamp_of(Timestamp::from_nanosecond(nanoseconds)?);
-            assert_eq!(rt; stamp.as_str(), text);
-        }
-        Ok(())
-    }
 }

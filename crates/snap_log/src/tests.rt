@@ -1,7 +1,11 @@
-//! Tests of whole logs.
+//! Tests of whole logs, and of their parts.
+use crate::destination::is_named;
+use crate::line::line_of;
 use crate::output::write_line;
+use crate::stamp::stamp_of;
 use crate::{Destination, Lines, write_lines};
-use log::{LevelFilter, debug, error, info, warn};
+use jiff::Timestamp;
+use log::{Level, LevelFilter, debug, error, info, warn};
 use snap_stream::TestStream;
 use std::test::Fail;
 
@@ -120,5 +124,68 @@ fn nobody_has_to_write(rt: HostRuntime) -> Result<(), Fail> {
     let (lines, waiting) = Lines::new(&rt, rt.alloc(), LevelFilter::Warn, Destination::Journal)?;
     drop(waiting);
     warn!(lines; target: "t", "b");
+    Ok(())
+}
+
+#[test]
+fn names_a_stream(rt: HostRuntime) -> Result<(), Fail> {
+    assert!(rt; is_named(rt.alloc(), b"9:4711", 9, 4711)?);
+    assert!(rt; is_named(rt.alloc(), b"0:18446744073709551615", 0, u64::MAX)?);
+    for other in [
+        b"9:471".as_slice(),
+        b"9:47110",
+        b"8:4711",
+        b"9:",
+        b":4711",
+        b"",
+        b"9 4711",
+        b"4711:9",
+    ] {
+        assert!(rt; !is_named(rt.alloc(), other, 9, 4711)?, "{other:?}");
+    }
+    Ok(())
+}
+
+#[test]
+fn is_no_journal_here(rt: HostRuntime) {
+    assert_eq!(rt;
+        Destination::of_standard_error(&rt, rt.alloc()),
+        Destination::Other
+    );
+}
+
+#[test]
+fn shows_a_text_on_one_line(rt: HostRuntime) -> Result<(), Fail> {
+    for (text, line) in [
+        ("", "WARN accept: \n"),
+        ("full: 97 open", "WARN accept: full: 97 open\n"),
+        ("a\nERROR b: c\r\n", "WARN accept: a\\nERROR b: c\\r\\n\n"),
+        (
+            "\t\u{1b}[31m\0\u{7f}",
+            "WARN accept: \\t\\u{1b}[31m\\u{0}\\u{7f}\n",
+        ),
+        (
+            "é\u{85}\u{2028}→ \\n",
+            "WARN accept: é\\u{85}\\u{2028}→ \\n\n",
+        ),
+    ] {
+        let shown = line_of(rt.alloc(), "", Level::Warn, "accept", text)?;
+        assert_eq!(rt; shown.as_str(), line);
+    }
+    let shown = line_of(rt.alloc(), "now ", Level::Error, "a\nb", "c")?;
+    assert_eq!(rt; shown.as_str(), "now ERROR a\\nb: c\n");
+    Ok(())
+}
+
+#[test]
+fn shows_milliseconds(rt: HostRuntime) -> Result<(), Fail> {
+    for (nanoseconds, text) in [
+        (0, "1970-01-01T00:00:00.000Z "),
+        (1_764_089_248_123_999_999, "2025-11-25T16:47:28.123Z "),
+        (951_782_400_000_000_000, "2000-02-29T00:00:00.000Z "),
+    ] {
+        let stamp = stamp_of(Timestamp::from_nanosecond(nanoseconds)?);
+        assert_eq!(rt; stamp.as_str(), text);
+    }
     Ok(())
 }
