@@ -12,11 +12,11 @@ use Rattle.snap_args.specs.Words.{Reads, word_in, word_of, words_in, words_of}
 use Rattle.snap_args.specs.declared.fault.WordFault.{TheVariants.Help, TheVariants.Memory, TheVariants.Words, WordFault}
 
 simple : is_simple grammar_of ≡ true
-unfolding clap_on_literals
+unfolding clap_on_literals grammar_of
 simple = refl
 
 pub simple_and_free : is_simple_and_free grammar_of ≡ true
-unfolding clap_on_literals
+unfolding clap_on_literals grammar_of
 simple_and_free = refl
 
 both : {X : Type 0} (f : X → Text) (g : X → List Row) (o : Option X) (name : Text) (rows : List Row)

@@ -153,7 +153,7 @@ top_shape = record ((versioned (new_app (codes "snapd"))).top) { subcommand_requ
 abbrev pub program_of : App
 program_of = record { top = top_shape; subs = [] }
 
-abbrev pub grammar_of : App
+unfoldable pub grammar_of : App
 grammar_of = with_subcommand (with_subcommand (with_subcommand (with_subcommand (with_subcommand
     (with_subcommand (with_subcommand (with_subcommand (with_subcommand (with_subcommand
     (with_subcommand (with_subcommand (with_subcommand program_of (placed (filed (new_app (codes "format")))).top)

@@ -41,10 +41,7 @@ impl Connections {
     /// it runs out, or the system can't register it, it is closed; the others aren't affected.
     pub(crate) fn welcome(&mut self, registry: &Registry, stream: TcpStream, now: Instant) {
         if self.connections.len() >= MAX_CONNECTIONS {
-            let slowest = self.connections.iter().min_by_key(|entry| entry.1.moved);
-            if let Some((key, _)) = slowest {
-                self.connections.try_remove(key);
-            }
+            self.drop_slowest();
         }
         if self.connections.len() >= MAX_CONNECTIONS || self.connections.reserve(1).is_err() {
             return;
@@ -53,6 +50,14 @@ impl Connections {
         let key = self.connections.vacant_key();
         if connection.register(registry, Token(key)).is_ok() {
             self.connections.insert_reserved(connection);
+        }
+    }
+
+    /// Closes the connection whose last progress was longest ago.
+    fn drop_slowest(&mut self) {
+        let slowest = self.connections.iter().min_by_key(|entry| entry.1.moved);
+        if let Some((key, _)) = slowest {
+            self.connections.try_remove(key);
         }
     }
 

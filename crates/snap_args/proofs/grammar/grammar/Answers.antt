@@ -1,7 +1,9 @@
 use Rattle.std.proofs.Common.{refl}
+use Rattle.snap_args.specs.Grammar.{grammar_of}
 use Rattle.snap_args.proofs.grammar.grammar.Goals as goal
 
 pub returns : goal.returns
+unfolding grammar_of
 returns c =
     let one = c.with_command-all.ensures _ _ c.program.ensures refl in
     let two = c.with_command-all-2.ensures _ _ one refl in

@@ -1,6 +1,8 @@
-use Rattle.std.proofs.Common.{◌∙◌, ap, map, subst, sym}
+use Rattle.std.proofs.Common.{arith, ◌∙◌, ap, map, subst, sym}
+use Rattle.std.proofs.lemmas.Grind.{common_steps}
 use Rattle.clap.specs.Words.{App, HasKind, fault_of, is_simple_and_free}
 use Rattle.snap_args.proofs.Asked.{command_met, meant, no_fault, simple_and_free, told}
+use Rattle.snap_args.specs.Grammar.{grammar_of}
 use Rattle.snap_args.proofs.words.order.Goals as goal
 
 pub returns-in-Err : goal.returns-in-Err
@@ -24,3 +26,11 @@ returns g c =
     parsed.matches c.in-Some.command.now c.in-Some.ensures.name c.in-Some.ensures.rows in
     let read = meant words c.in-Some.command.now c.in-Some.matches.now taken command c.order_of.result
     c.order_of.ensures in record { limits = read.0; read = read.1; told = λ some. absurd (some taken) }
+
+pub returns-in_default-subcommand-clause-read : goal.returns-in_default-subcommand-clause-read
+unfolding grammar_of
+returns-in_default-subcommand-clause-read g c = grind (arith, common_steps)
+
+pub returns-in_default-subcommand-clause-told : goal.returns-in_default-subcommand-clause-told
+unfolding grammar_of
+returns-in_default-subcommand-clause-told g c = grind (arith, common_steps)
