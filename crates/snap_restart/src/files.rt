@@ -5,7 +5,6 @@ ghost use Rattle.std.specs.Vec.Iter.{into_iter_items, into_iter_len};
 ghost use Rattle.snap_history.specs.{declared.limits.TheConstants.MAX_COUNT, Pairs.Pairs};
 ghost use Rattle.snap_restart.specs.Opened.{IsOpened, IsStopped};
 
-use crate::keep::keep;
 use snap_disk::{Disk, Refusal};
 use snap_history::MAX_COUNT;
 use snap_segment::Segment;
@@ -96,5 +95,17 @@ pub(crate) fn release<D: Disk + Drop>(segments: Vec<Segment<D>>, devices: &mut V
 {
     'segments: for segment in segments {
         keep(devices, segment.into_device());
+    }
+}
+
+/// Appends an item to a list that has room for it, so without allocating.
+pub(crate) fn keep<T: Drop>(items: &mut Vec<T>, item: T)
+    requires { length items.old.items < vec_capacity items.old }
+    ensures items { items.new.items ≡ items.old.items ++ item ∷ [] }
+    ensures room { vec_capacity items.old ≤ vec_capacity items.new }
+{
+    match items.push(item) {
+        Ok(()) => {}
+        Err(_) => unreachable!(),
     }
 }

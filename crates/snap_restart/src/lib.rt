@@ -9,16 +9,13 @@
 //! shown. The registers guarantee this at each moment, and it is enough to recover one memory.
 #![tactic(auto)]
 
-mod crashes;
 mod files;
-mod keep;
 mod laws;
 mod report;
 mod shutdown;
 mod store;
 
-pub use crashes::{crash_laws, life_laws};
 pub use files::Stopped;
-pub use laws::restart_laws;
+pub use laws::{crash_laws, life_laws, restart_laws};
 pub use report::{Recovered, Report};
 pub use store::{LOOKS, Store, open_all};

@@ -8,7 +8,7 @@ ghost use Rattle.snap_history.specs.{History.Update, History.IsBeginning, Pairs.
 ghost use Rattle.snap_register.specs.Seat.{AreTogether, Grows};
 ghost use Rattle.snap_restart.specs.Closed.{AreBack, IsHistory, IsTold, HasMet, Rests};
 
-use crate::keep::keep;
+use crate::files::keep;
 use snap_disk::Disk;
 use snap_memory::Scanner;
 use snap_writer::Writer;

@@ -11,8 +11,7 @@ ghost use Rattle.snap_restart.specs.Opened.{IsOpened, IsStopped, AreFresh, Start
 ghost use Rattle.snap_restart.specs.Crash.{AreOpened, StayKept, AnyCut};
 ghost use Rattle.snap_restart.specs.Durability.{AllStays};
 
-use crate::files::{Stopped, open_segments, release};
-use crate::keep::keep;
+use crate::files::{Stopped, keep, open_segments, release};
 use crate::report::{Recovered, Report};
 use crate::shutdown::{hear_everybody, release_all};
 use snap_disk::{Disk, Refusal};
@@ -125,21 +124,10 @@ pub fn open_all<D: Disk + Drop>(
     };
     let count = segments.len();
     match take_memory(alloc, &segments, scanners) {
-        Ok(
-            Ready {
-                parts,
-                writers,
-                scanners,
-                report,
-            },
-        ) => {
-            let Parts {
-                writers: writer_seats,
-                scanners: scanner_seats,
-            } = parts;
+        Ok((parts, writers, scanners, report)) => {
             let store = Store {
-                writers: place_writers(segments, writer_seats, writers),
-                scanners: place_scanners(scanner_seats, scanners),
+                writers: place_writers(segments, parts.writers, writers),
+                scanners: place_scanners(parts.scanners, scanners),
                 devices: emptied,
             };
             Ok((store, report))
@@ -155,43 +143,30 @@ pub fn open_all<D: Disk + Drop>(
     }
 }
 
-/// All memory of a [`Store`], except that of its files.
-#[derive(Drop)]
-struct Ready<D: Disk> {
-    parts: Parts,
-    /// Empty, with room for all writers.
-    writers: Vec<Writer<D>>,
-    /// Empty, with room for all scanners.
-    scanners: Vec<Scanner>,
-    report: Report,
-}
-
-// Allocates all memory of a store, except that of its files.
+// Allocates all memory of a store, except that of its files: the seats, room for all writers, room for all scanners, and
+// the report.
 #[tactic(auto, using(crate::proofs::Removals::no_ok))]
 fn take_memory<D: Disk + Drop>(
     alloc: Global,
     segments: &Vec<Segment<D>>,
     scanners: usize,
-) -> Result<Ready<D>, AllocError>
+) -> Result<(Parts, Vec<Writer<D>>, Vec<Scanner>, Report), AllocError>
     requires count { (0 < length segments.now.items) × (length segments.now.items ≤ MAX_COUNT) }
     requires scanners { scanners ≤ MAX_SCANNERS }
-    ensures counts { IfOk result (λ r. (length r.parts.writers.items ≡ length segments.now.items)
-        × (length r.parts.scanners.items ≡ scanners)) }
+    ensures counts { IfOk result (λ r. (length r.0.writers.items ≡ length segments.now.items)
+        × (length r.0.scanners.items ≡ scanners)) }
     ensures seats { IfOk result (λ r. (z : RegistersId) × (p : Plan)
         × IsOpening p LOOKS (map contents segments.now.items)
-        × AreWriters z p r.parts.writers.items × AreReaders z p r.parts.scanners.items) }
-    ensures writers { IfOk result (λ r. (r.writers.items ≡ []) × (length segments.now.items ≤ vec_capacity r.writers)) }
-    ensures scanners { IfOk result (λ r. (r.scanners.items ≡ []) × (scanners ≤ vec_capacity r.scanners)) }
-    ensures report { IfOk result (λ r. r.report.segments.items ≡ map recovered segments.now.items) }
+        × AreWriters z p r.0.writers.items × AreReaders z p r.0.scanners.items) }
+    ensures writers { IfOk result (λ r. (r.1.items ≡ []) × (length segments.now.items ≤ vec_capacity r.1)) }
+    ensures scanners { IfOk result (λ r. (r.2.items ≡ []) × (scanners ≤ vec_capacity r.2)) }
+    ensures report { IfOk result (λ r. r.3.segments.items ≡ map recovered segments.now.items) }
 {
     let values = values_of(alloc, segments)?;
     let parts = Registers::open(alloc, &values, scanners, LOOKS)?;
-    Ok(Ready {
-        parts,
-        writers: Vec::with_capacity(alloc, segments.len())?,
-        scanners: Vec::with_capacity(alloc, scanners)?,
-        report: report_of(alloc, segments)?,
-    })
+    let places = Vec::with_capacity(alloc, segments.len())?;
+    let scanners = Vec::with_capacity(alloc, scanners)?;
+    Ok((parts, places, scanners, report_of(alloc, segments)?))
 }
 
 // The numbers and values of the segments, in order.

@@ -1,13 +1,13 @@
-//! Makes the file of a segment that holds a given number and value, for formatting and migration.
-ghost use Rattle.std.specs.Prelude.{◌≡◌, ◌≢◌, ◌-◌, ◌^◌, ◌<◌, ◌≤◌, false, length, OnOk, IfOk, IfErr, IsErrOf, IsTrue};
-ghost use Rattle.std.specs.Prelude.{◌↔◌};
+//! Makes the file of a segment: an empty one, or one with a given number and value, as a migration does.
+ghost use Rattle.std.specs.Prelude.{◌≡◌, ◌≢◌, ◌-◌, ◌^◌, ◌<◌, ◌≤◌, false, [], length, OnOk, IfOk, IfErr, IsErrOf};
+ghost use Rattle.std.specs.Prelude.{◌↔◌, IsTrue};
 ghost use Rattle.snap_slot.specs.{declared.layout.TheConstants.FILE_LEN, Layout.IsUnformatted, Layout.IsFormatted};
-ghost use Rattle.snap_slot.specs.{States.IsAtRest, States.IsPrepared};
+ghost use Rattle.snap_slot.specs.{States.IsAtRest, States.IsPrepared, Layout.fresh_file};
 ghost use Rattle.snap_disk.specs.Device.{Device, IsSettled, IsSynced, CountsFailure, CountsCalls};
 ghost use Rattle.snap_history.specs.{declared.limits.TheConstants.MAX_COUNT, Limits.IsNumber, Limits.IsShort};
 ghost use Rattle.snap_segment.specs.Refusals.{IsFormatRefusal};
 ghost use Rattle.snap_segment.specs.Calls.{Counts, Leaves, LeavesAsBefore};
-ghost use Rattle.snap_segment.specs.Creation.{IsMadeOrLeft, TellsGate, new_file};
+ghost use Rattle.snap_segment.specs.Creation.{IsFresh, IsMadeOrLeft, TellsGate, new_file};
 
 use snap_disk::{DeviceFault, Disk, Refusal, write_synced};
 use snap_slot::{
@@ -71,6 +71,28 @@ pub fn create<D: Disk>(
         Ok(()) => {}
     }
     write_synced(device, HEADER_GATE_AT, &[OPEN_GATE]).map_err(|_| Refusal::DeviceFailed)
+}
+
+/// Formats the file of segment `index` of `count`: [`create`] with number 0 and the empty value. No byte of the old
+/// content remains.
+#[tactic(auto, unfolding(snap_slot::specs::Layout::fresh_file))]
+pub fn format<D: Disk>(device: &mut D, index: u8, count: u8) -> Result<(), Refusal>
+    requires below { index < count }
+    requires few { count ≤ MAX_COUNT }
+    requires headroom { D.failure_count device.old < 2 ^ 64 - 1 }
+    ensures counts { Counts D.Disk result 7 device.old device.new }
+    ensures refusals { IfErr result IsFormatRefusal }
+    ensures wrong_file { IsErrOf result Refusal.WrongFile ↔ (length (D.device device.old).bytes ≢ FILE_LEN) }
+    ensures wrong_file_same { IsErrOf result Refusal.WrongFile → device.new ≡ device.old }
+    ensures gate { TellsGate D.Disk result device.old device.new }
+    ensures kept { D.is_honest device.new → IsFormatted (D.device device.old).bytes
+        → LeavesAsBefore D.Disk device.old device.new }
+    ensures leaves { D.is_honest device.new → Leaves D.Disk device.old device.new
+        (IsFresh index count (D.device device.old)) }
+    ensures last { D.is_honest device.new → OnOk result (IsAtRest index count 0 [] false (D.device device.new)) }
+    ensures bytes { D.is_honest device.new → OnOk result ((D.device device.new).bytes ≡ fresh_file index count) }
+{
+    create(device, index, count, 0, &[])
 }
 
 /// Syncs, then reads the first block and returns whether the header's gate is closed.

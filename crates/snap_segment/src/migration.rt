@@ -11,8 +11,8 @@ ghost use Rattle.snap_segment.specs.Migration.{CountsFault, IsRead, OfHeld};
 ghost use Rattle.snap_segment.specs.{Refusals.IsMigrationRefusal, Calls.Counts, Calls.LeavesAsBefore};
 ghost use Rattle.snap_segment.specs.{Creation.IsMadeOrLeft, Creation.new_file};
 
-use crate::contents::read_all;
 use crate::creation::create;
+use crate::findings::read_all;
 use snap_disk::{Disk, Refusal};
 use snap_slot::{FILE_LEN, OLD_FILE_LEN, OldFound, recover_old};
 

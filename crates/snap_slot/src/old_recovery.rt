@@ -1,11 +1,10 @@
 //! Finds the value that a file of the old format holds.
 ghost use Rattle.std.specs.Prelude.{◌≡◌, ◌+◌, ◌<◌, ◌≤◌, ℕ, List, length, IfOk, IfErr, MatchOption};
-ghost use Rattle.snap_disk.specs.Device.{part};
 ghost use Rattle.snap_slot.specs.declared.old_layout.TheConstants.{OLD_FILE_LEN, OLD_SLOT_COUNT};
 ghost use Rattle.snap_slot.specs.OldFound.{IsOldHeaderOf, IsOldSlotOf, IsOldHeld, IsOldFound, IsNoOldOpening};
-ghost use Rattle.snap_slot.specs.{limits.TheConstants.MAX_VALUE_LEN, declared.layout.TheConstants.BLOCK_LEN};
-ghost use Rattle.snap_slot.specs.{Findings.IsOfBytes, Old.OldHolds};
+ghost use Rattle.snap_slot.specs.{limits.TheConstants.MAX_VALUE_LEN, Findings.IsOfBytes, Old.OldHolds};
 
+use crate::bytes::range;
 use crate::header::{Header, read_header};
 use crate::layout::{BLOCK_LEN, VALUE_AT, body_at, gate_at};
 use crate::old_layout::{OLD_FILE_LEN, OLD_MARK, OLD_SLOT_COUNT, old_slot_of};
@@ -32,8 +31,8 @@ impl OldFound {
         ensures value { result.now ≡ value_in file.now (old_slot_of self.now.number) self.now.length }
         ensures length { length result.now ≡ self.now.length }
     {
-        let body = block_at(file, body_at(old_slot_of(self.number)));
-        &body[VALUE_AT..VALUE_AT + self.length as usize]
+        let body = range(file, body_at(old_slot_of(self.number)) as usize, BLOCK_LEN);
+        range(body, VALUE_AT, self.length as usize)
     }
 }
 
@@ -61,19 +60,7 @@ fn old_header(file: &[u8]) -> Header
     requires { length file.now ≡ OLD_FILE_LEN }
     ensures { IsOldHeaderOf file.now result }
 {
-    read_header(&OLD_MARK, block_at(file, 0))
-}
-
-/// The block at offset `at` of a file.
-#[tactic(auto, unfolding(snap_disk::specs::Device::part))]
-fn block_at(file: &[u8], at: u64) -> &[u8]
-    requires size { length file.now ≡ OLD_FILE_LEN }
-    requires within { at + BLOCK_LEN ≤ OLD_FILE_LEN }
-    ensures block { result.now ≡ part at BLOCK_LEN file.now }
-    ensures size { length result.now ≡ BLOCK_LEN }
-{
-    let at = at as usize;
-    &file[at..at + BLOCK_LEN]
+    read_header(&OLD_MARK, range(file, 0, BLOCK_LEN))
 }
 
 /// Reads slot `index` of a file.
@@ -82,8 +69,8 @@ fn old_slot(file: &[u8], index: u8) -> Slot
     requires slot { index < OLD_SLOT_COUNT }
     ensures { IsOldSlotOf file.now index result }
 {
-    let gate = block_at(file, gate_at(index.into()));
-    let body = block_at(file, body_at(index.into()));
+    let gate = range(file, gate_at(index.into()) as usize, BLOCK_LEN);
+    let body = range(file, body_at(index.into()) as usize, BLOCK_LEN);
     read_slot(OLD_SLOT_COUNT, index, gate, body)
 }
 

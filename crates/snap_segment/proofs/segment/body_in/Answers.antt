@@ -1,7 +1,7 @@
 use Rattle.std.proofs.Common.{◌≡◌, ◌+◌, ◌-◌, ℕ, take, drop, ◌∙◌, ap, arith}
 use Rattle.snap_disk.specs.Device.{part}
 use Rattle.snap_slot.specs.declared.layout.TheConstants.{BLOCK_LEN}
-use Rattle.snap_segment.proofs.segment.recovery.body_in.Goals as goal
+use Rattle.snap_segment.proofs.segment.body_in.Goals as goal
 
 pub returns-clause-block : goal.returns-clause-block
 unfolding part

@@ -1,5 +1,5 @@
 use Rattle.snap_restart.proofs.{Lives.life_fits, Placed.phase_leaves, LifeDurability.stays}
-use Rattle.snap_restart.proofs.crashes.life_laws.Goals as goal
+use Rattle.snap_restart.proofs.laws.life_laws.Goals as goal
 
 pub returns-clause-lives : goal.returns-clause-lives
 returns-clause-lives g c = life_fits g.D.Disk

@@ -1,6 +1,6 @@
 use Rattle.std.proofs.Common.{length, sym}
 use Rattle.snap_disk.specs.Laws.{part_whole}
-use Rattle.snap_segment.proofs.contents.read_all.Goals as goal
+use Rattle.snap_segment.proofs.findings.read_all.Goals as goal
 
 pub returns-clause-given : goal.returns-clause-given
 returns-clause-given g c honest =

@@ -1,7 +1,7 @@
 use Rattle.snap_history.proofs.Beginnings.{beginning-trans}
 use Rattle.snap_register.specs.Rule.{segments}
 use Rattle.snap_restart.proofs.LifeCrash.{cut_recovers, instant_recovers, moment_consistent, moment_recovers}
-use Rattle.snap_restart.proofs.crashes.crash_laws.Goals as goal
+use Rattle.snap_restart.proofs.laws.crash_laws.Goals as goal
 
 pub returns-clause-cut : goal.returns-clause-cut
 returns-clause-cut g c = cut_recovers g.D.Disk
