@@ -1,11 +1,12 @@
 //! The list in a reply: entries of one kind, one after the other.
 ghost use Rattle.std.specs.Prelude.{◌≡◌, ◌+◌, ◌≤◌, ℕ, List, ◌∷◌, ◌++◌, length, drop, flat_map, slice_index, All, IsOk};
-ghost use Rattle.std.specs.Prelude.{OnOk, OnErr, IfOk, IfSome, IfNone};
+ghost use Rattle.std.specs.Prelude.{OnOk, OnErr, IfOk, IfErr, IfSome, IfNone};
 ghost use Rattle.snap_history.specs.declared.limits.TheConstants.{MAX_COUNT};
 ghost use Rattle.snap_frame.specs.Messages.{max_payload, frame, longest_entry, Separate, AreEntries};
 
 use crate::frame::start_frame;
 use bytes::{Bytes, BytesMut};
+use snap_disk::Refusal;
 use snap_history::MAX_COUNT;
 use std::alloc::{AllocError, Global};
 
@@ -146,7 +147,7 @@ pub(crate) fn append_list<E: ListEntry>(
     kind: u8,
     entries: &[E],
     out: &mut BytesMut,
-) -> Result<(), AllocError>
+) -> Result<(), Refusal>
     requires few { length entries.now ≤ MAX_COUNT }
     requires each { All E.may_stand entries.now }
     ensures ok { OnOk result (out.new.items ≡ out.old.items
@@ -154,6 +155,7 @@ pub(crate) fn append_list<E: ListEntry>(
     ensures err { OnErr result (out.new.items ≡ out.old.items) }
     ensures room { length (frame (kind ∷ length entries.now ∷ flat_map E.bytes entries.now))
         ≤ out.old.spare → IsOk result }
+    ensures memory { IfErr result (λ why. why ≡ Refusal.NoMemory) }
 {
     start_frame(LIST_HEAD_LEN + entries_len(entries), out)?;
     out.extend_reserved(&[kind, entries.len() as u8]);

@@ -76,45 +76,7 @@ fn read_refused(payload: &[u8]) -> Option<Reply>
         return None;
     }
     let detail = first_u64(&payload[2..]);
-    match Refusal::of_code(payload[1]) {
-        Some(why) => Some(Reply::Refused { why, detail }),
-        None => None,
-    }
-}
-
-#[tactic(auto, using(crate::proofs::Behind::values_apart))]
-fn read_snapshot(payload: BytesMut) -> Result<Option<Reply>, AllocError>
-    requires { slice_index payload.items 0 ≡ 0x82 }
-    ensures reply { IfOk result (λ r. IfSome r (Says payload.items)) }
-    ensures nothing { IfOk result (λ r. IfNone r (SaysNothing payload.items)) }
-{
-    match read_list(payload)? {
-        Some(values) => Ok(Some(Reply::Snapshot(values))),
-        None => Ok(None),
-    }
-}
-
-#[tactic(auto, using(crate::proofs::Behind::statuses_apart))]
-fn read_status(payload: BytesMut) -> Result<Option<Reply>, AllocError>
-    requires { slice_index payload.items 0 ≡ 0x83 }
-    ensures reply { IfOk result (λ r. IfSome r (Says payload.items)) }
-    ensures nothing { IfOk result (λ r. IfNone r (SaysNothing payload.items)) }
-{
-    match read_list(payload)? {
-        Some(statuses) => Ok(Some(Reply::Status(statuses))),
-        None => Ok(None),
-    }
-}
-
-fn read_part(payload: BytesMut) -> Result<Option<Reply>, AllocError>
-    requires { slice_index payload.items 0 ≡ 0x84 }
-    ensures reply { IfOk result (λ r. IfSome r (Says payload.items)) }
-    ensures nothing { IfOk result (λ r. IfNone r (SaysNothing payload.items)) }
-{
-    match read_named(payload)? {
-        Some(values) => Ok(Some(Reply::Part(values))),
-        None => Ok(None),
-    }
+    Refusal::of_code(payload[1]).map(|why| Reply::Refused { why, detail })
 }
 
 /// Reads a payload, or returns `None` if it is no reply's.
@@ -129,9 +91,9 @@ pub(crate) fn read_reply(payload: BytesMut) -> Result<Option<Reply>, AllocError>
     match bytes[0] {
         STORED => Ok(read_stored(bytes)),
         REFUSED => Ok(read_refused(bytes)),
-        SNAPSHOT => read_snapshot(payload),
-        STATUS => read_status(payload),
-        PART => read_part(payload),
+        SNAPSHOT => Ok(read_list(payload)?.map(Reply::Snapshot)),
+        STATUS => Ok(read_list(payload)?.map(Reply::Status)),
+        PART => Ok(read_named(payload)?.map(Reply::Part)),
         _ => Ok(None),
     }
 }
@@ -149,18 +111,6 @@ pub fn write_reply(reply: &Reply, out: &mut BytesMut) -> Result<(), Refusal>
     ensures err { OnErr result (out.new.items ≡ out.old.items) }
     ensures room { length (frame (says reply.now)) ≤ out.old.spare → IsOk result }
     ensures memory { IfErr result (λ why. why ≡ Refusal.NoMemory) }
-{
-    match append_reply(reply, out) {
-        Ok(()) => Ok(()),
-        Err(AllocError) => Err(Refusal::NoMemory),
-    }
-}
-
-fn append_reply(reply: &Reply, out: &mut BytesMut) -> Result<(), AllocError>
-    requires { IsInLimits reply.now }
-    ensures ok { OnOk result (out.new.items ≡ out.old.items ++ frame (says reply.now)) }
-    ensures err { OnErr result (out.new.items ≡ out.old.items) }
-    ensures room { length (frame (says reply.now)) ≤ out.old.spare → IsOk result }
 {
     match reply {
         Reply::Stored(number) => {
