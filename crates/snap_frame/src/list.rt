@@ -58,23 +58,6 @@ fn entry_count(payload: &[u8]) -> Option<u8>
     Some(count)
 }
 
-/// The count of entries in a payload and the bytes after it, or `None` if it is missing or out of bounds.
-fn split_list(mut payload: BytesMut) -> Result<Option<(u8, Bytes)>, AllocError>
-    ensures some { IfOk result (λ o. IfSome o (λ list. (1 ≤ list.0) × (list.0 ≤ MAX_COUNT)
-        × (payload.items ≡ slice_index payload.items 0 ∷ list.0 ∷ list.1))) }
-    ensures none { IfOk result (λ o. IfNone o ((kind n : ℕ) → (tail : List ℕ) → 1 ≤ n
-        → n ≤ MAX_COUNT → payload.items ≡ kind ∷ n ∷ tail → ⊥)) }
-{
-    let Some(count) = entry_count(payload.as_slice()) else {
-        return Ok(None);
-    };
-    payload.advance(LIST_HEAD_LEN);
-    match payload.freeze() {
-        Ok(entries) => Ok(Some((count, entries))),
-        Err(_) => Err(AllocError),
-    }
-}
-
 /// Reads `count` entries, or returns `None` if the bytes aren't exactly that many entries.
 fn read_entries<E: ListEntry + Drop>(
     alloc: Global,
@@ -102,7 +85,7 @@ fn read_entries<E: ListEntry + Drop>(
 
 /// Reads the entries of a list's payload, or returns `None` if it isn't a list of them.
 pub(crate) fn read_list<E: ListEntry + Drop>(
-    payload: BytesMut,
+    mut payload: BytesMut,
 ) -> Result<Option<Vec<E>>, AllocError>
     requires apart { Separate E.bytes E.may_stand }
     ensures some { IfOk result (λ o. IfSome o (λ es. AreEntries E.may_stand es.items × (payload.items
@@ -111,9 +94,11 @@ pub(crate) fn read_list<E: ListEntry + Drop>(
         → AreEntries E.may_stand es → payload.items ≡ kind ∷ length es ∷ flat_map E.bytes es → ⊥)) }
 {
     let alloc = *payload.allocator();
-    let Some((count, entries)) = split_list(payload)? else {
+    let Some(count) = entry_count(payload.as_slice()) else {
         return Ok(None);
     };
+    payload.advance(LIST_HEAD_LEN);
+    let entries = payload.freeze().map_err(|_| AllocError)?;
     read_entries(alloc, count, entries)
 }
 

@@ -48,37 +48,6 @@ const STORED_LEN: usize = 9;
 /// The bytes of the payload of `Refused`.
 const REFUSED_LEN: usize = 10;
 
-/// Reads a payload whose kind is `Stored`.
-fn read_stored(payload: &[u8]) -> Option<Reply>
-    requires long { 0 < length payload.now }
-    requires stored { slice_index payload.now 0 ≡ 0x81 }
-    ensures reply { IfSome result (Says payload.now) }
-    ensures nothing { IfNone result (SaysNothing payload.now) }
-{
-    if payload.len() != STORED_LEN {
-        return None;
-    }
-    let number = first_u64(&payload[1..]);
-    if number > LAST_NUMBER {
-        return None;
-    }
-    Some(Reply::Stored(number))
-}
-
-/// Reads a payload whose kind is `Refused`.
-fn read_refused(payload: &[u8]) -> Option<Reply>
-    requires long { 0 < length payload.now }
-    requires refused { slice_index payload.now 0 ≡ 0xE0 }
-    ensures reply { IfSome result (Says payload.now) }
-    ensures nothing { IfNone result (SaysNothing payload.now) }
-{
-    if payload.len() != REFUSED_LEN {
-        return None;
-    }
-    let detail = first_u64(&payload[2..]);
-    Refusal::of_code(payload[1]).map(|why| Reply::Refused { why, detail })
-}
-
 /// Reads a payload, or returns `None` if it is no reply's.
 pub(crate) fn read_reply(payload: BytesMut) -> Result<Option<Reply>, AllocError>
     ensures reply { IfOk result (λ r. IfSome r (Says payload.items)) }
@@ -89,8 +58,23 @@ pub(crate) fn read_reply(payload: BytesMut) -> Result<Option<Reply>, AllocError>
         return Ok(None);
     }
     match bytes[0] {
-        STORED => Ok(read_stored(bytes)),
-        REFUSED => Ok(read_refused(bytes)),
+        STORED => {
+            if bytes.len() != STORED_LEN {
+                return Ok(None);
+            }
+            let number = first_u64(&bytes[1..]);
+            if number > LAST_NUMBER {
+                return Ok(None);
+            }
+            Ok(Some(Reply::Stored(number)))
+        }
+        REFUSED => {
+            if bytes.len() != REFUSED_LEN {
+                return Ok(None);
+            }
+            let detail = first_u64(&bytes[2..]);
+            Ok(Refusal::of_code(bytes[1]).map(|why| Reply::Refused { why, detail }))
+        }
         SNAPSHOT => Ok(read_list(payload)?.map(Reply::Snapshot)),
         STATUS => Ok(read_list(payload)?.map(Reply::Status)),
         PART => Ok(read_named(payload)?.map(Reply::Part)),
