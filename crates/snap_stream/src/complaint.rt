@@ -22,22 +22,15 @@ pub fn complain<E: Write, T: Display>(alloc: Global, errors: &mut E, text: &T) -
 {
     // The text is made first: after a `Display` whose text isn't known, the writer's contents wouldn't be known either.
     let Ok(text) = format!(in alloc; "{text}") else {
-        return complain_in_place(errors, text);
+        let text = InlineText::<IN_PLACE>::of(text);
+        let text = text.as_str();
+        let is_cut = text.as_bytes().ends_with(b"...");
+        return write_parts(errors, text).is_ok() && !is_cut;
     };
     match format!(in alloc; "snapd: {text}\n") {
         Ok(line) => write_whole(errors, line.as_bytes()).is_ok(),
         Err(_) => write_parts(errors, text.as_str()).is_ok(),
     }
-}
-
-/// [`complain`] without memory.
-fn complain_in_place<E: Write, T: Display>(errors: &mut E, text: &T) -> bool
-    ensures { Complains (T.output text.now) result (E.contents errors.old) (E.contents errors.new) }
-{
-    let text = InlineText::<IN_PLACE>::of(text);
-    let text = text.as_str();
-    let is_cut = text.as_bytes().ends_with(b"...");
-    write_parts(errors, text).is_ok() && !is_cut
 }
 
 /// Writes the line of a text without memory.
