@@ -35,8 +35,7 @@ fn try_once<R: Read + Drop, W: Write + Drop, F: FnMut() -> Option<(R, W)>>(
 /// left and the fault is one that may pass ([`ClientFault::may_pass`]).
 ///
 /// `connect` returns a reader and a writer, or `None` if it can't connect. It is called at most `tries` times, 1 to
-/// [`MAX_TRIES`]; each connection is dropped before the next one is made. The answer is the last connection's. A
-/// refusal is an answer, and isn't tried again. The request is one that [`Client::call`] takes.
+/// [`MAX_TRIES`]; each connection is dropped before the next one is made. The answer, maybe a refusal, is the last one's.
 pub fn call_again<R: Read + Drop, W: Write + Drop, F: FnMut() -> Option<(R, W)>>(
     alloc: Global,
     connect: &mut F,
@@ -54,13 +53,9 @@ pub fn call_again<R: Read + Drop, W: Write + Drop, F: FnMut() -> Option<(R, W)>>
     while left > 1 {
         match try_once(alloc, connect, request) {
             Ok(reply) => return Ok(reply),
-            Err(fault) => {
-                if !fault.may_pass() {
-                    return Err(fault);
-                }
-            }
+            Err(fault) if fault.may_pass() => left -= 1,
+            Err(fault) => return Err(fault),
         }
-        left -= 1;
     }
     try_once(alloc, connect, request)
 }

@@ -38,13 +38,6 @@ impl ClientFault {
     pub fn may_pass(self) -> bool
         ensures { IsTrue result ↔ MayPass self }
     {
-        match self {
-            ClientFault::ConnectFailed => true,
-            ClientFault::ReadFailed => true,
-            ClientFault::WriteFailed => true,
-            ClientFault::Ended => true,
-            ClientFault::BadReply => false,
-            ClientFault::NoMemory => false,
-        }
+        !matches!(self, ClientFault::BadReply | ClientFault::NoMemory)
     }
 }

@@ -1,9 +1,8 @@
 //! The client's half of a connection: sends requests and reads their replies.
 //!
-//! A [`Client`] sends one request after another over any reader and writer, and returns the reply
-//! to each. After a fault it has failed for good: the caller connects again and sends the same
-//! request, which is safe, since an update that was stored is acknowledged again. [`call_again`]
-//! does so, up to ten times, and [`call_while`] as long as it gets connections.
+//! After a fault a [`Client`] has failed for good: the caller connects again and sends the same request, which is safe,
+//! since an update that was stored is acknowledged again. [`call_again`] does so, up to ten times, and [`call_while`] as
+//! long as it gets connections.
 //!
 //! Contracts use the definitions of `specs/Calls.antt` (one call) and `specs/Again.antt` (calls on
 //! one connection after another).

@@ -76,14 +76,6 @@ pub(crate) fn put_value(number: u64, value: &Bytes, out: &mut BytesMut)
     out.extend_reserved(value.as_slice());
 }
 
-/// Reads the number at the start of a status's entry, and the byte of its fence.
-fn status_fields(bytes: &[u8]) -> (u64, u8)
-    requires { 9 ≤ length bytes.now }
-    ensures { bytes.now ≡ to_be_bytes w64 result.0 ++ (result.1 ∷ drop 9 bytes.now) }
-{
-    (first_u64(bytes), bytes[8])
-}
-
 impl ListEntry for SegmentStatus {
     ghost use Rattle.snap_frame.specs.Messages.{status_bytes, IsStatus};
 
@@ -95,7 +87,8 @@ impl ListEntry for SegmentStatus {
         if rest.len() < STATUS_LEN {
             return Ok(None);
         }
-        let (number, fence) = status_fields(rest.as_slice());
+        let bytes = rest.as_slice();
+        let (number, fence) = (first_u64(bytes), bytes[8]);
         if number > LAST_NUMBER || fence > 1 {
             return Ok(None);
         }

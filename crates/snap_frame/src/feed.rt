@@ -49,10 +49,7 @@ impl Feed {
         ensures memory { self.old.failure ≡ None → IfErr result (λ why. why ≡ Refusal.NoMemory) }
         ensures failed { IfSome self.old.failure (λ f. result ≡ Err (refusal_of f)) }
     {
-        match self.frames.push(piece) {
-            Ok(()) => Ok(()),
-            Err(failure) => Err(refusal(failure)),
-        }
+        self.frames.push(piece).map_err(refusal)
     }
 
     /// Takes the first whole frame off and returns its request, or `None` if more bytes are needed.

@@ -1,9 +1,5 @@
-//! The wire format: reads requests and replies from the bytes of a stream, and writes them
-//! (docs/FORMATS.md, "Frames and messages").
-//!
-//! Nothing above this crate knows the grammar. A [`Feed`] takes the pieces of a stream as they arrive and returns the
-//! requests of its frames, in order; a [`ReplyFeed`] returns the replies. The result doesn't depend on how the stream
-//! was cut into pieces. [`write_request`] and [`write_reply`] append one frame.
+//! The wire format, which nothing above this crate knows: reads requests and replies from the bytes of a stream, however
+//! it was cut into pieces, and writes them (docs/FORMATS.md, "Frames and messages").
 //!
 //! Contracts use the definitions of `specs/Messages.antt` (payloads and frames) and
 //! `specs/Stream.antt` (the first frame of the bytes that are held).

@@ -1,11 +1,12 @@
 //! The list in a reply: entries of one kind, one after the other.
 ghost use Rattle.std.specs.Prelude.{◌≡◌, ◌+◌, ◌≤◌, ℕ, List, ◌∷◌, ◌++◌, length, drop, flat_map, slice_index, All, IsOk};
-ghost use Rattle.std.specs.Prelude.{OnOk, OnErr, IfOk, IfSome, IfNone};
+ghost use Rattle.std.specs.Prelude.{OnOk, OnErr, IfOk, IfErr, IfSome, IfNone};
 ghost use Rattle.snap_history.specs.declared.limits.TheConstants.{MAX_COUNT};
 ghost use Rattle.snap_frame.specs.Messages.{max_payload, frame, longest_entry, Separate, AreEntries};
 
 use crate::frame::start_frame;
 use bytes::{Bytes, BytesMut};
+use snap_disk::Refusal;
 use snap_history::MAX_COUNT;
 use std::alloc::{AllocError, Global};
 
@@ -57,23 +58,6 @@ fn entry_count(payload: &[u8]) -> Option<u8>
     Some(count)
 }
 
-/// The count of entries in a payload and the bytes after it, or `None` if it is missing or out of bounds.
-fn split_list(mut payload: BytesMut) -> Result<Option<(u8, Bytes)>, AllocError>
-    ensures some { IfOk result (λ o. IfSome o (λ list. (1 ≤ list.0) × (list.0 ≤ MAX_COUNT)
-        × (payload.items ≡ slice_index payload.items 0 ∷ list.0 ∷ list.1))) }
-    ensures none { IfOk result (λ o. IfNone o ((kind n : ℕ) → (tail : List ℕ) → 1 ≤ n
-        → n ≤ MAX_COUNT → payload.items ≡ kind ∷ n ∷ tail → ⊥)) }
-{
-    let Some(count) = entry_count(payload.as_slice()) else {
-        return Ok(None);
-    };
-    payload.advance(LIST_HEAD_LEN);
-    match payload.freeze() {
-        Ok(entries) => Ok(Some((count, entries))),
-        Err(_) => Err(AllocError),
-    }
-}
-
 /// Reads `count` entries, or returns `None` if the bytes aren't exactly that many entries.
 fn read_entries<E: ListEntry + Drop>(
     alloc: Global,
@@ -101,7 +85,7 @@ fn read_entries<E: ListEntry + Drop>(
 
 /// Reads the entries of a list's payload, or returns `None` if it isn't a list of them.
 pub(crate) fn read_list<E: ListEntry + Drop>(
-    payload: BytesMut,
+    mut payload: BytesMut,
 ) -> Result<Option<Vec<E>>, AllocError>
     requires apart { Separate E.bytes E.may_stand }
     ensures some { IfOk result (λ o. IfSome o (λ es. AreEntries E.may_stand es.items × (payload.items
@@ -110,9 +94,11 @@ pub(crate) fn read_list<E: ListEntry + Drop>(
         → AreEntries E.may_stand es → payload.items ≡ kind ∷ length es ∷ flat_map E.bytes es → ⊥)) }
 {
     let alloc = *payload.allocator();
-    let Some((count, entries)) = split_list(payload)? else {
+    let Some(count) = entry_count(payload.as_slice()) else {
         return Ok(None);
     };
+    payload.advance(LIST_HEAD_LEN);
+    let entries = payload.freeze().map_err(|_| AllocError)?;
     read_entries(alloc, count, entries)
 }
 
@@ -146,7 +132,7 @@ pub(crate) fn append_list<E: ListEntry>(
     kind: u8,
     entries: &[E],
     out: &mut BytesMut,
-) -> Result<(), AllocError>
+) -> Result<(), Refusal>
     requires few { length entries.now ≤ MAX_COUNT }
     requires each { All E.may_stand entries.now }
     ensures ok { OnOk result (out.new.items ≡ out.old.items
@@ -154,6 +140,7 @@ pub(crate) fn append_list<E: ListEntry>(
     ensures err { OnErr result (out.new.items ≡ out.old.items) }
     ensures room { length (frame (kind ∷ length entries.now ∷ flat_map E.bytes entries.now))
         ≤ out.old.spare → IsOk result }
+    ensures memory { IfErr result (λ why. why ≡ Refusal.NoMemory) }
 {
     start_frame(LIST_HEAD_LEN + entries_len(entries), out)?;
     out.extend_reserved(&[kind, entries.len() as u8]);

@@ -48,75 +48,6 @@ const STORED_LEN: usize = 9;
 /// The bytes of the payload of `Refused`.
 const REFUSED_LEN: usize = 10;
 
-/// Reads a payload whose kind is `Stored`.
-fn read_stored(payload: &[u8]) -> Option<Reply>
-    requires long { 0 < length payload.now }
-    requires stored { slice_index payload.now 0 ≡ 0x81 }
-    ensures reply { IfSome result (Says payload.now) }
-    ensures nothing { IfNone result (SaysNothing payload.now) }
-{
-    if payload.len() != STORED_LEN {
-        return None;
-    }
-    let number = first_u64(&payload[1..]);
-    if number > LAST_NUMBER {
-        return None;
-    }
-    Some(Reply::Stored(number))
-}
-
-/// Reads a payload whose kind is `Refused`.
-fn read_refused(payload: &[u8]) -> Option<Reply>
-    requires long { 0 < length payload.now }
-    requires refused { slice_index payload.now 0 ≡ 0xE0 }
-    ensures reply { IfSome result (Says payload.now) }
-    ensures nothing { IfNone result (SaysNothing payload.now) }
-{
-    if payload.len() != REFUSED_LEN {
-        return None;
-    }
-    let detail = first_u64(&payload[2..]);
-    match Refusal::of_code(payload[1]) {
-        Some(why) => Some(Reply::Refused { why, detail }),
-        None => None,
-    }
-}
-
-#[tactic(auto, using(crate::proofs::Behind::values_apart))]
-fn read_snapshot(payload: BytesMut) -> Result<Option<Reply>, AllocError>
-    requires { slice_index payload.items 0 ≡ 0x82 }
-    ensures reply { IfOk result (λ r. IfSome r (Says payload.items)) }
-    ensures nothing { IfOk result (λ r. IfNone r (SaysNothing payload.items)) }
-{
-    match read_list(payload)? {
-        Some(values) => Ok(Some(Reply::Snapshot(values))),
-        None => Ok(None),
-    }
-}
-
-#[tactic(auto, using(crate::proofs::Behind::statuses_apart))]
-fn read_status(payload: BytesMut) -> Result<Option<Reply>, AllocError>
-    requires { slice_index payload.items 0 ≡ 0x83 }
-    ensures reply { IfOk result (λ r. IfSome r (Says payload.items)) }
-    ensures nothing { IfOk result (λ r. IfNone r (SaysNothing payload.items)) }
-{
-    match read_list(payload)? {
-        Some(statuses) => Ok(Some(Reply::Status(statuses))),
-        None => Ok(None),
-    }
-}
-
-fn read_part(payload: BytesMut) -> Result<Option<Reply>, AllocError>
-    requires { slice_index payload.items 0 ≡ 0x84 }
-    ensures reply { IfOk result (λ r. IfSome r (Says payload.items)) }
-    ensures nothing { IfOk result (λ r. IfNone r (SaysNothing payload.items)) }
-{
-    match read_named(payload)? {
-        Some(values) => Ok(Some(Reply::Part(values))),
-        None => Ok(None),
-    }
-}
-
 /// Reads a payload, or returns `None` if it is no reply's.
 pub(crate) fn read_reply(payload: BytesMut) -> Result<Option<Reply>, AllocError>
     ensures reply { IfOk result (λ r. IfSome r (Says payload.items)) }
@@ -127,11 +58,26 @@ pub(crate) fn read_reply(payload: BytesMut) -> Result<Option<Reply>, AllocError>
         return Ok(None);
     }
     match bytes[0] {
-        STORED => Ok(read_stored(bytes)),
-        REFUSED => Ok(read_refused(bytes)),
-        SNAPSHOT => read_snapshot(payload),
-        STATUS => read_status(payload),
-        PART => read_part(payload),
+        STORED => {
+            if bytes.len() != STORED_LEN {
+                return Ok(None);
+            }
+            let number = first_u64(&bytes[1..]);
+            if number > LAST_NUMBER {
+                return Ok(None);
+            }
+            Ok(Some(Reply::Stored(number)))
+        }
+        REFUSED => {
+            if bytes.len() != REFUSED_LEN {
+                return Ok(None);
+            }
+            let detail = first_u64(&bytes[2..]);
+            Ok(Refusal::of_code(bytes[1]).map(|why| Reply::Refused { why, detail }))
+        }
+        SNAPSHOT => Ok(read_list(payload)?.map(Reply::Snapshot)),
+        STATUS => Ok(read_list(payload)?.map(Reply::Status)),
+        PART => Ok(read_named(payload)?.map(Reply::Part)),
         _ => Ok(None),
     }
 }
@@ -149,18 +95,6 @@ pub fn write_reply(reply: &Reply, out: &mut BytesMut) -> Result<(), Refusal>
     ensures err { OnErr result (out.new.items ≡ out.old.items) }
     ensures room { length (frame (says reply.now)) ≤ out.old.spare → IsOk result }
     ensures memory { IfErr result (λ why. why ≡ Refusal.NoMemory) }
-{
-    match append_reply(reply, out) {
-        Ok(()) => Ok(()),
-        Err(AllocError) => Err(Refusal::NoMemory),
-    }
-}
-
-fn append_reply(reply: &Reply, out: &mut BytesMut) -> Result<(), AllocError>
-    requires { IsInLimits reply.now }
-    ensures ok { OnOk result (out.new.items ≡ out.old.items ++ frame (says reply.now)) }
-    ensures err { OnErr result (out.new.items ≡ out.old.items) }
-    ensures room { length (frame (says reply.now)) ≤ out.old.spare → IsOk result }
 {
     match reply {
         Reply::Stored(number) => {

@@ -112,18 +112,6 @@ pub fn write_request(request: &Request, out: &mut BytesMut) -> Result<(), Refusa
     ensures room { length (frame (payload request.now)) ≤ out.old.spare → IsOk result }
     ensures memory { IfErr result (λ why. why ≡ Refusal.NoMemory) }
 {
-    match append_request(request, out) {
-        Ok(()) => Ok(()),
-        Err(AllocError) => Err(Refusal::NoMemory),
-    }
-}
-
-fn append_request(request: &Request, out: &mut BytesMut) -> Result<(), AllocError>
-    requires { length (payload request.now) ≤ max_payload }
-    ensures ok { OnOk result (out.new.items ≡ out.old.items ++ frame (payload request.now)) }
-    ensures err { OnErr result (out.new.items ≡ out.old.items) }
-    ensures room { length (frame (payload request.now)) ≤ out.old.spare → IsOk result }
-{
     match request {
         Request::Update {
             segment,

@@ -1,19 +1,16 @@
 //! The parsed command line of `snapd`, its exit statuses, and the advice about a file that was refused.
-//!
-//! A parsed command line is an [`Order`]: a command with its options. This crate re-exports the types that an order
-//! uses, the requests to a server and the limits of all layers.
+//! It hands on the types that an order uses, the requests to a server and the limits of all layers.
 #![tactic(auto)]
 
-mod address;
 mod order;
 mod remedy;
 mod status;
 
-pub use address::socket_path;
 pub use order::{
     CallOptions, CallRequest, DoctorOptions, DumpOptions, DumpSource, FileOrder, InitOptions,
     Level, LoadOptions, MAX_ADDRESSES, MAX_CLIENTS, MAX_EVERY, MAX_IDLE, MAX_TIMEOUT, MODE_BITS,
     MigrateOptions, Order, OutputFormat, PutOptions, ServeOptions, Source, WatchOptions,
+    socket_path,
 };
 pub use remedy::{empty_remedy, format_command, old_format_remedy, unformatted_remedy};
 pub use snap_client::MAX_TRIES;

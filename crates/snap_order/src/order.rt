@@ -60,8 +60,7 @@ pub enum FileOrder<'a> {
     Slot { file: &'a str, slot: u8 },
 }
 
-/// Converts a file of the old format, at the path `old`, to a new file at the path `new`, with the
-/// same number and value. `index` and `count` are the place of their segment, which stays.
+/// Converts a file of the old format to a new file with the same number, value and place.
 #[derive(Clone, Copy)]
 pub struct MigrateOptions<'a> {
     pub old: &'a str,
@@ -141,6 +140,11 @@ pub enum OutputFormat {
 /// The longest `--wait` and `--timeout` of a call, in seconds: a day.
 pub const MAX_TIMEOUT: u32 = 86_400;
 
+/// The path of a Unix socket's address: the text after `unix:`. `None` for a host and a port.
+pub fn socket_path(address: &str) -> Option<&str> {
+    address.strip_prefix("unix:")
+}
+
 /// Sends a request to a server, and prints its reply.
 #[derive(Drop)]
 pub struct CallOptions<'a> {
@@ -150,8 +154,7 @@ pub struct CallOptions<'a> {
     pub question: CallRequest,
     /// The most connections for each request: 1 to [`snap_client::MAX_TRIES`].
     pub tries: u8,
-    /// For how many seconds it connects again while it has no reply: 1 to [`MAX_TIMEOUT`]. `None`
-    /// if only `tries` limits it.
+    /// For how many seconds it connects again while it has no reply: 1 to [`MAX_TIMEOUT`]. `None`: as `tries` says.
     pub wait: Option<u32>,
     /// The timeout in seconds of all tries together: 1 to [`MAX_TIMEOUT`]. `None` without a timeout.
     pub timeout: Option<u32>,
@@ -167,8 +170,7 @@ pub const MAX_EVERY: u32 = 86_400_000;
 pub struct WatchOptions<'a> {
     /// The server's address, as text that the system may refuse.
     pub address: &'a str,
-    /// The segments that are shown, in the order given, each less than [`snap_history::MAX_COUNT`].
-    /// Empty for all segments.
+    /// The segments that are shown, in this order, each less than [`snap_history::MAX_COUNT`]; all if it is empty.
     pub segments: Vec<u8>,
     /// The time between two polls in milliseconds: 1 to [`MAX_EVERY`]. `None` if it wasn't given.
     pub every: Option<u32>,
@@ -181,13 +183,11 @@ pub struct WatchOptions<'a> {
 pub struct DumpOptions<'a> {
     /// The source of the values.
     pub holder: DumpSource<'a>,
-    /// The most connections that are made to a server: 1 to [`snap_client::MAX_TRIES`].
+    /// As [`CallOptions::tries`].
     pub tries: u8,
-    /// For how many seconds it connects again while it has no reply: 1 to [`MAX_TIMEOUT`]. `None`
-    /// if only `tries` limits it.
+    /// As [`CallOptions::wait`].
     pub wait: Option<u32>,
-    /// The timeout in seconds of all tries together, for a server's reply: 1 to [`MAX_TIMEOUT`].
-    /// `None` without a timeout.
+    /// As [`CallOptions::timeout`].
     pub timeout: Option<u32>,
 }
 
@@ -214,8 +214,7 @@ pub struct LoadOptions<'a> {
 /// The request of a call, which also decides how the reply is printed.
 #[derive(Drop)]
 pub enum CallRequest {
-    /// Send this request, and print its reply. It fits a frame: an update's value has at most
-    /// [`snap_frame::MAX_UPDATE_VALUE`] bytes. A scan of some segments names at least one.
+    /// Send this request, and print its reply. It fits a frame, and a scan of some segments names at least one.
     Request(Request),
     /// Ask for the status, to find out whether a segment is fenced. The exit status says so too.
     Health,

@@ -1,8 +1,5 @@
-//! Advice about a file that was refused, in the same words for every command that opens one. Each
-//! text is printed after the name of its file.
-//!
-//! `snapd format` destroys the contents of a file. So the advice to run it begins with
-//! `keep a copy first`, unless the file is empty.
+//! Advice about a file that was refused, which is printed after the file's name. A format destroys
+//! what the file holds: so the advice to run one begins with `keep a copy first`, unless it is empty.
 
 use std::alloc::{AllocError, Global};
 
@@ -21,8 +18,7 @@ pub fn empty_remedy(alloc: Global, command: &str) -> Result<String, AllocError> 
     format!(in alloc; "it has no byte: a format that was cut off: go on with {command}")
 }
 
-/// Advice for a file whose header's gate is closed. Its slots may still hold values, which
-/// `command`, a format, destroys.
+/// Advice for a file whose header's gate is closed: its slots may still hold values.
 pub fn unformatted_remedy(alloc: Global, command: &str) -> Result<String, AllocError> {
     format!(in alloc;
         "it was never formatted, or its header is gone: keep a copy first, then {command}"

@@ -1,16 +1,11 @@
-//! Answers requests on the shared memory: updates by the segments' writers, scans and statuses.
-//! Begin with the relation `Answers` (specs/Answers.antt).
+//! Answers requests on the shared memory: updates by the segments' writers, scans and statuses. The relation `Answers`
+//! (specs/Answers.antt) says how a service may answer, by what its scanner has seen before and after. The reply to an
+//! update is its writer's result ([`settle`]); a scan is the memory at one moment that the scanner sees ([`answer_scan`]).
 //!
-//! `Answers` says how a service may answer, by what its scanner has seen before and after. The
-//! reply to an update is its writer's result ([`settle`], settlement.rt); a scan is the memory at
-//! one moment that the scanner sees ([`answer_scan`], scans.rt).
-//!
-//! [`Node`] (node.rt, with shared.rt, lock.rt and locked_writer.rt) is a service whose writers are under locks, one for
-//! each segment: a scan takes no lock, and an update locks its own segment alone. It is for a server inside another
-//! program, as in tests and benchmarks; `snapd` uses the desks of `snap_desk`.
+//! [`Node`] is a service whose writers are under locks, one for each segment. It is for a server inside another program,
+//! as in tests and benchmarks; `snapd` uses the desks of `snap_desk`.
 #![tactic(auto)]
 
-mod lock;
 mod locked_writer;
 mod memory;
 mod node;

@@ -1,4 +1,4 @@
-//! A writer under its lock, and the token that changing it needs.
+//! Writers under locks, and the token that taking a lock and changing a writer need.
 ghost use Rattle.std.specs.Prelude.{◌≡◌, ◌≢◌, ◌+◌, ◌<◌, ◌↔◌, IsTrue, IsSome};
 ghost use Rattle.snap_history.specs.Limits.{IsShort};
 ghost use Rattle.snap_memory.specs.{Rule.segments, Seat.own_of};
@@ -22,8 +22,7 @@ use std::marker::{Model, PhantomData};
 /// The right to take the writers' locks: a node's scanner, with counts of the locks that the node
 /// took and of the updates that it did, both modulo 2^64.
 ///
-/// Taking a writer's lock, and updating a writer under one, need a token. A token is made from a
-/// scanner alone, so a node has exactly one.
+/// It is made from a scanner alone, so a node has exactly one.
 #[derive(Drop)]
 pub(crate) struct LockToken {
     scanner: Scanner,
@@ -65,7 +64,7 @@ impl LockToken {
         self.scanner
     }
 
-    /// Answers a scan, as [`answer_scan`](crate::answer_scan) does. No lock is taken, and no writer changes.
+    /// Answers a scan, as [`answer_scan`](crate::answer_scan) does.
     pub(crate) fn scan(&mut self, alloc: Global) -> Reply
         ensures answer { AnswersScan self.old.scanner result self.new.scanner }
         ensures limits { IsInLimits result }
@@ -76,8 +75,7 @@ impl LockToken {
         answer_scan(alloc, &mut self.scanner)
     }
 
-    /// Answers a scan of some segments, as [`answer_part`](crate::answer_part) does. No lock is
-    /// taken, and no writer changes.
+    /// Answers a scan of some segments, as [`answer_part`](crate::answer_part) does.
     pub(crate) fn part(&mut self, alloc: Global, set: SegmentSet) -> Reply
         requires some { 0 < set.bits }
         ensures answer { AnswersPart self.old.scanner set.bits result self.new.scanner }
@@ -170,8 +168,7 @@ impl<M: Memory, D: Disk> LockedWriter<M, D> {
         }
     }
 
-    /// Updates `segment` by the writer, and replies with the writer's result. If the writer is of
-    /// another segment, it doesn't change, and the reply comes from one look.
+    /// Updates `segment` by the writer, and replies with its result; by one look, if the writer is of another segment.
     pub(crate) fn update(
         &mut self,
         token: &mut LockToken,

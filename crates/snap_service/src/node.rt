@@ -1,16 +1,16 @@
 //! The node: a service over writers under locks.
-ghost use Rattle.std.specs.Prelude.{◌≡◌, ◌<◌};
+ghost use Rattle.std.specs.Prelude.{◌≡◌};
 ghost use Rattle.snap_frame.specs.Messages.{IsInLimits, IsAskable};
 ghost use Rattle.snap_service.specs.Memory.{IsOf};
 ghost use Rattle.snap_service.specs.Counted.{Counts, CountsNothing, CountsUpdate};
-ghost use Rattle.snap_service.specs.Answers.{Answers, AnswersUpdate, AnswersScan, AnswersPart, AnswersStatus};
+ghost use Rattle.snap_service.specs.Answers.{Answers, AnswersUpdate, AnswersScan, AnswersStatus};
 
 use crate::locked_writer::LockToken;
 use crate::memory::Memory;
 use crate::shared::Shared;
 use crate::verdict::refuse_place;
 use snap_disk::{Disk, Refusal};
-use snap_frame::{Reply, Request, SegmentSet};
+use snap_frame::{Reply, Request};
 use snap_memory::Scanner;
 use snap_session::Service;
 use std::alloc::{AllocError, Global};
@@ -92,23 +92,13 @@ impl<'a, R: Wait, M: Memory, D: Disk + Drop> Node<'a, R, M, D> {
         }
     }
 
-    /// Answers a scan. No lock is taken, and no writer changes.
+    /// Answers a scan.
     fn scan(&mut self) -> Reply
         ensures answer { AnswersScan self.old.scanner result self.new.scanner }
         ensures limits { IsInLimits result }
         ensures counts { CountsNothing self.old self.new }
     {
         self.token.scan(self.alloc)
-    }
-
-    /// Answers a scan of some segments. No lock is taken, and no writer changes.
-    fn part(&mut self, set: SegmentSet) -> Reply
-        requires some { 0 < set.bits }
-        ensures answer { AnswersPart self.old.scanner set.bits result self.new.scanner }
-        ensures limits { IsInLimits result }
-        ensures counts { CountsNothing self.old self.new }
-    {
-        self.token.part(self.alloc, set)
     }
 
     /// Answers any request.
@@ -126,7 +116,7 @@ impl<'a, R: Wait, M: Memory, D: Disk + Drop> Node<'a, R, M, D> {
             } => self.update(usize::from(*segment), *number, value.as_slice()),
             Request::Scan => self.scan(),
             Request::Status => self.status(),
-            Request::Part(set) => self.part(*set),
+            Request::Part(set) => self.token.part(self.alloc, *set),
         }
     }
 

@@ -1,8 +1,5 @@
-//! The session: one connection's conversation as a value, over memory.
-//!
-//! A session holds the bytes that arrived and aren't answered, and the pending output. It does no input or output
-//! itself: its caller gives it the bytes that arrived, has it answer, and removes the bytes that were written, in
-//! pieces of any size and in any order of these calls (`specs/Talk.antt`).
+//! The session: one connection's conversation as a value over memory, without input or output. Its caller gives it the
+//! bytes that arrived, has it answer, and removes the bytes that were written, in any order (`specs/Talk.antt`).
 ghost use Rattle.std.specs.Prelude.{◌≡◌, ◌≤◌, ◌<◌, ◌+◌, ◌↔◌, IsTrue, [], length, drop, Some, None, IfSome, true, false};
 ghost use Rattle.snap_frame.specs.Stream.{IsPartial};
 ghost use Rattle.snap_frame.specs.Messages.{max_payload, payload, says, IsAskable, IsInLimits};
@@ -173,23 +170,6 @@ impl Session {
         self.asked.is_none()
     }
 
-    /// Whether one more request may be answered: the pending output is below [`MAX_OWED`].
-    fn has_room(&self) -> bool
-        ensures { IsTrue result ↔ (length self.now.owed < MAX_OWED) }
-    {
-        self.owed.len() < MAX_OWED
-    }
-
-    /// Takes out the request that was handed over, if there is one.
-    fn take_asked(&mut self) -> Option<Request>
-        ensures asked { result ≡ self.old.asked }
-        ensures fits { IfSome result (λ q. length (payload q) ≤ max_payload) }
-        ensures askable { IfSome result IsAskable }
-        ensures rest { self.new ≡ record self.old { asked = None } }
-    {
-        self.asked.take()
-    }
-
     /// Stores a request that was handed over.
     fn keep(&mut self, request: Request)
         requires fits { length (payload request) ≤ max_payload }
@@ -243,9 +223,8 @@ impl Session {
     /// Answers the whole frames that are held, in order, until none is left, one is handed over,
     /// [`MAX_OWED`] bytes of output are pending, or [`MAX_ANSWERS`] are answered.
     ///
-    /// A frame that is no request is refused as malformed. A length above the limit is refused, and
-    /// the session is over. `key` is the connection's key, with which requests are handed over. Not
-    /// to be called on a session that is over.
+    /// A frame that is no request is refused as malformed. A length above the limit is refused, and the session is
+    /// over. Requests are handed over with the connection's `key`. Not to be called on a session that is over.
     pub fn answer<S: Service>(&mut self, service: &mut S, key: usize) -> WaitingFor
         requires going { self.old.over ≡ None }
         requires asked { AreAsked S.asked self.old.held }
@@ -259,7 +238,7 @@ impl Session {
             return WaitingFor::Outcome;
         }
         for _ in 0..MAX_ANSWERS {
-            if self.over().is_some() || !self.has_room() {
+            if self.over().is_some() || self.owed().len() >= MAX_OWED {
                 return WaitingFor::Turn;
             }
             match self.answer_one(service, key) {
@@ -281,12 +260,9 @@ impl Session {
         ensures held { self.new.held ≡ self.old.held }
         ensures nobody { self.old.asked ≡ None → self.new ≡ self.old }
     {
-        match self.take_asked() {
-            None => {}
-            Some(request) => {
-                let reply = service.finish(&request, outcome);
-                self.owe(&reply);
-            }
+        if let Some(request) = self.asked.take() {
+            let reply = service.finish(&request, outcome);
+            self.owe(&reply);
         }
     }
 }

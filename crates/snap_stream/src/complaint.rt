@@ -21,34 +21,19 @@ pub fn complain<E: Write, T: Display>(alloc: Global, errors: &mut E, text: &T) -
     ensures { Complains (T.output text.now) result (E.contents errors.old) (E.contents errors.new) }
 {
     // The text is made first: after a `Display` whose text isn't known, the writer's contents wouldn't be known either.
-    match format!(in alloc; "{text}") {
-        Ok(text) => write_line(alloc, errors, text.as_str()).is_ok(),
-        Err(_) => complain_in_place(errors, text),
-    }
-}
-
-/// [`complain`] without memory.
-fn complain_in_place<E: Write, T: Display>(errors: &mut E, text: &T) -> bool
-    ensures { Complains (T.output text.now) result (E.contents errors.old) (E.contents errors.new) }
-{
-    let text = InlineText::<IN_PLACE>::of(text);
-    let text = text.as_str();
-    let is_cut = text.as_bytes().ends_with(b"...");
-    write_parts(errors, text).is_ok() && !is_cut
-}
-
-/// Writes the line of a text: in one call, if there is memory and the writer takes it whole.
-fn write_line<E: Write>(alloc: Global, errors: &mut E, text: &str) -> io::Result<()>
-    ensures whole { OnOk result (Appends (E.contents errors.old) (E.contents errors.new) (complaint_line text.now)) }
-    ensures cut { OnErr result (AppendsLess (E.contents errors.old) (E.contents errors.new) (complaint_line text.now)) }
-{
+    let Ok(text) = format!(in alloc; "{text}") else {
+        let text = InlineText::<IN_PLACE>::of(text);
+        let text = text.as_str();
+        let is_cut = text.as_bytes().ends_with(b"...");
+        return write_parts(errors, text).is_ok() && !is_cut;
+    };
     match format!(in alloc; "snapd: {text}\n") {
-        Ok(line) => write_whole(errors, line.as_bytes()),
-        Err(_) => write_parts(errors, text),
+        Ok(line) => write_whole(errors, line.as_bytes()).is_ok(),
+        Err(_) => write_parts(errors, text.as_str()).is_ok(),
     }
 }
 
-/// [`write_line`] without memory.
+/// Writes the line of a text without memory.
 fn write_parts<E: Write>(errors: &mut E, text: &str) -> io::Result<()>
     ensures whole { OnOk result (Appends (E.contents errors.old) (E.contents errors.new) (complaint_line text.now)) }
     ensures cut { OnErr result (AppendsLess (E.contents errors.old) (E.contents errors.new) (complaint_line text.now)) }

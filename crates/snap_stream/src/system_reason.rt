@@ -15,7 +15,7 @@ pub trait SystemReason {
 }
 
 /// Knows no reason: for a device in memory, or one that made no call.
-#[derive(Clone, Copy, Debug, PartialEq, Eq)]
+#[derive(Clone, Copy, PartialEq, Eq)]
 pub struct NoReason;
 
 impl SystemReason for NoReason {

@@ -28,12 +28,9 @@ impl TestStream {
 
 impl Read for TestStream {
     fn read(&mut self, buf: &mut [u8]) -> io::Result<usize> {
-        let mut left = self.bytes.as_slice();
-        if self.passed <= left.len() {
-            left = &left[self.passed..];
-        }
-        let n = self.next(left.len().min(buf.len()))?;
-        let n = n.min(left.len()).min(buf.len());
+        let left = &self.bytes[self.passed.min(self.bytes.len())..];
+        let there = left.len().min(buf.len());
+        let n = self.next(there)?.min(there);
         buf[..n].copy_from_slice(&left[..n]);
         self.passed = self.passed.saturating_add(n);
         Ok(n)

@@ -1,5 +1,5 @@
-use Rattle.std.proofs.Common.{rules, of_calls, arith}
-use Rattle.snap_client.{specs.Again.MayPass, proofs.Tries.tries_ended, proofs.Tries.tries_on}
+use Rattle.std.proofs.Common.{of_calls, arith, sym, ◌∙◌, true≢false}
+use Rattle.snap_client.proofs.Tries.{tries_ended, tries_on}
 use Rattle.snap_client.proofs.again.call_again.Goals as goal
 
 pub try_once-requires-clause-callable : goal.try_once-requires-clause-callable
@@ -10,15 +10,15 @@ returns-in-Ok g c =
     c.loop-left.invariant.rest _ _
     (tries_ended _ _ _ _ c.loop-left.left _ _ _ c.loop-left.invariant.some c.in-Ok.ensures tt)
 
-pub returns-then-not-may_pass : goal.returns-then-not-may_pass
-returns-then-not-may_pass g c =
-    let final : MayPass c.in-Err.fault → ⊥ = search rules in
+pub returns-in-Err-2 : goal.returns-in-Err-2
+returns-in-Err-2 g c =
     c.loop-left.invariant.rest _ _
-    (tries_ended _ _ _ _ c.loop-left.left _ _ _ c.loop-left.invariant.some c.in-Err.ensures final)
+    (tries_ended _ _ _ _ c.loop-left.left _ _ _ c.loop-left.invariant.some c.in-Err.ensures
+    (λ may. absurd (true≢false (sym (c.may_pass.ensures.1 may) ∙ c.if-may_pass.false))))
 
 pub loop-left-preserved : goal.loop-left-preserved
 loop-left-preserved g c =
-    let may : MayPass c.in-Err.fault = search rules in
+    let may = c.may_pass.ensures.0 c.if-may_pass.true in
     record {
       callable = search of_calls;
       some = omega (arith, c.loop-left-test.true);

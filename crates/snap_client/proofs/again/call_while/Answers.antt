@@ -1,5 +1,5 @@
-use Rattle.std.proofs.Common.{rules, of_calls, arith, ◌≡◌, ◌-◌, ◌^◌, suc, inl, refl}
-use Rattle.snap_client.{specs.Again.MayPass, proofs.Tries.tries_last, proofs.Tries.tries_next}
+use Rattle.std.proofs.Common.{of_calls, arith, ◌≡◌, ◌-◌, ◌^◌, suc, inl, refl}
+use Rattle.snap_client.proofs.Tries.{tries_last, tries_next}
 use Rattle.snap_client.proofs.again.call_while.Goals as goal
 
 pub returns-in-Ok : goal.returns-in-Ok
@@ -19,7 +19,7 @@ loop-left-init g c = record {
 
 pub returns-in-Ok-try_once : goal.returns-in-Ok-try_once
 returns-in-Ok-try_once g c =
-    let may : MayPass c.loop-left.fault = search rules in
+    let may = c.may_pass.ensures.0 c.if-not-may_pass.false in
     let made = 2 ^ 64 - c.loop-left.left in (
       suc made,
       c.try_once-in-loop-left.new.connect,
@@ -30,7 +30,7 @@ returns-in-Ok-try_once g c =
 
 pub loop-left-preserved : goal.loop-left-preserved
 loop-left-preserved g c =
-    let may : MayPass c.loop-left.fault = search rules in
+    let may = c.may_pass.ensures.0 c.if-not-may_pass.false in
     let made = 2 ^ 64 - c.loop-left.left in
     let one_more : suc made ≡ 2 ^ 64 - (c.loop-left.left - 1) =
     omega (arith, c.loop-left-test.true, c.loop-left.invariant.within) in

@@ -1,5 +1,5 @@
-use Rattle.std.proofs.Common.{rules}
+use Rattle.std.proofs.{lemmas.Grind.common_steps, Common.arith}
 use Rattle.snap_frame.proofs.request.write_request.Goals as goal
 
-pub returns-in-Err-clause-memory : goal.returns-in-Err-clause-memory
-returns-in-Err-clause-memory c = search rules
+pub returns-in_ok-start_frame-in-Update-clause-ok : goal.returns-in_ok-start_frame-in-Update-clause-ok
+returns-in_ok-start_frame-in-Update-clause-ok c = grind (arith, common_steps)

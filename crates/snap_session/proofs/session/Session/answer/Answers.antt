@@ -1,4 +1,4 @@
-use Rattle.std.proofs.Common.{arith, refl, sym, ◌∙◌}
+use Rattle.std.proofs.Common.{arith, refl, ap, length, sym, ◌∙◌}
 use Rattle.snap_session.specs.Talk.{most_answers}
 use Rattle.snap_session.proofs.{Steps.rests, Steps.by_more, Held.still_going, Continuation.goes_more}
 use Rattle.snap_session.proofs.session.Session.answer.Goals as goal
@@ -40,7 +40,7 @@ loop-preserved g c = record {
   goes = goes_more g.S.Service.gives _ _ _ _ _ _ _ 1 c.loop.invariant.goes c.answer_one.ensures.goes;
   asked = c.answer_one.ensures.asked;
   free = c.in-Turn.ensures.wants.0;
-  bounded = λ few. omega (arith, c.answer_one.ensures.bounded, c.has_room.ensures.0 c.if-not-has_room.false);
+  bounded = λ few. omega (arith, c.answer_one.ensures.bounded, c.if-owed-ge-MAX_OWED.false, ap length c.owed.ensures);
   held = λ going. omega (
     arith,
     c.answer_one.ensures.held going,

@@ -2,7 +2,7 @@ use Rattle.std.proofs.Common.{◌-◌, List, ℕ, codes, length, drop, nat_eq, I
 use Rattle.std.specs.{Cmp.Lexicographic.pointwise, Fmt.Cut.IsTextOrCut}
 use Rattle.snap_stream.specs.declared.complaint.TheConstants.{IN_PLACE}
 use Rattle.snap_stream.proofs.{Complaints.told_in_place, Lines.on_ok}
-use Rattle.snap_stream.proofs.complaint.complain_in_place.Goals as goal
+use Rattle.snap_stream.proofs.complaint.complain.Goals as goal
 
 pub returns-then-is_ok : goal.returns-then-is_ok
 returns-then-is_ok g c =
