@@ -80,8 +80,11 @@ impl Machine {
         self.keep(segment, number);
         if segment + 1 < self.segments {
             self.next = Next::Look(segment + 1);
+        } else if self.changed {
+            self.changed = false;
+            self.next = Next::Look(0);
         } else {
-            self.end_collect();
+            self.next = Next::Clean;
         }
     }
 
@@ -114,19 +117,5 @@ impl Machine {
         }
         self.latest[segment] = number;
         self.looks += 1;
-    }
-
-    /// Ends a collect: with the answer if it found the same numbers as the one before, else with
-    /// one more collect to compare with it.
-    fn end_collect(&mut self)
-        ensures { MatchBool self.old.changed (self.new ≡ record self.old { next = Next.Look 0; changed = false })
-            (self.new ≡ record self.old { next = Next.Clean }) }
-    {
-        if self.changed {
-            self.changed = false;
-            self.next = Next::Look(0);
-        } else {
-            self.next = Next::Clean;
-        }
     }
 }
