@@ -61,13 +61,8 @@ impl Access {
         (b, pins)
     }
 
-    // Finds a free buffer of the seat's own register `i`: one that isn't current and that nobody pins.
-    //
-    // The writer knows for each buffer all pins ever taken on it: those that the current word counted while the buffer
-    // was current. The given-back count has the pins that were returned. If both are equal, nobody pins the buffer, and
-    // nobody will before it is current again, because only the current buffer is pinned. Each of the n + S seats pins
-    // at most one buffer of a register, and n + S + 1 buffers aren't current, so one of them is free: the loop always
-    // ends by its `return`.
+    // Finds a free buffer of the seat's own register `i`: one that isn't current, and whose pins were all given back.
+    // There always is one, so the loop ends by its `return`.
     fn find_free(&mut self, i: usize, current: usize, counted: &[u64; MAX_BUFFERS]) -> usize
         requires own { Owns (view_of self.old) i }
         requires current { (current ≡ (pool_of self.old).current) × (current < buffers (view_of self.old).plan)
