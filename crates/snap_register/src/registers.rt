@@ -17,11 +17,8 @@ use std::alloc::{AllocError, Global};
 pub struct Registers;
 
 impl Registers {
-    /// Makes registers in which segment i starts with the number and value `values[i]`. Returns one
-    /// seat for each segment's writer and one for each scanner, each with `looks` looks. No seat
-    /// has seen an update yet. The registers are freed with the last of their seats.
-    ///
-    /// Returns the `AllocError` if memory runs out.
+    /// Makes registers in which segment i starts with the number and value `values[i]`. Returns one seat for each
+    /// segment's writer and one for each scanner, each with `looks` looks. The last of the seats frees the registers.
     pub fn open(
         alloc: Global,
         values: &[(u64, Vec<u8>)],
@@ -47,24 +44,34 @@ impl Registers {
     }
 }
 
-// A number and a value as the words of a block.
+// A number and a value as words.
 fn opening_of(alloc: Global, number: u64, value: &[u8]) -> Result<Opening, AllocError>
     requires { IsShort value.now }
     ensures number { IfOk result (λ x. x.number ≡ number) }
     ensures size { IfOk result (λ x. length x.words.items ≡ BLOCK_WORDS) }
     ensures block { IfOk result (λ x. IsBlock x.words.items 0 number value.now) }
 {
+    let mut words = [0u64; BLOCK_WORDS];
+    pack(number, value, &mut words);
+    Ok(Opening {
+        number,
+        words: words.as_slice().to_vec(alloc)?,
+    })
+}
+
+// Writes the block of a number and a value.
+fn pack(number: u64, value: &[u8], words: &mut [u64])
+    requires bytes { IsShort value.now }
+    requires words { length words.old ≡ BLOCK_WORDS }
+    ensures size { length words.new ≡ BLOCK_WORDS }
+    ensures block { IsBlock words.new 0 number value.now }
+{
     let mut bytes = [0u8; MAX_VALUE_LEN];
     bytes[..value.len()].copy_from_slice(value);
-    let mut words = [0u64; BLOCK_WORDS];
     words[0] = number;
     words[1] = value.len() as u64;
     for q in 0..VALUE_WORDS {
         let at = 8 * q;
         words[2 + q] = word_of(&bytes[at..at + 8]);
     }
-    Ok(Opening {
-        number,
-        words: words.as_slice().to_vec(alloc)?,
-    })
 }

@@ -1,6 +1,6 @@
 use Rattle.std.proofs.Common.{◌≡◌, ℕ, ◌+◌, ◌*◌, ◌<◌, length, slice_index, take, drop}
 use Rattle.std.specs.Int.{w64, to_le_bytes}
-use Rattle.snap_register.proofs.registers.opening_of.Given as goal
+use Rattle.snap_register.proofs.registers.pack.Given as goal
 
 abbrev pub invariant-loop-q : goal.invariant-loop-q
 invariant-loop-q l = record {
