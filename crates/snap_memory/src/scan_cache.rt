@@ -7,8 +7,7 @@ ghost use Rattle.snap_scan.specs.Sets.{named, size};
 ghost use Rattle.snap_scan.specs.{Values.pair_of, declared.segment_value.SegmentValue.SegmentValue};
 ghost use Rattle.snap_memory.specs.Scans.{IsPart, IsSetOf, HasLooks, TakesLooksOf};
 ghost use Rattle.snap_memory.specs.ScanCaches.{number_of, HasPlace, IsFoundAt, IsFound, WasSeen, IsKeptOf, AreKept};
-ghost use Rattle.snap_memory.specs.ScanCaches.{IsEntry};
-ghost use Rattle.snap_memory.specs.ScanCaches.{AreEntries};
+ghost use Rattle.snap_memory.specs.ScanCaches.{IsEntry, AreEntries};
 
 use crate::looks::gather;
 use bytes::Bytes;
@@ -110,17 +109,6 @@ impl<'a> ScanSource<'a> {
     }
 }
 
-/// The cached value, if it has this number.
-fn kept_value(kept: &Option<SegmentValue>, number: u64) -> Result<Option<Bytes>, AllocError>
-    ensures { IfOk result (λ found. IfSome found (λ v. (x : SegmentValue) × (kept.now ≡ Some x)
-        × (x.number ≡ number) × (x.value ≡ v))) }
-{
-    match kept {
-        Some(entry) if entry.number == number => Ok(Some(entry.value.clone()?)),
-        _ => Ok(None),
-    }
-}
-
 /// The entry found for segment `i`: from the cache if that has the number, else read and then cached.
 fn take_entry<L: Looker>(
     alloc: Global,
@@ -137,15 +125,20 @@ fn take_entry<L: Looker>(
     ensures same { L.known seat.new ≡ L.known seat.old }
 {
     let number = found.number(i);
-    if let Some(value) = kept_value(kept, number)? {
-        return Ok(SegmentValue { number, value });
+    match kept {
+        Some(entry) if entry.number == number => Ok(SegmentValue {
+            number,
+            value: entry.value.clone()?,
+        }),
+        _ => {
+            let value = found.read(alloc, seat, i)?;
+            *kept = Some(SegmentValue {
+                number,
+                value: value.clone()?,
+            });
+            Ok(SegmentValue { number, value })
+        }
     }
-    let value = found.read(alloc, seat, i)?;
-    *kept = Some(SegmentValue {
-        number,
-        value: value.clone()?,
-    });
-    Ok(SegmentValue { number, value })
 }
 
 /// The entries found for the segments in `set`: from the cache if it has the number, else read and then cached.

@@ -22,8 +22,6 @@ impl Model for Snapshot {
 
 impl Snapshot {
     /// Room for `n` segments, 4,096 bytes each. At first each has number 0 and the empty value.
-    ///
-    /// Returns the `AllocError` if memory runs out.
     pub fn new(alloc: Global, n: usize) -> Result<Snapshot, AllocError>
         ensures size { IfOk result (λ s. length s ≡ n) }
         ensures values { IfOk result (λ s. s ≡ replicate n (0, [])) }

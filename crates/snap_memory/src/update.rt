@@ -11,8 +11,6 @@ use snap_scan::{MAX_SEGMENTS, SegmentSet};
 /// The scan inside an update: returns where the memory is that the update is to carry. That memory
 /// has all that was in the history at the first look of this call. The seat may publish one update
 /// with it, as long as it makes no further look.
-///
-/// It uses up looks. The caller must make sure that enough for a scan are left ([`most_looks`](snap_scan::most_looks)).
 pub fn prepare(seat: &mut WriteSeat) -> View
     requires left { CanScan seat.old }
     ensures seen { Grows seat.old seat.new }

@@ -8,17 +8,17 @@
 //! 2^56, plus the number of pins taken on it since it became current. Each buffer also has a *given-back count*. All of
 //! these are words of one table (`atomic_table`), and threads touch them only by the steps below.
 //!
-//! A *seat* belongs to a participant, a writer or a scanner. It takes a look by one addition to the current word. This
-//! returns the index of the current buffer, and counts a pin on that buffer at once. From then on nobody writes the
-//! buffer until the seat returns the pin by an addition to the given-back count, which it does at its next look there.
-//! So the seat can read the record word by word, in its own time. A look begins by a load of the current word: if the
-//! buffer that the seat pins is still the current one, that was the look, and the pin stays.
+//! A *seat* belongs to a writer or a scanner. It takes a look by one addition to the current word. This returns the
+//! index of the current buffer, and counts a pin on that buffer at once. From then on nobody writes the buffer until
+//! the seat returns the pin by an addition to the given-back count, at its next look there. So it can read the record
+//! word by word, in its own time. A look begins by a load of the current word: if the buffer that the seat pins is
+//! still the current one, that was the look, and the pin stays.
 //!
 //! A writer shows an update by filling a buffer that nobody pins and swapping it in. The swap returns how many pins the
 //! old current word had counted, so the writer knows for each of its buffers all pins ever taken on it. A buffer that
 //! isn't current gets no new pins: once as many were given back, nobody pins it. Each of the n + S seats pins at most
-//! one buffer of a register, and n + S + 1 aren't current, so one of these is free, and the writer never waits. A seat
-//! takes a pin by a look, of which it has 2^50 at most, so no count comes near 2^56.
+//! one buffer of a register, and n + S + 1 aren't current, so one of these is free, and the writer never waits. Each
+//! seat has 2^50 looks at most, so no count of pins comes near 2^56.
 //!
 //! # One history
 //!

@@ -17,11 +17,8 @@ use std::alloc::{AllocError, Global};
 pub struct Registers;
 
 impl Registers {
-    /// Makes registers in which segment i starts with the number and value `values[i]`. Returns one
-    /// seat for each segment's writer and one for each scanner, each with `looks` looks. No seat
-    /// has seen an update yet. The registers are freed with the last of their seats.
-    ///
-    /// Returns the `AllocError` if memory runs out.
+    /// Makes registers in which segment i starts with the number and value `values[i]`. Returns one seat for each
+    /// segment's writer and one for each scanner, each with `looks` looks. The last of the seats frees the registers.
     pub fn open(
         alloc: Global,
         values: &[(u64, Vec<u8>)],

@@ -62,8 +62,6 @@ pub trait Looker {
         ensures same { known self.new ≡ known self.old };
 
     /// The value of `j` that the last look found, in new memory.
-    ///
-    /// Returns the `AllocError` if memory runs out.
     fn value_bytes(&mut self, alloc: Global, j: usize) -> Result<Bytes, AllocError>
         requires segment { j < segments (known self.old).plan }
         requires looked { HasLooked (known self.old) j }
@@ -258,7 +256,7 @@ impl WriteSeat {
     }
 
     /// Shows an update of the seat's segment to `value`, with this view, and returns its number. The update is in the
-    /// history from one moment of this call on. It always finds a free buffer, so it never waits and never fails.
+    /// history from one moment of this call on.
     pub fn publish(&mut self, value: &[u8], view: &View) -> u64
         requires size { IsShort value.now }
         requires next { IsNumber (number_in self.old self.old.seen (own_of self.old) + 1) }
@@ -268,19 +266,14 @@ impl WriteSeat {
         ensures below { IsBelow self.new }
         ensures number { result ≡ number_in self.new self.new.seen (own_of self.new) }
     {
-        let next = self.number + 1;
-        let (current, pins) = self.access.publish(
-            self.segment,
-            self.current,
-            &self.counted,
-            &self.filled,
-            next,
-            value,
-            view,
-        );
-        self.counted[self.current] += pins;
-        self.current = current;
-        self.filled[current] = next;
+        let (i, current, next) = (self.segment, self.current, self.number + 1);
+        let b = self.access.find_free(i, current, &self.counted);
+        let is_filled = self.filled[b] > 0;
+        let end = self.access.draft_value(i, b, next, value, is_filled);
+        self.access.copy_view(i, b, end, view);
+        self.counted[current] += self.access.swap(i, current, b);
+        self.current = b;
+        self.filled[b] = next;
         self.number = next;
         next
     }

@@ -32,84 +32,73 @@ pub type WordTable = Table<(), SeatView, Setup, OneHistory, Global>;
 
 pub type TableSeat = Seat<(), SeatView>;
 
-// A fetch_add on a current word.
+// The steps in the table at the head of lib.rt, and their results.
 pub(crate) struct Pin;
 
 impl Play<(), SeatView> for Pin {
     ghost then = { pinning };
 }
 
-// A load of a current word, in place of a pin.
 pub(crate) struct Revisit;
 
 impl Play<(), SeatView> for Revisit {
     ghost then = { revisited };
 }
 
-// A fetch_add on a given-back count.
 pub(crate) struct GiveBack;
 
 impl Play<(), SeatView> for GiveBack {
     ghost then = { giving };
 }
 
-// A load of a current word.
 pub(crate) struct CatchUp;
 
 impl Play<(), SeatView> for CatchUp {
     ghost then = { caught_up };
 }
 
-// A load of a current word before a store.
 pub(crate) struct BeginStore;
 
 impl Play<(), SeatView> for BeginStore {
     ghost then = { begun };
 }
 
-// A load of a current word after a store.
 pub(crate) struct EndStore;
 
 impl Play<(), SeatView> for EndStore {
     ghost then = { ended };
 }
 
-// A load of a word of a pinned buffer.
 pub(crate) struct Read;
 
 impl Play<(), SeatView> for Read {
     ghost then = { read };
 }
 
-// A load of the given-back count of an own buffer.
 pub(crate) struct Check;
 
 impl Play<(), SeatView> for Check {
     ghost then = { checked };
 }
 
-// A load of the next word of the free buffer.
 pub(crate) struct Reuse;
 
 impl Play<(), SeatView> for Reuse {
     ghost then = { reused };
 }
 
-// A load of a word of the free buffer, whose old record stays as far as that.
 pub(crate) struct Retain;
 
 impl Play<(), SeatView> for Retain {
     ghost then = { retained };
 }
 
-// A store in place of the last drafted word of the free buffer.
 pub(crate) struct Redraft;
 
 impl Play<(), SeatView> for Redraft {
     ghost then = { redrafted };
 }
 
-// A swap of the seat's own current word.
 pub(crate) struct Publish;
 
 impl Play<(), SeatView> for Publish {

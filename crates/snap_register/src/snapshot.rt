@@ -70,8 +70,6 @@ impl Model for SnapshotBuf {
 
 impl SnapshotBuf {
     /// Room for `n` segments, each at number 0 with the empty value. Takes 4,096 bytes per segment.
-    ///
-    /// Returns the `AllocError` if memory runs out.
     pub fn new(alloc: Global, n: usize) -> Result<SnapshotBuf, AllocError>
         ensures size { IfOk result (λ s. length s ≡ n) }
         ensures values { IfOk result (λ s. s ≡ replicate n (0, [])) }

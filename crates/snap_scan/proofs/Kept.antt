@@ -155,44 +155,33 @@ module _ (s : Machine) (L : List ℕ) (j k : ℕ) (st : StandsFor s L) (e : s.ne
     })
 
     -- the last segment of this collect: another collect follows if it differs from the one before, else the answer
-    pub StandsFor-end_collect : s.segments ≤ j + 1
-        → MatchBool (flag_after s j k)
+    last : s.segments ≤ j + 1 → j + 1 ≡ s.segments
+    last full = omega (arith, q.within)
+
+    pub StandsFor-end_collect : s.segments ≤ j + 1 → (f : Bool) → flag_after s j k ≡ f
+        → MatchBool f
         (StandsFor (record (kept s j k) { next = Look 0; changed = false }) (L ++ k ∷ []))
         (StandsFor (record (kept s j k) { next = Clean }) (L ++ k ∷ []))
-    StandsFor-end_collect full = by_flag (flag_after s j k) refl where
-      last : j + 1 ≡ s.segments
-      last = omega (arith, q.within)
-
-      by_flag : (f : Bool) → flag_after s j k ≡ f
-          → MatchBool f
-          (StandsFor (record (kept s j k) { next = Look 0; changed = false }) (L ++ k ∷ []))
-          (StandsFor (record (kept s j k) { next = Clean }) (L ++ k ∷ []))
-      by_flag true on = stands false (Look 0) (record {
-        m = q.m + 1;
-        place = omega (arith, q.place, length_push L k, last);
-        within = st.least;
-        first = first_after;
-        here = λ i l. absurd (omega arith);
-        before = λ p i f _ hi. let same : p ≡ q.m = omega arith in
-            rw same (here_after i (omega (arith, last)));
-        changed = (q.m, refl, λ i l. absurd (omega arith));
-        rising = rising_after;
-        undecided = undecided_after (λ c f g.
-            let d = same_collect s.segments (q.m + 1) 0 (c + 2) 0 st.least st.least (omega (arith, q.place, last)) in
-            changed_after true on c (omega arith) (λ i l. g i (omega (arith, last))));
-      })
-      by_flag false off =
-          let was = changed_after false off in
-          let before = ap (λ x. x * s.segments) was.1 in
-          let len : length (L ++ k ∷ []) ≡ (was.0 + 2) * s.segments = omega (arith, q.place, length_push L k, last) in
-          stands (flag_after s j k) Clean (
-            record { rounds = (was.0, len); same = λ i l. grind (arith, was.2 i, last) },
-            low_push s.segments L q.m j k q.within q.place q.undecided.low small,
-            undecided_then,
-          )
-
--- a property of both outcomes of a test holds of the outcome chosen
-pub of_picked : (b : Bool) (P : Machine → Type 0) (s x y : Machine) → MatchBool b (P x) (P y)
-    → MatchBool b (s ≡ x) (s ≡ y) → P s
-of_picked true P s x y h e = rw e h
-of_picked false P s x y h e = rw e h
+    StandsFor-end_collect full true on = stands false (Look 0) (record {
+      m = q.m + 1;
+      place = omega (arith, q.place, length_push L k, last full);
+      within = st.least;
+      first = first_after;
+      here = λ i l. absurd (omega arith);
+      before = λ p i f _ hi. let same : p ≡ q.m = omega arith in
+          rw same (here_after i (omega (arith, last full)));
+      changed = (q.m, refl, λ i l. absurd (omega arith));
+      rising = rising_after;
+      undecided = undecided_after (λ c f g.
+          let d = same_collect s.segments (q.m + 1) 0 (c + 2) 0 st.least st.least (omega (arith, q.place, last full)) in
+          changed_after true on c (omega arith) (λ i l. g i (omega (arith, last full))));
+    })
+    StandsFor-end_collect full false off =
+        let was = changed_after false off in
+        let before = ap (λ x. x * s.segments) was.1 in
+        let len : length (L ++ k ∷ []) ≡ (was.0 + 2) * s.segments = omega (arith, q.place, length_push L k, last full) in
+        stands (flag_after s j k) Clean (
+          record { rounds = (was.0, len); same = λ i l. grind (arith, was.2 i, last full) },
+          low_push s.segments L q.m j k q.within q.place q.undecided.low small,
+          undecided_then,
+        )

@@ -1,4 +1,4 @@
-//! Laws of a scan's looks: what each adds, and which moment they show in the end.
+//! Laws of a scan's looks.
 ghost use Rattle.snap_scan.specs.Laws.{NoFall, LookMore, CleanMoment, BorrowMoment};
 
 /// A look adds its number to the scan, and no number falls. Once the numbers decide the scan they

@@ -1,13 +1,11 @@
 //! The rule by which a scan of single-writer registers ends, the double collect (Afek et al. 1993),
 //! as a state machine that gets the numbers found and says what to do next.
 //!
-//! A *collect* is one look per segment, in order. Each collect but the first is compared with the one before it. If
-//! both show the same numbers, the scan is *clean*: the values of the later one are the memory at the moment between
-//! them. If not, one more collect follows and is compared with the one that has just failed: any two consecutive
-//! collects are a *double collect*. If a segment's number has risen by two since the scan's first look there, its last
+//! A *collect* is one look per segment, in order. Each but the first is compared with the one before it. If both show
+//! the same numbers, the scan is *clean*: the values of the later one are the memory at the moment between them. If
+//! not, one more collect follows. If a segment's number has risen by two since the scan's first look there, its last
 //! update began after the scan did. That update carries the result of a scan of its own, its view, which may then be
-//! *borrowed*. To borrow at the second step, counted from the first look, is this project's own
-//! rule; the paper counts moves.
+//! *borrowed*. (The paper counts moves, not steps from the first look.)
 //!
 //! A comparison fails only if a number has risen since the collect before. Without a borrow each number is at most one
 //! above that of the first look, so for n segments at most n comparisons fail. So a scan ends within one collect, n
@@ -18,16 +16,12 @@
 //! The machine counts places in the set, and [`Scan`] maps a place to its segment.
 //!
 //! This crate alone has the rule. specs/Looks.antt defines what a list of numbers decides, and specs/Course.antt what
-//! callers see of a scan: its segments, the numbers so far, the next step, and how the step follows from the numbers. A
-//! scan keeps only its first and its latest looks; the whole list exists in proofs alone and takes no memory.
+//! callers see of a scan. A scan keeps only its first and its latest looks; the whole list exists in proofs alone.
 //!
-//! Why the answer is the memory of one moment is a law, [`collect_laws`]. A scan reads one segment after the other
-//! while writers continue, and each look finds the number that the segment has at that moment. Between two collects
-//! with equal numbers there is a moment at which each segment had these numbers, so the entries found with them are
-//! those of that moment. If a segment's number rose by two since the scan's first look, its last update began after the
-//! scan did, so the moment of that update's own scan is within this scan too. specs/Collects.antt and specs/Laws.antt
-//! are about numbers and entries at moments, not about registers, so they serve both for one history in a list and for
-//! registers that threads share.
+//! Why the answer is the memory of one moment is a law, [`collect_laws`]: between two collects with equal numbers there
+//! is a moment at which each segment had these numbers, and the moment of a borrowed view is within the scan.
+//! specs/Collects.antt and specs/Laws.antt are about numbers and entries at moments, not about registers, so they serve
+//! both for one history in a list and for registers that threads share.
 #![tactic(auto)]
 
 mod laws;

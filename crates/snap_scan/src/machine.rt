@@ -1,6 +1,6 @@
 //! The state machine of a scan: it keeps the numbers of the first and of the latest looks.
 ghost use Rattle.std.specs.Prelude.{◌≡◌, ℕ, ◌+◌, ◌*◌, ◌^◌, ◌<◌, ◌≤◌, ◌↔◌, ◌==◌, ◌||◌, List, [], ◌∷◌, ◌++◌, length, not};
-ghost use Rattle.std.specs.Prelude.{slice_index, slice_set, nat_lt, IsTrue, MatchBool, false, if◌then◌else◌};
+ghost use Rattle.std.specs.Prelude.{slice_index, slice_set, nat_lt, IsTrue, false, if◌then◌else◌};
 
 use crate::limits::MAX_SEGMENTS;
 use crate::next::Next;
@@ -80,8 +80,11 @@ impl Machine {
         self.keep(segment, number);
         if segment + 1 < self.segments {
             self.next = Next::Look(segment + 1);
+        } else if self.changed {
+            self.changed = false;
+            self.next = Next::Look(0);
         } else {
-            self.end_collect();
+            self.next = Next::Clean;
         }
     }
 
@@ -114,19 +117,5 @@ impl Machine {
         }
         self.latest[segment] = number;
         self.looks += 1;
-    }
-
-    /// Ends a collect: with the answer if it found the same numbers as the one before, else with
-    /// one more collect to compare with it.
-    fn end_collect(&mut self)
-        ensures { MatchBool self.old.changed (self.new ≡ record self.old { next = Next.Look 0; changed = false })
-            (self.new ≡ record self.old { next = Next.Clean }) }
-    {
-        if self.changed {
-            self.changed = false;
-            self.next = Next::Look(0);
-        } else {
-            self.next = Next::Clean;
-        }
     }
 }

@@ -10,10 +10,8 @@ use crate::segments::Segments;
 use crate::set::SegmentSet;
 use std::marker::Model;
 
-/// One scan of some segments, from its start to its answer.
-///
-/// Look at the segment that [`Scan::next`] returns, pass its number to [`Scan::told`], and repeat
-/// until `next` is `Clean` or `Borrow`. It allocates nothing.
+/// A scan of some segments: look at the segment that [`Scan::next`] returns, pass its number to [`Scan::told`], and
+/// repeat until `next` is `Clean` or `Borrow`. It allocates nothing.
 ///
 /// Its contracts see the set of its segments, the list of all numbers in order, and the next step.
 /// If the set names m segments, look t is at the segment at place t mod m of the set.

@@ -71,7 +71,8 @@ impl Access {
         }
     }
 
-    /// Appends the memory that the update carries to the draft.
+    /// Appends the memory that the update carries to the draft: the values of the last looks, one of each segment, or
+    /// the view of a pinned record.
     pub(crate) fn copy_view(&mut self, i: usize, b: usize, end: DraftEnd, view: &View)
         requires own { Owns (view_of self.old) i }
         requires buffer { IsFree (view_of self.old) b }
@@ -83,48 +84,21 @@ impl Access {
         ensures blocks { AreBlocks (draft_of self.new) end.at
             (segments (view_of self.old).plan) (taken (view_of self.old) view.now) }
     {
+        let mut to = end;
         match *view {
-            View::Collected => self.copy_collected(i, b, end),
-            View::Borrowed(j) => self.copy_borrowed(i, b, end, j),
-        }
-    }
-
-    // Appends the values of the last looks, one of each segment, to the draft.
-    fn copy_collected(&mut self, i: usize, b: usize, end: DraftEnd)
-        requires own { Owns (view_of self.old) i }
-        requires buffer { IsFree (view_of self.old) b }
-        requires pinned { CanTake (view_of self.old) View.Collected }
-        requires place { (end.at ≡ length (draft_of self.old)) × (end.at ≤ BLOCK_WORDS) }
-        requires aligned { IsTrue end.is_aligned → IsAligned (view_of self.old) 0 }
-        ensures same { HasDrafted self.old self.new (draft_of self.new) }
-        ensures prefix { IsPrefix (draft_of self.old) (draft_of self.new) }
-        ensures blocks { AreBlocks (draft_of self.new) end.at
-            (segments (view_of self.old).plan) (taken (view_of self.old) View.Collected) }
-    {
-        let mut to = end;
-        for k in 0..self.segments {
-            to = self.copy_block(i, b, to, k, 0);
-        }
-    }
-
-    // Appends the view of the pinned record of `j` to the draft.
-    fn copy_borrowed(&mut self, i: usize, b: usize, end: DraftEnd, j: usize)
-        requires own { Owns (view_of self.old) i }
-        requires buffer { IsFree (view_of self.old) b }
-        requires pinned { CanTake (view_of self.old) (View.Borrowed j) }
-        requires place { (end.at ≡ length (draft_of self.old)) × (end.at ≤ BLOCK_WORDS) }
-        requires aligned { IsTrue end.is_aligned → IsAligned (view_of self.old) 0 }
-        ensures same { HasDrafted self.old self.new (draft_of self.new) }
-        ensures prefix { IsPrefix (draft_of self.old) (draft_of self.new) }
-        ensures blocks { AreBlocks (draft_of self.new) end.at
-            (segments (view_of self.old).plan) (taken (view_of self.old) (View.Borrowed j)) }
-    {
-        let mut to = end;
-        let mut from = self.size_at(j, 0);
-        for _ in 0..self.segments {
-            let next = self.copy_block(i, b, to, j, from);
-            from += next.at - to.at;
-            to = next;
+            View::Collected => {
+                for k in 0..self.segments {
+                    to = self.copy_block(i, b, to, k, 0);
+                }
+            }
+            View::Borrowed(j) => {
+                let mut from = self.size_at(j, 0);
+                for _ in 0..self.segments {
+                    let next = self.copy_block(i, b, to, j, from);
+                    from += next.at - to.at;
+                    to = next;
+                }
+            }
         }
     }
 
@@ -229,9 +203,8 @@ fn copy_words(table: &WordTable, seat: &mut TableSeat, source: usize, target: us
     }
 }
 
-// Makes x the next word of the free buffer, which is at this place. A word that is there already isn't stored: a load
-// takes a fraction of the time of a sequentially consistent store.
-// Returns what the word was.
+// Makes x the next word of the free buffer, which is at this place. Returns what it was. A word that is there already
+// isn't stored: a load takes a fraction of the time of a sequentially consistent store.
 fn draft_word(table: &WordTable, seat: &mut TableSeat, place: usize, x: u64) -> u64
     requires own { seat.old.table_id ≡ table.now.shared.table_id }
     requires seated { HasSeat seat.old }

@@ -208,7 +208,7 @@ impl Access {
         }
     }
 
-    // Reads the block at this place if `is_named`. Returns how many words it takes.
+    // Reads the number and the value of the block at this place if `is_named`. Returns how many words it takes.
     fn read_named(&mut self, j: usize, at: usize, is_named: bool, out: &mut NumberedValue) -> usize
         requires pinned { HasPin (view_of self.old) j }
         requires block { IsWhole (held (view_of self.old) j) at }
@@ -219,24 +219,9 @@ impl Access {
         ensures size { result ≡ size_at (held (view_of self.old) j) at }
         ensures same { IsSame self.old self.new }
     {
-        if is_named {
-            self.read_block(j, at, out)
-        } else {
-            self.size_at(j, at)
+        if !is_named {
+            return self.size_at(j, at);
         }
-    }
-
-    // Reads the number and the value of the block at this place. Returns how many words it takes.
-    fn read_block(&mut self, j: usize, at: usize, out: &mut NumberedValue) -> usize
-        requires pinned { HasPin (view_of self.old) j }
-        requires block { IsWhole (held (view_of self.old) j) at }
-        ensures block { out.new ≡ (
-          slice_index (held (view_of self.old) j) at,
-          value_at (held (view_of self.old) j) at,
-        ) }
-        ensures size { result ≡ size_at (held (view_of self.old) j) at }
-        ensures same { IsSame self.old self.new }
-    {
         out.number = self.read(j, at);
         out.length = self.read_value(j, at, &mut out.bytes);
         block_size(out.length)

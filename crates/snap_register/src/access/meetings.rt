@@ -40,7 +40,7 @@ impl Access {
             .table
             .shared
             .join_seat::<JoinMessage>(&mut other.seat, messenger);
-        hear(&other.table, &mut other.seat);
+        other.table.shared.load::<CatchUp>(&mut other.seat, 0);
         let answer = other
             .table
             .shared
@@ -49,14 +49,4 @@ impl Access {
             .shared
             .join_seat::<JoinAnswer>(&mut self.seat, answer);
     }
-}
-
-// The seat sees all that is in the history now, and all that it has received.
-fn hear(table: &WordTable, seat: &mut TableSeat)
-    requires own { seat.old.table_id ≡ table.now.shared.table_id }
-    requires words { 0 < table.now.shared.table_id.words }
-    requires here { (view_at seat.old).spent ≡ false }
-    ensures { (seat.new.table_id ≡ seat.old.table_id) × (seat.new.id ≡ seat.old.id) × HasHeard seat.old.me seat.new.me }
-{
-    table.shared.load::<CatchUp>(seat, 0);
 }

@@ -10,7 +10,6 @@ ghost use Rattle.snap_register.specs.{History.entry, History.number, Setup.IsPoo
 use crate::access::{Access, PIN_RANGE};
 use crate::plan::MAX_BUFFERS;
 use crate::setup::{BeginStore, Check, EndStore, Publish};
-use crate::view::View;
 
 impl Access {
     /// Notes that a store of the next update of segment `i` begins.
@@ -31,44 +30,14 @@ impl Access {
         self.table.shared.load::<EndStore>(&mut self.seat, i);
     }
 
-    /// Fills a free buffer of the seat's own register `i` with the record of the number `next`, this value and this
-    /// view, and makes it the current one. Returns the buffer, and how many pins the old current word had counted.
-    /// `filled` is 0 for each buffer that hasn't held a record of this seat.
-    pub(crate) fn publish(
+    /// Finds a free buffer of the seat's own register `i`: one that isn't current, and whose pins were all given back.
+    /// There always is one, so the loop ends by its `return`.
+    pub(crate) fn find_free(
         &mut self,
         i: usize,
         current: usize,
         counted: &[u64; MAX_BUFFERS],
-        filled: &[u64; MAX_BUFFERS],
-        next: u64,
-        value: &[u8],
-        view: &View,
-    ) -> (usize, u64)
-        requires pool { IsPool i (next - 1) current counted.now filled.now self.old.seat.me }
-        requires next { (next ≡ number (view_of self.old).plan (view_of self.old).seen i + 1) × IsNumber next }
-        requires size { IsShort value.now }
-        requires view { CanTake (view_of self.old) view.now × MayTake (view_of self.old) i view.now }
-        ensures shown { IsShown (view_of self.old) (view_of self.new) i next value.now }
-        ensures pool { (result.0 < buffers (view_of self.old).plan)
-            × (pool_of self.new ≡ moved_pool (view_of self.old) result.0 result.1) }
-        ensures small { slice_index (pool_of self.old).counted (pool_of self.old).current + result.1 < 2 ^ 56 }
-        ensures same { IsSameSeat self.old self.new × (self.new.seat.me.1 ≡ self.old.seat.me.1) }
-    {
-        let b = self.find_free(i, current, counted);
-        let end = self.draft_value(i, b, next, value, filled[b] > 0);
-        self.copy_view(i, b, end, view);
-        let pins = self.swap(i, current, b);
-        (b, pins)
-    }
-
-    // Finds a free buffer of the seat's own register `i`: one that isn't current and that nobody pins.
-    //
-    // The writer knows for each buffer all pins ever taken on it: those that the current word counted while the buffer
-    // was current. The given-back count has the pins that were returned. If both are equal, nobody pins the buffer, and
-    // nobody will before it is current again, because only the current buffer is pinned. Each of the n + S seats pins
-    // at most one buffer of a register, and n + S + 1 buffers aren't current, so one of them is free: the loop always
-    // ends by its `return`.
-    fn find_free(&mut self, i: usize, current: usize, counted: &[u64; MAX_BUFFERS]) -> usize
+    ) -> usize
         requires own { Owns (view_of self.old) i }
         requires current { (current ≡ (pool_of self.old).current) × (current < buffers (view_of self.old).plan)
             × ((pool_of self.old).found_pinned ≡ 0) × (draft_of self.old ≡ []) }
@@ -111,9 +80,9 @@ impl Access {
         found == counted
     }
 
-    // Makes the filled free buffer `b` the current one in place of `current`. Returns how many pins
-    // the old current word had counted.
-    fn swap(&mut self, i: usize, current: usize, b: usize) -> u64
+    /// Makes the filled free buffer `b` the current one in place of `current`. Returns how many pins the old current
+    /// word had counted.
+    pub(crate) fn swap(&mut self, i: usize, current: usize, b: usize) -> u64
         requires own { Owns (view_of self.old) i }
         requires buffer { IsFree (view_of self.old) b }
         requires current { (current ≡ (pool_of self.old).current) × (current < buffers (view_of self.old).plan) }

@@ -1,6 +1,7 @@
 use Rattle.std.proofs.Common.{rules, ◌≡◌, sym, ap, ◌∙◌, get_or}
 use Rattle.snap_register.specs.Rule.{Learns, with_received}
 use Rattle.snap_register.proofs.Joins.{shares, tells, adopts}
+use Rattle.snap_register.proofs.Keeps.{hears}
 use Rattle.snap_register.proofs.Later.{seated_shown, sized_still, some_words}
 use Rattle.snap_register.specs.{Registers.Mine}
 use Rattle.snap_register.specs.{Steps.view_of, Steps.pool_of}
@@ -30,21 +31,20 @@ join_seat-requires c =
           ap (λ (m : Mine). get_or m.0.pins i 0) c.split_seat-messenger.ensures.4),
     )
 
-pub hear-requires : goal.hear-requires
-hear-requires c =
+pub load-requires : goal.load-requires
+load-requires c =
     let them = c.args.other.now in
-    let own : them.seat.table_id ≡ c.deref-3.result.now.shared.table_id = search rules in
-    record {
-      own = c.join_seat.ensures.0 ∙ own;
-      words = rw (← own) (some_words them.sized them.seated.words_are);
-      here = ap (λ (m : Mine). m.0.spent) c.join_seat.ensures.2 ∙ them.seated.here;
-    }
+    let own : them.seat.table_id ≡ c.deref-3.result.now.shared.table_id = search rules in (
+      c.join_seat.ensures.0 ∙ own,
+      rw (← own) (some_words them.sized them.seated.words_are),
+      hears (Unit {0}) _ _ _ _ _ (ap (λ (m : Mine). m.0.spent) c.join_seat.ensures.2 ∙ them.seated.here),
+    )
 
 pub split_seat-answer-requires : goal.split_seat-answer-requires
 split_seat-answer-requires c =
     let them = c.args.other.now in
     let own : them.seat.table_id ≡ c.deref-4.result.now.shared.table_id = search rules in (
-      c.hear.ensures.0 ∙ (c.join_seat.ensures.0 ∙ own),
+      c.load.ensures.0 ∙ (c.join_seat.ensures.0 ∙ own),
       rw (← own) (some_words them.sized them.seated.words_are),
       shares (Unit {0}) _ _ _,
     )
@@ -56,7 +56,7 @@ join_seat-requires-2 c =
     let own : me.seat.table_id ≡ c.deref-5.result.now.shared.table_id = search rules in
     let same = c.split_seat-messenger.ensures.2 in (
       c.split_seat-messenger.ensures.0 ∙ own,
-      c.split_seat-answer.ensures.3 ∙ (c.hear.ensures.0 ∙ (c.join_seat.ensures.0 ∙ (c.requires.0 ∙ own))),
+      c.split_seat-answer.ensures.3 ∙ (c.load.ensures.0 ∙ (c.join_seat.ensures.0 ∙ (c.requires.0 ∙ own))),
       ap (λ (m : Mine). m.1) c.split_seat-answer.ensures.4,
       rw (← own) (some_words me.sized me.seated.words_are),
       adopts (Unit {0}) _ _ _ _ _ (ap (λ (m : Mine). m.0.low) same ∙ c.requires.2)
@@ -67,7 +67,7 @@ join_seat-requires-2 c =
 told_by : (c : After-split_seat-answer)
     → Learns (with_received (view_of c.args.other.now) c.split_seat-messenger.result.me.0)
     c.split_seat-answer.new.seat.me.0
-told_by c = rw (c.join_seat.ensures.2, ← c.split_seat-answer.ensures.2) at c.hear.ensures.2.0
+told_by c = rw (c.join_seat.ensures.2, ← c.split_seat-answer.ensures.2) at c.load.ensures.2.0
 
 other_is : (c : After-split_seat-answer) → c.split_seat-answer.new.seat.me ≡ (
   record (view_of c.args.other.now) { seen = c.split_seat-answer.new.seat.me.0.seen },
@@ -79,7 +79,7 @@ pub invariant_of-other : goal.invariant_of-other
 invariant_of-other c =
     let a = (goal.at.invariant_of-other c).After-split_seat-answer in
     let them = c.args.other.now in
-    let table = c.split_seat-answer.ensures.0 ∙ (c.hear.ensures.0 ∙ c.join_seat.ensures.0) in
+    let table = c.split_seat-answer.ensures.0 ∙ (c.load.ensures.0 ∙ c.join_seat.ensures.0) in
     record {
       own = table ∙ them.own;
       sized = sized_still them (ap (λ (m : Mine). m.0.plan) (other_is a));

@@ -1,7 +1,5 @@
-use Rattle.std.proofs.Common.{[], ◌∷◌, ◌++◌, arith}
-use Rattle.snap_scan.specs.Stands.{StandsFor}
-use Rattle.snap_scan.proofs.Kept.{close, StandsFor-borrow, StandsFor-next_segment, StandsFor-end_collect, of_picked}
-use Rattle.snap_scan.proofs.Kept.{turn_fits}
+use Rattle.std.proofs.Common.{true, false, arith}
+use Rattle.snap_scan.proofs.Kept.{close, StandsFor-borrow, StandsFor-next_segment, StandsFor-end_collect, turn_fits}
 use Rattle.snap_scan.proofs.machine.Machine.told.Goals as goal
 
 pub has_moved_twice-requires : goal.has_moved_twice-requires
@@ -39,12 +37,18 @@ returns-then-segment-self-clause-told c = λ told st.
     rw c.keep.ensures (StandsFor-next_segment s told c.args.segment c.args.number st c.requires.turn
     c.requires.stands near (rw c.keep.ensures at c.if-segment-self.true))
 
-pub returns-else-segment-self-clause-told : goal.returns-else-segment-self-clause-told
-returns-else-segment-self-clause-told c = λ told st.
+pub returns-then-self-clause-told : goal.returns-then-self-clause-told
+returns-then-self-clause-told c = λ told st.
     let s = c.args.self.now in
     let near = close s c.args.segment c.args.number c.has_moved_twice.result
     c.if-has_moved_twice.false c.has_moved_twice.ensures in
-    let stands = StandsFor-end_collect s told c.args.segment c.args.number st c.requires.turn
-    c.requires.stands near (rw c.keep.ensures at c.if-segment-self.false) in
-    of_picked _ (λ s. StandsFor s (told ++ c.args.number ∷ [])) c.end_collect.new.self _ _ stands
-    (rw c.keep.ensures at c.end_collect.ensures)
+    rw c.keep.ensures (StandsFor-end_collect s told c.args.segment c.args.number st c.requires.turn c.requires.stands
+    near (rw c.keep.ensures at c.if-segment-self.false) true (rw c.keep.ensures at c.if-self.true))
+
+pub returns-else-self-clause-told : goal.returns-else-self-clause-told
+returns-else-self-clause-told c = λ told st.
+    let s = c.args.self.now in
+    let near = close s c.args.segment c.args.number c.has_moved_twice.result
+    c.if-has_moved_twice.false c.has_moved_twice.ensures in
+    rw c.keep.ensures (StandsFor-end_collect s told c.args.segment c.args.number st c.requires.turn c.requires.stands
+    near (rw c.keep.ensures at c.if-segment-self.false) false (rw c.keep.ensures at c.if-self.false))
