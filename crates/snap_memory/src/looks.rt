@@ -41,7 +41,8 @@ pub(crate) fn gather<L: Looker>(
 
 /// Fills `out` with the memory of one moment, by the looks of any kind of seat, also of one that wraps a seat of the
 /// registers. [`Scanner::scan_into`](crate::Scanner::scan_into) is this scan by a scanner's own seat. The memory has
-/// all updates that were in the history at the first look of this call.
+/// all updates that were in the history at the first look of this call. Looks are used up: enough for a scan have to be
+/// left ([`most_looks`](snap_scan::most_looks)).
 pub fn scan<L: Looker>(seat: &mut L, out: &mut SnapshotBuf)
     requires left { CanScan (L.known seat.old) }
     requires room { length out.old ≡ segments (L.known seat.old).plan }

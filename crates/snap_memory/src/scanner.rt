@@ -96,7 +96,8 @@ impl Scanner {
     /// Writes into `out` the number and the value of each segment in `set`, all of one moment, as
     /// [`Scanner::scan_into`] does for all segments. The other entries of `out` stay.
     ///
-    /// Returns `Worn`, and changes nothing, if fewer looks are left than such a scan might take.
+    /// `set` names at least one segment, and only existing ones. Returns `Worn`, and changes nothing, if fewer looks
+    /// are left than such a scan might take ([`most_looks`]).
     pub fn scan_some(&mut self, set: SegmentSet, out: &mut Snapshot) -> Result<(), Refusal>
         requires set { IsSetOf self.old set.bits }
         requires room { length out.old ≡ segments self.old.plan }
@@ -122,7 +123,7 @@ impl Scanner {
     /// segment whose number hasn't changed isn't read again: a number has one value. The looks are always new, so the
     /// answer has all that was in the history at the first look of this call.
     ///
-    /// Errors: `Worn`, as there; `NoMemory` if memory runs out, before the first look or after the last.
+    /// `set` and the error `Worn` are as there. `NoMemory` if memory runs out, before the first look or after the last.
     pub fn scan(&mut self, alloc: Global, set: SegmentSet) -> Result<Vec<SegmentValue>, Refusal>
         requires set { IsSetOf self.old set.bits }
         ensures enough { OnOk result (HasLooks (size set.bits) self.old) }

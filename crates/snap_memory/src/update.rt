@@ -10,7 +10,8 @@ use snap_scan::{MAX_SEGMENTS, SegmentSet};
 
 /// The scan inside an update: returns where the memory is that the update is to carry. That memory
 /// has all that was in the history at the first look of this call. The seat may publish one update
-/// with it, as long as it makes no further look.
+/// with it, as long as it makes no further look. Looks are used up: enough for a scan have to be left
+/// ([`most_looks`](snap_scan::most_looks)).
 pub fn prepare(seat: &mut WriteSeat) -> View
     requires left { CanScan seat.old }
     ensures seen { Grows seat.old seat.new }

@@ -214,7 +214,8 @@ pub struct LoadOptions<'a> {
 /// The request of a call, which also decides how the reply is printed.
 #[derive(Drop)]
 pub enum CallRequest {
-    /// Send this request, and print its reply. It fits a frame, and a scan of some segments names at least one.
+    /// Send this request, and print its reply. It fits a frame: an update's value has at most
+    /// [`snap_frame::MAX_UPDATE_VALUE`] bytes. A scan of some segments names at least one.
     Request(Request),
     /// Ask for the status, to find out whether a segment is fenced. The exit status says so too.
     Health,

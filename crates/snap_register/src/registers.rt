@@ -18,7 +18,8 @@ pub struct Registers;
 
 impl Registers {
     /// Makes registers in which segment i starts with the number and value `values[i]`. Returns one seat for each
-    /// segment's writer and one for each scanner, each with `looks` looks. The last of the seats frees the registers.
+    /// segment's writer and one for each scanner, each with `looks` looks. No seat has seen an update yet. The
+    /// last of them frees the registers.
     pub fn open(
         alloc: Global,
         values: &[(u64, Vec<u8>)],

@@ -256,7 +256,7 @@ impl WriteSeat {
     }
 
     /// Shows an update of the seat's segment to `value`, with this view, and returns its number. The update is in the
-    /// history from one moment of this call on.
+    /// history from one moment of this call on. There always is a free buffer, so it never waits and never fails.
     pub fn publish(&mut self, value: &[u8], view: &View) -> u64
         requires size { IsShort value.now }
         requires next { IsNumber (number_in self.old self.old.seen (own_of self.old) + 1) }

@@ -1,11 +1,11 @@
 //! The rule by which a scan of single-writer registers ends, the double collect (Afek et al. 1993),
 //! as a state machine that gets the numbers found and says what to do next.
 //!
-//! A *collect* is one look per segment, in order. Each but the first is compared with the one before it. If both show
-//! the same numbers, the scan is *clean*: the values of the later one are the memory at the moment between them. If
-//! not, one more collect follows. If a segment's number has risen by two since the scan's first look there, its last
-//! update began after the scan did. That update carries the result of a scan of its own, its view, which may then be
-//! *borrowed*. (The paper counts moves, not steps from the first look.)
+//! A *collect* is one look per segment, in order. Each but the first is compared with the one before it; the two are a
+//! *double collect*. If both show the same numbers, the scan is *clean*: the values of the later one are the memory at
+//! the moment between them. If not, one more collect follows. If a segment's number has risen by two since the scan's
+//! first look there, its last update began after the scan did. That update carries the result of a scan of its own, its
+//! view, which may then be *borrowed*. To count from the first look is this project's own rule; the paper counts moves.
 //!
 //! A comparison fails only if a number has risen since the collect before. Without a borrow each number is at most one
 //! above that of the first look, so for n segments at most n comparisons fail. So a scan ends within one collect, n
