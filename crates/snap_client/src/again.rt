@@ -35,7 +35,7 @@ fn try_once<R: Read + Drop, W: Write + Drop, F: FnMut() -> Option<(R, W)>>(
 /// left and the fault is one that may pass ([`ClientFault::may_pass`]).
 ///
 /// `connect` returns a reader and a writer, or `None` if it can't connect. It is called at most `tries` times, 1 to
-/// [`MAX_TRIES`]; each connection is dropped before the next one is made. The answer, maybe a refusal, is the last one's.
+/// [`MAX_TRIES`]; each connection is dropped before the next one is made. The last one's answer is the answer.
 pub fn call_again<R: Read + Drop, W: Write + Drop, F: FnMut() -> Option<(R, W)>>(
     alloc: Global,
     connect: &mut F,

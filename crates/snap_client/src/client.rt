@@ -75,9 +75,8 @@ impl<R: Read, W: Write> Client<R, W> {
         (self.reader, self.writer)
     }
 
-    /// Stores `value` as this number of a segment: [`Reply::Stored`] with the segment's number, or
-    /// [`Reply::Refused`]. The value has at most [`MAX_UPDATE_VALUE`](snap_frame::MAX_UPDATE_VALUE)
-    /// bytes. The caller has to check that the number in the reply is the one that was sent.
+    /// Stores `value` as this number of a segment: [`Reply::Stored`] with the segment's number, which the caller has to
+    /// compare, or [`Reply::Refused`]. It has at most [`MAX_UPDATE_VALUE`](snap_frame::MAX_UPDATE_VALUE) bytes.
     pub fn update(&mut self, segment: u8, number: u64, value: Bytes) -> Result<Reply, ClientFault>
         requires { length value ≤ MAX_UPDATE_VALUE }
         ensures { Calls R.remaining W.contents (requests.Update segment number value) self.old result self.new }
@@ -96,8 +95,8 @@ impl<R: Read, W: Write> Client<R, W> {
         self.call(&Request::Scan)
     }
 
-    /// Reads these segments at one moment: [`Reply::Part`], or [`Reply::Refused`]. The set isn't
-    /// empty. The caller has to check that the reply names the segments of the set.
+    /// Reads these segments, at least one, at one moment: [`Reply::Part`], whose segments the caller has to compare, or
+    /// [`Reply::Refused`].
     pub fn scan_some(&mut self, set: SegmentSet) -> Result<Reply, ClientFault>
         requires { 0 < set.bits }
         ensures { Calls R.remaining W.contents (requests.Part set) self.old result self.new }

@@ -1,8 +1,8 @@
 //! The client's half of a connection: sends requests and reads their replies.
 //!
 //! After a fault a [`Client`] has failed for good: the caller connects again and sends the same request, which is safe,
-//! since an update that was stored is acknowledged again. [`call_again`] does so, up to ten times, and [`call_while`] as
-//! long as it gets connections.
+//! since an update that was stored is acknowledged again. [`call_again`] does so up to ten times, and [`call_while`]
+//! as long as it gets connections.
 //!
 //! Contracts use the definitions of `specs/Calls.antt` (one call) and `specs/Again.antt` (calls on
 //! one connection after another).

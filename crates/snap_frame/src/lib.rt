@@ -1,5 +1,5 @@
-//! The wire format, which nothing above this crate knows: reads requests and replies from the bytes of a stream, however
-//! it was cut into pieces, and writes them (docs/FORMATS.md, "Frames and messages").
+//! The wire format, which nothing above this crate knows: reads requests and replies from the bytes of a stream, in
+//! pieces of any size, and writes them (docs/FORMATS.md, "Frames and messages").
 //!
 //! Contracts use the definitions of `specs/Messages.antt` (payloads and frames) and
 //! `specs/Stream.antt` (the first frame of the bytes that are held).

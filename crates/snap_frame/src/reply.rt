@@ -22,11 +22,9 @@ pub enum Reply {
     Stored(u64),
     /// All segments at one moment, in order, 1 to [`MAX_COUNT`](snap_history::MAX_COUNT) of them.
     Snapshot(Vec<SegmentValue>),
-    /// All segments in order, each as it was when the server read it, 1 to
-    /// [`MAX_COUNT`](snap_history::MAX_COUNT) of them.
+    /// All segments in order, each as it was when the server read it, 1 to [`MAX_COUNT`](snap_history::MAX_COUNT).
     Status(Vec<SegmentStatus>),
-    /// The segments that were asked for, at one moment, in ascending order, 1 to
-    /// [`MAX_COUNT`](snap_history::MAX_COUNT) of them.
+    /// The segments that were asked for at one moment, in ascending order, 1 to [`MAX_COUNT`](snap_history::MAX_COUNT).
     Part(Vec<NamedValue>),
     /// Refused for this reason. `detail` is a number that depends on the reason, such as the segment's number.
     Refused { why: Refusal, detail: u64 },

@@ -44,10 +44,7 @@ impl ReplyFeed {
         }
     }
 
-    /// Appends a piece of the stream to what is held.
-    ///
-    /// `NoMemory` if memory runs out: nothing changes, and the piece may be pushed again. A feed
-    /// that has failed returns its failure.
+    /// As [`Feed::push`](crate::Feed::push). A feed that has failed returns its failure.
     pub fn push(&mut self, piece: &[u8]) -> Result<(), FrameFault>
         ensures ok { OnOk result ((self.old.failure ≡ None)
             × (self.new ≡ record { bytes = self.old.bytes ++ piece.now; failure = None })) }
@@ -58,21 +55,13 @@ impl ReplyFeed {
         self.frames.push(piece)
     }
 
-    /// Takes the first whole frame off and returns its reply, or `None` if more bytes are needed.
-    ///
-    /// `BadReply` if its payload is no reply: the frame is taken off, and the feed can continue.
-    /// The other faults are those of [`Feed::next`](crate::Feed::next).
+    /// As [`Feed::next`](crate::Feed::next). `BadReply` if the payload is no reply: the feed can continue.
     pub fn next(&mut self) -> Result<Option<Reply>, ReplyFault>
-        // A feed that has failed says so again.
         ensures failed { IfSome self.old.failure (λ f. (result ≡ Err (ReplyFault.Failed f)) × (self.new ≡ self.old)) }
-        // The result, and what is left.
         ensures next { self.old.failure ≡ None → IsNextReply self.old.bytes result self.new }
-        // None exactly if the bytes begin with neither a whole frame nor a length above the limit.
         ensures none { self.old.failure ≡ None → (result ≡ Ok None ↔ IsPartial self.old.bytes) }
-        // A failure as `TooLarge` exactly if they begin with such a length.
         ensures too_large { self.old.failure ≡ None
             → (result ≡ Err (ReplyFault.Failed FrameFault.TooLarge) ↔ HasLongLength self.old.bytes) }
-        // A frame that is no reply is refused, unless memory runs out.
         ensures bad { (x rest : List ℕ) → self.old.failure ≡ None → HasFrame self.old.bytes x rest → SaysNothing x
             → (result ≡ Err ReplyFault.BadReply) ⊎ (result ≡ Err (ReplyFault.Failed FrameFault.NoMemory)) }
     {

@@ -21,9 +21,6 @@ use std::sync::Wait;
 ///
 /// An update locks its own segment, once, and is done once. A status locks one segment after the
 /// other and changes no writer. A scan takes no lock and changes no writer.
-///
-/// Models what its scanner knows, how many locks of writers it took, and how many updates it did
-/// under them, both modulo 2^64.
 #[derive(Drop)]
 pub struct Node<'a, R: Wait, M: Memory, D: Disk + Drop> {
     rt: &'a R,

@@ -14,11 +14,8 @@ use std::alloc::{AllocError, Global};
 /// Answers a scan: the number and the value of each segment, all from one moment, with all updates
 /// that were in the history at the scan's first look.
 ///
-/// It takes no lock and is wait-free. Values that the scanner has answered before are shared; only
-/// those that have changed are read.
-///
-/// Refused with detail 0: as `Worn` if fewer looks are left than a scan might take, and then
-/// nothing changes; as `NoMemory` if memory runs out for a value or the list.
+/// It is wait-free, and reads only values that have changed. Refused with detail 0: as `Worn` if fewer looks are left
+/// than a scan might take, and then nothing changes; as `NoMemory` if memory runs out for a value or the list.
 pub fn answer_scan(alloc: Global, scanner: &mut Scanner) -> Reply
     ensures answer { AnswersScan scanner.old result scanner.new }
     ensures limits { IsInLimits result }

@@ -28,9 +28,7 @@ pub fn update<D: Disk>(writer: &mut Writer<D>, number: u64, value: &[u8]) -> Res
     told
 }
 
-/// Makes the reply from the writer's result.
-///
-/// The scanner meets the writer, so it has seen the update, and the reply fits what it has seen. No look is taken.
+/// Makes the reply from the writer's result, which the scanner has seen once it meets the writer. No look is taken.
 pub fn reply_told<D: Disk>(
     told: Result<u64, Refusal>,
     writer: &mut Writer<D>,
@@ -56,11 +54,9 @@ pub fn reply_told<D: Disk>(
 
 /// Updates the segment by its writer, and replies with the result.
 ///
-/// The writer is the segment's, and belongs to the scanner's memory. The refusals are those of
-/// [`Writer::update`], with the segment's number as detail, except 3: the value isn't too long.
-///
-/// The scanner meets the writer after the update. So the reply is the writer's result, whatever the
-/// scanner had seen before, and the scanner's next scan has the update. No look is taken.
+/// The refusals are those of [`Writer::update`] except 3, with the segment's number as detail. The scanner meets the
+/// writer after the update. So the reply is the writer's result, whatever the scanner had seen before, and the
+/// scanner's next scan has the update. No look is taken.
 pub fn settle<D: Disk>(
     writer: &mut Writer<D>,
     scanner: &mut Scanner,

@@ -132,8 +132,8 @@ impl<M: Memory, D: Disk + Drop> Shared<M, D> {
 
     /// Takes the writers of all segments out of their locks, in order, so that a store can be closed with them.
     ///
-    /// `room` is empty and has capacity for all of them, so nothing is allocated. [`Shared::new`] puts each writer at
-    /// its segment's place. If one isn't at that place, the error has all writers in the order in which they were.
+    /// `room` is empty and has capacity for all of them, so nothing is allocated. If one isn't at its segment's place,
+    /// where [`Shared::new`] puts it, the error has all writers in the order in which they were.
     pub fn into_writers(self, room: Vec<Writer<D>>) -> Result<Vec<Writer<D>>, Vec<Writer<D>>>
         requires empty { room.items ≡ [] }
         requires room { segments M.plan ≤ vec_capacity room }

@@ -32,7 +32,7 @@ enum Heard {
 }
 
 /// The event that a session needs next.
-#[derive(Clone, Copy, Debug, PartialEq, Eq, Drop)]
+#[derive(Clone, Copy, PartialEq, Eq, Drop)]
 pub enum WaitingFor {
     /// More bytes: no whole frame is held.
     Bytes,
