@@ -1,7 +1,8 @@
 //! Laws of a crash of all devices, whatever the writers and scanners did, and of any number of crashes and starts.
 //! Each law is the contract of a function that does nothing.
 ghost use Rattle.snap_restart.specs.LifeLaws.{Lives, PhasesLaw, CutLaw, ConsistentLaw, InstantLaw, MomentLaw, ScanLaw};
-ghost use Rattle.snap_restart.specs.{LifeDurability.StaysLaw, Restarts.AnyNumberLaw, Restarts.MadeLaw, Restarts.FirstLaw};
+ghost use Rattle.snap_restart.specs.{LifeDurability.StaysLaw, Restarts.AnyNumberLaw, Restarts.MadeLaw};
+ghost use Rattle.snap_restart.specs.Restarts.{FirstLaw};
 
 use snap_disk::Disk;
 

@@ -143,8 +143,8 @@ pub fn open_all<D: Disk + Drop>(
     }
 }
 
-// Allocates all memory of a store, except that of its files: the seats, room for all writers, room for all scanners, and
-// the report.
+// Allocates all memory of a store, except that of its files: the seats, room for all writers, room for all scanners,
+// and the report.
 #[tactic(auto, using(crate::proofs::Removals::no_ok))]
 fn take_memory<D: Disk + Drop>(
     alloc: Global,
