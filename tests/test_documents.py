@@ -166,7 +166,6 @@ IN_NO_ROW = {
         ("snap_server/src/server.rt", "announce"),
         ("snap_server/src/unix.rt", "from"),
         ("snap_server/src/listen.rt", "fmt"), ("snap_server/src/listeners.rt", "endpoints"),
-        ("snapd/src/surroundings.rt", "version"),
     ),
     "it puts its arguments together, or gives a part of what is there": (
         ("snap_serve/src/bind.rt", "new"), ("snap_server/src/acceptor.rt", "new"),

@@ -1,4 +1,5 @@
 //! The parsed command line of `snapd`, its exit statuses, and the advice about a file that was refused.
+//!
 //! It hands on the types that an order uses, the requests to a server and the limits of all layers.
 #![tactic(auto)]
 

@@ -1,6 +1,8 @@
-//! Answers requests on the shared memory: updates by the segments' writers, scans and statuses. The relation `Answers`
-//! (specs/Answers.antt) says how a service may answer, by what its scanner has seen before and after. The reply to an
-//! update is its writer's result ([`settle`]), a scan the memory at one moment that the scanner sees ([`answer_scan`]).
+//! Answers requests on the shared memory: updates by the segments' writers, scans and statuses. Begin with the relation
+//! `Answers` (specs/Answers.antt).
+//!
+//! `Answers` says how a service may answer, by what its scanner has seen before and after. The reply to an update is
+//! its writer's result ([`settle`]); a scan is the memory at one moment that the scanner sees ([`answer_scan`]).
 //!
 //! [`Node`] is a service whose writers are under locks, one for each segment. It is for a server inside another
 //! program, as in tests and benchmarks; `snapd` uses the desks of `snap_desk`.
