@@ -68,12 +68,7 @@ impl<D: Disk + Drop> Store<D> {
         ensures writers { result.0.items ≡ self.writers.items }
         ensures scanners { result.1.items ≡ self.scanners.items }
     {
-        let Store {
-            writers,
-            scanners,
-            ..
-        } = self;
-        (writers, scanners)
+        (self.writers, self.scanners)
     }
 }
 

@@ -12,7 +12,7 @@ use crate::slot::{Slot, read_slot};
 use snap_disk::Refusal;
 
 /// The newest number of an old file, with the length of its value.
-#[derive(Clone, Copy, Debug, PartialEq, Eq)]
+#[derive(Clone, Copy, PartialEq, Eq)]
 pub struct OldFound {
     /// At most [`LAST_NUMBER`](snap_history::LAST_NUMBER). It is in the slot [`old_slot_of`] it.
     pub number: u64,

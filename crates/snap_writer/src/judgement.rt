@@ -1,7 +1,7 @@
 //! The rules that decide an update.
 
 /// The rule that decides an update: the first that applies, in this order.
-#[derive(Clone, Copy, Debug, Drop, PartialEq, Eq)]
+#[derive(Clone, Copy, Drop, PartialEq, Eq)]
 pub enum Judgement {
     /// The value is longer than a segment can hold.
     TooLong,

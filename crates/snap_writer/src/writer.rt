@@ -115,11 +115,8 @@ impl<D: Disk> Writer<D> {
     /// shown last is acknowledged again. So a caller that doesn't know whether its update arrived
     /// sends it again, also to another writer of the file after a restart.
     ///
-    /// The first of these rules that applies decides: `TooLong` above [`MAX_VALUE_LEN`] bytes; `Ok`
-    /// again for the number and value shown last; `Conflict` for that number with another value;
-    /// `OutOfStep` for any number but the next; `Exhausted` if the last one is [`LAST_NUMBER`];
-    /// `Fenced` if the writer is fenced; `Worn` if fewer looks are left than a scan might take
-    /// ([`most_looks`]). None of these calls the device or changes anything. Else the writer scans, stores and shows.
+    /// The first rule of [`Judgement`] that applies decides. Unless that is `Go`, the device isn't called, and nothing
+    /// changes. Else the writer scans, stores and shows.
     ///
     /// `DeviceFailed` if a device call failed: the number, the value and the results of scans stay,
     /// and the writer is fenced from now on.

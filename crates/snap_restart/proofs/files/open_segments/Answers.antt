@@ -1,5 +1,5 @@
 use Rattle.std.proofs.Common.{rules, ◌≡◌, ℕ, suc, ◌+◌, length, take, ap, ◌∙◌, arith}
-use Rattle.std.proofs.lemmas.List.{length_push, length-take-le}
+use Rattle.std.proofs.lemmas.{List.length_push, List.length-take-le, Grind.common_steps}
 use Rattle.snap_history.proofs.Removals.{taken, all_taken}
 use Rattle.snap_register.proofs.Pairs.{Pairs-push}
 use Rattle.snap_restart.{specs.Opened.IsOpened, proofs.Removals.one_fewer, proofs.Removals.none_comes}
@@ -67,3 +67,6 @@ returns-in-Err-clause-stopped g c =
 
 pub returns-clause-opened : goal.returns-clause-opened
 returns-clause-opened g c = grind (arith, all_taken, none_comes)
+
+pub keep-requires : goal.keep-requires
+keep-requires g c = grind (arith, common_steps)

@@ -24,3 +24,6 @@ returns-clause-rests g c =
     let all : c.writers.yielded ≡ c.args.writers.items =
     all_yielded _ _ _ inv.whole inv.long c.in-None.ensures.steps.0 in
     rw all at inv.rests
+
+pub keep-requires : goal.keep-requires
+keep-requires g c = grind (arith, common_steps)

@@ -1,5 +1,5 @@
 use Rattle.std.proofs.Common.{rules, ◌≡◌, ◌++◌, List, length, map, ap, sym, ◌∙◌, arith}
-use Rattle.std.proofs.lemmas.Simd.{map-map}
+use Rattle.std.proofs.lemmas.{Simd.map-map, Grind.common_steps}
 use Rattle.snap_disk.specs.declared.refusal.Refusal.TheVariants.{NoMemory}
 use Rattle.snap_segment.specs.Segment.{SegmentState}
 use Rattle.snap_restart.proofs.NewSeats.{unfenced_are, starts_are, fresh_are, back_are, paired_are}
@@ -69,3 +69,6 @@ returns-in-Err-take_memory-clause-stopped g c =
 pub returns-in-Err-take_memory-clause-kept_err : goal.returns-in-Err-take_memory-clause-kept_err
 returns-in-Err-take_memory-clause-kept_err g c =
     stay_kept g.D.Disk _ _ (backs_stopped g.D.Disk _ _ NoMemory _ (returns-in-Err-take_memory-clause-stopped g c))
+
+pub release-requires : goal.release-requires
+release-requires g c = grind (arith, common_steps)

@@ -1,9 +1,7 @@
-use Rattle.std.proofs.Common.{rules, ◌≡◌, ◌+◌, ℕ, List, None, Some, Result, Ok, Err, sym, subst}
-use Rattle.std.specs.Result.{OnErr, IfErr}
-use Rattle.snap_disk.specs.Device.{MayLeave}
+use Rattle.std.proofs.Common.{rules, ◌≡◌, None, subst}
+use Rattle.std.specs.Result.{IfErr}
 use Rattle.snap_disk.specs.declared.refusal.Refusal.TheVariants.{DeviceFailed}
 use Rattle.snap_segment.specs.Segment.{SegmentState}
-use Rattle.snap_segment.specs.States.{IsEither}
 use Rattle.snap_writer.specs.Update.{HasStored}
 use Rattle.snap_writer.proofs.noted_segment.NotedSegment.store.Goals as goal
 

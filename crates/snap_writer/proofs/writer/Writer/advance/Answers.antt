@@ -1,6 +1,5 @@
 use Rattle.std.proofs.Common.{rules, ◌≡◌, ◌∙◌, ℕ, ◌+◌, ap, sym, subst, Result, Ok, Err, List, Some, None}
 use Rattle.std.specs.Result.{OnErr}
-use Rattle.snap_disk.specs.declared.refusal.Refusal.TheVariants.{DeviceFailed}
 use Rattle.snap_slot.specs.States.{IsEither}
 use Rattle.snap_register.specs.Seat.{Known, Shows, MayPublish, number_in, own_of}
 use Rattle.snap_register.specs.declared.plan.UpdatePhase.TheVariants.{Storing, Stored}

@@ -1,0 +1,5 @@
+use Rattle.std.proofs.{Common.arith, lemmas.Grind.common_steps}
+use Rattle.snap_restart.proofs.files.release.Goals as goal
+
+pub keep-requires : goal.keep-requires
+keep-requires g c = grind (arith, common_steps)
