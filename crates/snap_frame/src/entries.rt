@@ -1,5 +1,5 @@
 //! The entries of a snapshot and of a status: one for each segment, in order of segment.
-ghost use Rattle.std.specs.Prelude.{◌≡◌, ◌+◌, ◌<◌, ◌≤◌, ◌^◌, ℕ, List, ◌∷◌, ◌++◌, length, drop};
+ghost use Rattle.std.specs.Prelude.{◌≡◌, ◌+◌, ◌<◌, ◌≤◌, ◌^◌, ℕ, List, ◌++◌, length, drop};
 ghost use Rattle.std.specs.Int.{w32, w64, to_be_bytes};
 
 use crate::list::ListEntry;

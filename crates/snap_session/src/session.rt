@@ -1,6 +1,6 @@
 //! The session: one connection's conversation as a value over memory, without input or output. Its caller gives it the
 //! bytes that arrived, has it answer, and removes the bytes that were written, in any order (`specs/Talk.antt`).
-ghost use Rattle.std.specs.Prelude.{◌≡◌, ◌≤◌, ◌<◌, ◌+◌, ◌↔◌, IsTrue, [], length, drop, Some, None, IfSome, true, false};
+ghost use Rattle.std.specs.Prelude.{◌≡◌, ◌≤◌, ◌<◌, ◌+◌, ◌↔◌, IsTrue, [], length, drop, Some, None, true, false};
 ghost use Rattle.snap_frame.specs.Stream.{IsPartial};
 ghost use Rattle.snap_frame.specs.Messages.{max_payload, payload, says, IsAskable, IsInLimits};
 ghost use Rattle.snap_session.specs.Talk.{Talk, Goes, GoesBy, Stays, HasTaken, Owes, start, longest_frame, most_owed};
