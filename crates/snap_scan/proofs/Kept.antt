@@ -179,7 +179,8 @@ module _ (s : Machine) (L : List ℕ) (j k : ℕ) (st : StandsFor s L) (e : s.ne
     StandsFor-end_collect full false off =
         let was = changed_after false off in
         let before = ap (λ x. x * s.segments) was.1 in
-        let len : length (L ++ k ∷ []) ≡ (was.0 + 2) * s.segments = omega (arith, q.place, length_push L k, last full) in
+        let len : length (L ++ k ∷ []) ≡ (was.0 + 2) * s.segments =
+        omega (arith, q.place, length_push L k, last full) in
         stands (flag_after s j k) Clean (
           record { rounds = (was.0, len); same = λ i l. grind (arith, was.2 i, last full) },
           low_push s.segments L q.m j k q.within q.place q.undecided.low small,

@@ -6,7 +6,7 @@ use crate::limits::MAX_SEGMENTS;
 use crate::next::Next;
 
 /// The state machine of a scan. It allocates nothing, and each number takes constant time.
-#[derive(Debug, Drop)]
+#[derive(Drop)]
 pub struct Machine {
     segments: usize,
     looks: usize,

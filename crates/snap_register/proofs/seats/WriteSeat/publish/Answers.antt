@@ -178,7 +178,8 @@ returns-clause-shown c =
     let n = c.swap.new.self.seat in
     rw (← c.self.view_is) (shown_is s.table_id n.table_id s.me.0 n.me.0 c.self.inside.segment (c.self.inside.number + 1)
     c.args.value.now (search rules) c.self.invariant.role.0
-    (shows (goal.at.returns-clause-shown c).After-swap) (ap (λ (x : Known). x.phase) c.self.view_is ∙ c.requires.stored))
+    (shows (goal.at.returns-clause-shown c).After-swap)
+    (ap (λ (x : Known). x.phase) c.self.view_is ∙ c.requires.stored))
 
 pub returns-clause-below : goal.returns-clause-below
 returns-clause-below c =
