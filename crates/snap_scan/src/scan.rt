@@ -87,8 +87,7 @@ impl Scan {
         self.machine.looks()
     }
 
-    /// Records the number that a look found for `segment`. It must be this segment's turn, and its
-    /// number may not have fallen.
+    /// Records the number that a look found for `segment`, whose turn it is. No number may fall.
     pub fn told(&mut self, segment: usize, number: u64)
         requires turn { self.old.next ≡ Next.Look segment }
         requires rising { (p : ℕ) → IsAt self.old.set p segment → IsNoFall (size self.old.set) self.old.told p number }
