@@ -1,5 +1,5 @@
 //! The looks of one scan, by either kind of seat, and the values found.
-ghost use Rattle.std.specs.Prelude.{◌≡◌, ℕ, ◌<◌, ◌≤◌, length, slice_index, Some};
+ghost use Rattle.std.specs.Prelude.{◌≡◌, ℕ, ◌<◌, length, slice_index, Some};
 ghost use Rattle.snap_register.specs.Rule.{segments};
 ghost use Rattle.snap_register.specs.Seat.{Grows, IsBelow, looked};
 ghost use Rattle.snap_scan.specs.Sets.{Names, size};
@@ -40,8 +40,7 @@ pub(crate) fn gather<L: Looker>(
 }
 
 /// Fills `out` with the memory of one moment, by the looks of any kind of seat, also of one that wraps a seat of the
-/// registers. [`Scanner::scan_into`](crate::Scanner::scan_into) is this scan by a scanner's own seat. The memory has
-/// all updates that were in the history at the first look of this call.
+/// registers, as [`Scanner::scan_into`](crate::Scanner::scan_into) does by its own.
 pub fn scan<L: Looker>(seat: &mut L, out: &mut SnapshotBuf)
     requires left { CanScan (L.known seat.old) }
     requires room { length out.old ≡ segments (L.known seat.old).plan }

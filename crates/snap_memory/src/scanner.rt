@@ -1,5 +1,5 @@
 //! A scanner.
-ghost use Rattle.std.specs.Prelude.{◌≡◌, ℕ, ◌+◌, ◌<◌, ◌≤◌, ◌⊎◌, [], ◌∷◌, ◌++◌, length, map, take, OnOk, OnErr, IfOk};
+ghost use Rattle.std.specs.Prelude.{◌≡◌, ℕ, ◌+◌, ◌<◌, ◌≤◌, [], ◌∷◌, ◌++◌, length, map, take, OnOk, OnErr, IfOk};
 ghost use Rattle.std.specs.Prelude.{IfErr, IsTrue, ◌↔◌, All};
 ghost use Rattle.snap_history.specs.Limits.{IsShort};
 ghost use Rattle.snap_history.specs.declared.limits.TheConstants.{MAX_COUNT, MAX_VALUE_LEN};
@@ -95,8 +95,6 @@ impl Scanner {
 
     /// Writes into `out` the number and the value of each segment in `set`, all of one moment, as
     /// [`Scanner::scan_into`] does for all segments. The other entries of `out` stay.
-    ///
-    /// Returns `Worn`, and changes nothing, if fewer looks are left than such a scan might take.
     pub fn scan_some(&mut self, set: SegmentSet, out: &mut Snapshot) -> Result<(), Refusal>
         requires set { IsSetOf self.old set.bits }
         requires room { length out.old ≡ segments self.old.plan }
@@ -122,7 +120,7 @@ impl Scanner {
     /// segment whose number hasn't changed isn't read again: a number has one value. The looks are always new, so the
     /// answer has all that was in the history at the first look of this call.
     ///
-    /// Errors: `Worn`, as there; `NoMemory` if memory runs out, before the first look or after the last.
+    /// Errors: `Worn`, as [`Scanner::scan_into`]; `NoMemory`, before the first look or after the last.
     pub fn scan(&mut self, alloc: Global, set: SegmentSet) -> Result<Vec<SegmentValue>, Refusal>
         requires set { IsSetOf self.old set.bits }
         ensures enough { OnOk result (HasLooks (size set.bits) self.old) }
@@ -165,9 +163,8 @@ impl Scanner {
         (number, length)
     }
 
-    /// Joins what the scanner and the writer have seen. Afterwards both have seen all that either
-    /// had, and all that was in the history at one moment of this call. So the scanner's next scan
-    /// has all that the writer has shown. It isn't a look.
+    /// Joins what the scanner and the writer have seen, and all that was in the history at one moment of this call: the
+    /// scanner's next scan has all that the writer has shown. It isn't a look.
     pub fn meet(&mut self, writer: &mut WriteSeat)
         requires together { AreTogether self.old writer.old }
         ensures scanner { Meets self.old self.new }

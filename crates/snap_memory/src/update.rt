@@ -1,5 +1,5 @@
 //! The two halves of an update: the scan whose result it carries, and its publication.
-ghost use Rattle.std.specs.Prelude.{◌≡◌, ℕ, ◌+◌, ◌^◌, ◌<◌, ◌≤◌, length};
+ghost use Rattle.std.specs.Prelude.{◌≡◌, ℕ, ◌+◌};
 ghost use Rattle.snap_history.specs.Limits.{IsNumber, IsShort};
 ghost use Rattle.snap_register.specs.Seat.{Grows, IsBelow, MayPublish, Shows, number_in, own_of};
 ghost use Rattle.snap_memory.specs.Scans.{IsScan, CanScan, TakesLooks, all_of};
@@ -8,8 +8,7 @@ use crate::looks::gather;
 use snap_register::{Looker, UpdatePhase, View, WriteSeat};
 use snap_scan::{MAX_SEGMENTS, SegmentSet};
 
-/// The scan inside an update: returns where the memory is that the update is to carry. That memory
-/// has all that was in the history at the first look of this call. The seat may publish one update
+/// The scan inside an update: returns where the memory is that the update is to carry. The seat may publish one update
 /// with it, as long as it makes no further look.
 pub fn prepare(seat: &mut WriteSeat) -> View
     requires left { CanScan seat.old }
@@ -26,8 +25,7 @@ pub fn prepare(seat: &mut WriteSeat) -> View
     gather(seat, SegmentSet::all(seat.segments()), &mut numbers)
 }
 
-/// Publishes an update of the seat's segment to `value`, with the view that [`prepare`] gave, and
-/// returns its number. The update is the last that the seat has seen. The seat was told that its store has ended.
+/// Publishes an update of the seat's segment to `value`, with the view that [`prepare`] gave, and returns its number.
 pub fn show(seat: &mut WriteSeat, value: &[u8], view: View) -> u64
     requires size { IsShort value.now }
     requires next { IsNumber (number_in seat.old seat.old.seen (own_of seat.old) + 1) }
