@@ -1,12 +1,12 @@
 //! The cache of a scanner: a value whose number hasn't changed isn't read again.
-ghost use Rattle.std.specs.Prelude.{◌≡◌, ℕ, ◌<◌, ◌^◌, length, map, Some, All, IfOk, IfSome};
+ghost use Rattle.std.specs.Prelude.{◌≡◌, ℕ, ◌<◌, ◌^◌, length, map, Some, All, IfOk};
 ghost use Rattle.snap_history.specs.Limits.{IsShort};
 ghost use Rattle.snap_register.specs.Rule.{segments};
 ghost use Rattle.snap_register.specs.Seat.{Grows, IsBelow, Known};
 ghost use Rattle.snap_scan.specs.Sets.{named, size};
 ghost use Rattle.snap_scan.specs.{Values.pair_of, declared.segment_value.SegmentValue.SegmentValue};
 ghost use Rattle.snap_memory.specs.Scans.{IsPart, IsSetOf, HasLooks, TakesLooksOf};
-ghost use Rattle.snap_memory.specs.ScanCaches.{number_of, HasPlace, IsFoundAt, IsFound, WasSeen, IsKeptOf, AreKept};
+ghost use Rattle.snap_memory.specs.ScanCaches.{number_of, HasPlace, IsFoundAt, IsFound, IsKeptOf, AreKept};
 ghost use Rattle.snap_memory.specs.ScanCaches.{IsEntry, AreEntries};
 
 use crate::looks::gather;

@@ -41,10 +41,9 @@
 //! | `Publish` | writer | swaps the free buffer in | the history to its update; the old pins | `publications::swap` |
 //! | `CatchUp`, joins, splits | any two | joins two seats' views, loads a word | the whole history | `meetings::meet` |
 //!
-//! The result of a step is a function of the view (`pinning`, `revisited`, `read`, `giving`, `checked`, `reused`,
-//! `redrafted`, `retained`, `begun`, `ended`, `published`, `caught_up`), named in setup.rt. proofs/Keeps.antt and the
-//! files beside it prove that each step keeps the rule. An opening makes the table, with all knowledge in one view, and
-//! splits off a seat for each writer and scanner (tables.rt).
+//! The result of a step is a function of the view, named in setup.rt. proofs/Keeps.antt and the files beside it prove
+//! that each step keeps the rule. An opening makes the table, with all knowledge in one view, and splits off a seat for
+//! each writer and scanner (tables.rt).
 #![tactic(auto)]
 
 mod access;

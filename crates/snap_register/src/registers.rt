@@ -3,7 +3,7 @@ ghost use Rattle.std.specs.Prelude.{◌≡◌, ℕ, ◌^◌, ◌<◌, ◌≤◌,
 ghost use Rattle.atomic_table.specs.Seated.{TableId};
 ghost use Rattle.snap_history.specs.Limits.{IsNumber, IsShort};
 ghost use Rattle.snap_history.specs.declared.limits.TheConstants.{MAX_COUNT, MAX_SCANNERS};
-ghost use Rattle.snap_register.specs.Words.{value_at, IsBlock};
+ghost use Rattle.snap_register.specs.Words.{IsBlock};
 ghost use Rattle.snap_register.specs.Parts.{IsOpening, AreWriters, AreReaders};
 ghost use Rattle.snap_register.specs.declared.{words.TheConstants.BLOCK_WORDS, plan.Plan.Plan};
 

@@ -109,8 +109,7 @@ impl SnapshotBuf {
         self.segments[i].value()
     }
 
-    /// Copies the value of segment `j` out of the buffer that the seat pins since its last look
-    /// there, which found `number`. The other segments stay.
+    /// Copies the value of segment `j` that the seat's last look there found, under `number`.
     pub fn read<L: Looker>(&mut self, seat: &mut L, j: usize, number: u64)
         requires inside { j < length self.old }
         requires segment { j < segments (L.known seat.old).plan }

@@ -1,12 +1,10 @@
 //! Makes a table and its seats.
-ghost use Rattle.std.specs.Prelude.{◌≡◌, ℕ, ◌+◌, ◌*◌, ◌^◌, ◌<◌, ◌≤◌, ◌++◌, [], length, map, replicate, IfOk, OnOk};
-ghost use Rattle.std.specs.Prelude.{slice_index, false};
+ghost use Rattle.std.specs.Prelude.{◌≡◌, ℕ, ◌+◌, ◌*◌, ◌<◌, ◌≤◌, ◌++◌, length, map, replicate, IfOk, OnOk, slice_index};
 ghost use Rattle.std.specs.{List.flat_map, Arc.arc_value};
 ghost use Rattle.atomic_table.specs.Seated.{TableId};
 ghost use Rattle.snap_history.specs.declared.limits.TheConstants.{MAX_COUNT, MAX_SCANNERS};
-ghost use Rattle.snap_register.specs.Rule.{segments, seats, size};
-ghost use Rattle.snap_register.specs.Setup.{plan_with, plan_of, first_view, unused, opening_words, IsReady, IsFirst};
-ghost use Rattle.snap_register.specs.Setup.{IsFresh, HasSizes};
+ghost use Rattle.snap_register.specs.Rule.{segments, seats};
+ghost use Rattle.snap_register.specs.Setup.{plan_with, IsReady, IsFirst, IsFresh, HasSizes};
 ghost use Rattle.snap_register.specs.{History.start_at, Parts.AreWriters, Parts.AreReaders, Steps.view_at};
 
 use crate::access::Access;
@@ -44,8 +42,7 @@ fn append(words: &mut Vec<u64>, x: &Opening, rest: usize) -> Result<(), AllocErr
     append_zeros(words, rest)
 }
 
-// The first words of the table: zeros, then for each segment the words of its first record and
-// `rest` zeros. Room for all `count` words is allocated at once.
+// The first words of the table, of which there are `count`: zeros, then each segment's first record and `rest` zeros.
 fn first_words(
     alloc: Global,
     values: &Vec<Opening>,

@@ -1,7 +1,7 @@
 /// Where the view of an update is: the memory found by the scan inside it.
 /// [`WriteSeat::publish`](crate::WriteSeat::publish) copies it out of the buffers that the seat
 /// pins; it isn't copied before.
-#[derive(Debug, Clone, Copy, PartialEq, Eq)]
+#[derive(Clone, Copy, PartialEq, Eq)]
 pub enum View {
     /// In the records of the last looks, one at each segment: the scan was clean.
     Collected,

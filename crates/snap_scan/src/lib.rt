@@ -28,7 +28,6 @@ mod laws;
 mod limits;
 mod machine;
 mod next;
-mod number_list;
 mod scan;
 mod segment_value;
 mod segments;

@@ -1,12 +1,12 @@
 //! The state machine of a scan: it keeps the numbers of the first and of the latest looks.
-ghost use Rattle.std.specs.Prelude.{◌≡◌, ℕ, ◌+◌, ◌*◌, ◌^◌, ◌<◌, ◌≤◌, ◌↔◌, ◌==◌, ◌||◌, List, [], ◌∷◌, ◌++◌, length, not};
+ghost use Rattle.std.specs.Prelude.{◌≡◌, ℕ, ◌+◌, ◌^◌, ◌<◌, ◌≤◌, ◌↔◌, ◌==◌, ◌||◌, List, [], ◌∷◌, ◌++◌, length, not};
 ghost use Rattle.std.specs.Prelude.{slice_index, slice_set, nat_lt, IsTrue, false, if◌then◌else◌};
 
 use crate::limits::MAX_SEGMENTS;
 use crate::next::Next;
 
 /// The state machine of a scan. It allocates nothing, and each number takes constant time.
-#[derive(Debug, Drop)]
+#[derive(Drop)]
 pub struct Machine {
     segments: usize,
     looks: usize,

@@ -1,11 +1,11 @@
 //! One scan, from its start to its answer.
-ghost use Rattle.std.specs.Prelude.{◌≡◌, ℕ, ◌-◌, ◌^◌, ◌<◌, ◌≤◌, [], ◌∷◌, ◌++◌, length};
+ghost use Rattle.std.specs.Prelude.{◌≡◌, ℕ, ◌-◌, ◌^◌, ◌<◌, ◌≤◌, List, [], ◌∷◌, ◌++◌, length};
+ghost use Rattle.std.specs.Borrow.{ftrue};
 ghost use Rattle.snap_scan.specs.{Looks.IsNoFall, Sets.size, Sets.IsAt, Course.IsNext};
 
 use crate::limits::MAX_SEGMENTS;
 use crate::machine::Machine;
 use crate::next::Next;
-use crate::number_list::NumberList;
 use crate::segments::Segments;
 use crate::set::SegmentSet;
 use std::marker::Model;
@@ -15,7 +15,7 @@ use std::marker::Model;
 ///
 /// Its contracts see the set of its segments, the list of all numbers in order, and the next step.
 /// If the set names m segments, look t is at the segment at place t mod m of the set.
-#[derive(Debug, Drop)]
+#[derive(Drop)]
 pub struct Scan {
     set: SegmentSet,
     segments: Segments,
@@ -87,8 +87,7 @@ impl Scan {
         self.machine.looks()
     }
 
-    /// Records the number that a look found for `segment`. It must be this segment's turn, and its
-    /// number may not have fallen.
+    /// Records the number that a look found for `segment`, whose turn it is. No number may fall.
     pub fn told(&mut self, segment: usize, number: u64)
         requires turn { self.old.next ≡ Next.Look segment }
         requires rising { (p : ℕ) → IsAt self.old.set p segment → IsNoFall (size self.old.set) self.old.told p number }
@@ -99,5 +98,31 @@ impl Scan {
         let _segment = segment;
         self.machine.told(self.machine.place(), number);
         self.numbers = self.numbers.then(&number);
+    }
+}
+
+/// The numbers found so far, in order. The list exists in proofs alone, and takes no memory.
+#[derive(Drop)]
+pub struct NumberList {
+    pub ghost list: { List ℕ },
+}
+
+impl Model for NumberList {
+    ghost also_owns = { λ _. ftrue };
+}
+
+impl NumberList {
+    /// An empty list.
+    pub(crate) fn none() -> NumberList
+        ensures { result.list ≡ [] }
+    {
+        NumberList {}
+    }
+
+    /// This list with one number more.
+    pub(crate) fn then(&self, _number: &u64) -> NumberList
+        ensures { result.list ≡ self.now.list ++ _number.now ∷ [] }
+    {
+        NumberList {}
     }
 }

@@ -6,7 +6,7 @@ use crate::limits::MAX_SEGMENTS;
 use crate::set::SegmentSet;
 
 /// The segments of a set, by their places in it.
-#[derive(Debug, Drop)]
+#[derive(Drop)]
 pub struct Segments {
     pub(crate) count: usize,
     list: [usize; MAX_SEGMENTS],

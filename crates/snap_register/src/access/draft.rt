@@ -2,7 +2,7 @@
 ghost use Rattle.std.specs.Prelude.{◌≡◌, ℕ, ◌+◌, ◌-◌, ◌^◌, ◌*◌, ◌<◌, ◌≤◌, ◌++◌, ◌∷◌, length, take, [], IsTrue};
 ghost use Rattle.snap_history.specs.Limits.{IsShort};
 ghost use Rattle.snap_register.specs.declared.words.TheConstants.{BLOCK_WORDS};
-ghost use Rattle.snap_register.specs.Rule.{segments, width, without_last, old_record, old_words, WasAt};
+ghost use Rattle.snap_register.specs.Rule.{segments, width, old_record, old_words, WasAt};
 ghost use Rattle.snap_register.specs.Words.{IsWhole, IsBlock, AreBlocks, bytes_at, piece, size_at, words_for};
 ghost use Rattle.snap_register.specs.Held.{held, taken, CanTake};
 ghost use Rattle.snap_register.specs.Steps.{view_at, view_of, draft_of, HasSeat, Owns, IsFree, HasPin, LiesAt, IsNext};
@@ -71,8 +71,7 @@ impl Access {
         }
     }
 
-    /// Appends the memory that the update carries to the draft: the values of the last looks, one of each segment, or
-    /// the view of a pinned record.
+    /// Appends the memory that the update carries to the draft.
     pub(crate) fn copy_view(&mut self, i: usize, b: usize, end: DraftEnd, view: &View)
         requires own { Owns (view_of self.old) i }
         requires buffer { IsFree (view_of self.old) b }
@@ -141,8 +140,7 @@ impl Access {
         }
     }
 
-    // Appends `count` words of the pinned record of `j`, from place `from` on, to the draft, whose next word is at
-    // `target`.
+    // Appends `count` words of the pinned record of `j`, from place `from` on, to the draft, which ends at `target`.
     fn copy_rest(&mut self, target: usize, j: usize, from: usize, count: usize)
         requires pinned { HasPin (view_of self.old) j }
         requires words { (0 < count) × (from + count ≤ length (held (view_of self.old) j)) }
@@ -183,8 +181,8 @@ pub(crate) struct DraftEnd {
     pub(crate) is_aligned: bool,
 }
 
-// Appends `count` words of a pinned record, from this place on, to the draft, whose next word is at `target`. The table
-// is an argument of its own, so that no word needs a lookup of where it is.
+// Appends `count` words of a pinned record, from this place on, to the draft, which ends at `target`. The table is an
+// argument of its own, here and in `copy_value`, so that no word needs a lookup of where it is.
 fn copy_words(table: &WordTable, seat: &mut TableSeat, source: usize, target: usize, count: usize)
     requires own { seat.old.table_id ≡ table.now.shared.table_id }
     requires seated { HasSeat seat.old }

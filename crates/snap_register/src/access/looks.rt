@@ -228,8 +228,7 @@ impl Access {
     }
 }
 
-// Copies the value of the block at this place of a pinned record, `count` words, to the front of
-// `out`. The table is an argument of its own, so that no word needs a lookup of where it is.
+// Copies the value of the block at this place of a pinned record, `count` words, to the front of `out`.
 fn copy_value(table: &WordTable, seat: &mut TableSeat, place: usize, count: usize, out: &mut [u8])
     requires own { seat.old.table_id ≡ table.now.shared.table_id }
     requires seated { HasSeat seat.old }

@@ -1,11 +1,11 @@
 //! Meetings: two seats share what they have seen.
-ghost use Rattle.std.specs.Prelude.{◌≡◌, ℕ, ◌<◌, false};
-ghost use Rattle.snap_register.specs.Steps.{view_at, view_of, HasHeard};
+ghost use Rattle.std.specs.Prelude.{◌≡◌, ℕ, ◌<◌};
+ghost use Rattle.snap_register.specs.Steps.{view_of};
 ghost use Rattle.snap_register.specs.{History.only, Rule.Has, Rule.IsBelow};
 ghost use mathlib.Core.List.{IsPrefix};
 
 use crate::access::Access;
-use crate::setup::{CatchUp, JoinAnswer, JoinMessage, SplitMessenger, TableSeat, WordTable};
+use crate::setup::{CatchUp, JoinAnswer, JoinMessage, SplitMessenger};
 
 impl Access {
     /// Joins what both seats have seen: afterwards this seat, which writes nothing, has seen what

@@ -1,11 +1,10 @@
 //! Publications: a writer finds a free buffer, fills it, and makes it the current one.
-ghost use Rattle.std.specs.Prelude.{◌-◌, ◌≡◌, ℕ, ◌+◌, ◌<◌, ◌≤◌, ◌^◌, slice_index, [], IsTrue, IsFalse};
+ghost use Rattle.std.specs.Prelude.{◌-◌, ◌≡◌, ℕ, ◌+◌, ◌<◌, ◌≤◌, slice_index, [], IsTrue, IsFalse};
 ghost use Rattle.snap_register.specs.declared.plan.UpdatePhase.TheVariants.{Storing, Stored};
-ghost use Rattle.snap_history.specs.Limits.{IsNumber, IsShort};
-ghost use Rattle.snap_register.specs.Rule.{segments, seats, buffers, next_other, moved_pool, Publishes, Follows};
-ghost use Rattle.snap_register.specs.Held.{CanTake, MayTake, IsShown};
+ghost use Rattle.snap_history.specs.Limits.{IsNumber};
+ghost use Rattle.snap_register.specs.Rule.{segments, seats, buffers, next_other, Publishes, Follows};
 ghost use Rattle.snap_register.specs.Steps.{view_of, pool_of, draft_of, Owns, IsFree, IsSameSeat, HasPool};
-ghost use Rattle.snap_register.specs.{History.entry, History.number, Setup.IsPool, Rule.IsLegal};
+ghost use Rattle.snap_register.specs.{History.entry, History.number, Rule.IsLegal};
 
 use crate::access::{Access, PIN_RANGE};
 use crate::plan::MAX_BUFFERS;
@@ -61,8 +60,7 @@ impl Access {
         unreachable!()
     }
 
-    // Whether buffer `b` of the seat's own register `i`, the next that isn't current, is free, if
-    // `counted` pins were taken on it.
+    // Whether buffer `b`, the next that isn't current, is free, if `counted` pins were taken on it.
     fn check(&mut self, i: usize, b: usize, counted: u64) -> bool
         requires own { Owns (view_of self.old) i }
         requires buffer { (b ≡ next_other (pool_of self.old)) × (b < buffers (view_of self.old).plan)
@@ -80,8 +78,7 @@ impl Access {
         found == counted
     }
 
-    /// Makes the filled free buffer `b` the current one in place of `current`. Returns how many pins the old current
-    /// word had counted.
+    /// Makes the filled free buffer `b` the current one. Returns how many pins the old current word had counted.
     pub(crate) fn swap(&mut self, i: usize, current: usize, b: usize) -> u64
         requires own { Owns (view_of self.old) i }
         requires buffer { IsFree (view_of self.old) b }

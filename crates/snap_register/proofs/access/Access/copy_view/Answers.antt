@@ -4,8 +4,8 @@ use Rattle.snap_register.specs.declared.view.View.TheVariants.{Collected, Borrow
 use Rattle.snap_register.specs.{Registers.Mine, Rule.segments, Held.held, Held.taken, Held.CanTake}
 use Rattle.snap_register.specs.{Steps.view_of, Steps.IsOf, declared.plan.SeatView.SeatView}
 use Rattle.snap_register.specs.declared.access.draft.DraftEnd.{DraftEnd}
-use Rattle.snap_register.proofs.{Blocks.behind_more, Views.view_whole, Views.ends_small, Aligned.of_record}
-use Rattle.snap_register.proofs.Aligned.{of_view}
+use Rattle.snap_register.proofs.{Blocks.behind_more, Views.view_whole, Views.ends_small}
+use Rattle.snap_register.proofs.Aligned.{of_record, of_view}
 use Rattle.snap_register.proofs.Drafts.{held_drafted, block_copied}
 use Rattle.snap_register.proofs.access.Access.copy_view.Goals as goal
 use Rattle.snap_register.proofs.access.Access.copy_view.Goals.{In-loop-k, In-loop}
@@ -38,8 +38,8 @@ can_take c = rw c.in-Borrowed.is at c.requires.pinned
 
 -- the words read are those of the record that the seat pins
 words_are : (c : In-loop) → held (view_of c.loop.self) c.in-Borrowed.j ≡ held (view_of c.args.self.now) c.in-Borrowed.j
-words_are c =
-    held_drafted c.size_at-from.new.self.seat.me c.loop.self.seat.me c.in-Borrowed.j c.loop.invariant.copied.same.3
+words_are c = held_drafted c.size_at-from.new.self.seat.me c.loop.self.seat.me c.in-Borrowed.j
+    c.loop.invariant.copied.same.3
     ∙ ap (λ (m : Mine). held m.0 c.in-Borrowed.j) c.size_at-from.ensures.same.2
 
 from_is : (c : In-loop) → c.loop.from ≡ behind (held (view_of c.args.self.now) c.in-Borrowed.j)

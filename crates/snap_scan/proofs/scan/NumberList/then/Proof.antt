@@ -27,12 +27,12 @@ use denote.Triple.Entry.{on_entry, alive, Args}
 use denote.Triple.Spec.{Meets, triple_of}
 use denote.Triple.Table.{entered}
 use denote.Triple.Walked.{says, stay_none_ref, Stays, walk_of, Walks, ends_at, walked, Goes-none_ref, walk_Meets}
-use Rattle.snap_scan.specs.contracts.number_list.NumberList as T
+use Rattle.snap_scan.specs.contracts.scan.NumberList as T
 use Rattle.std.specs.Borrow.{u64}
-use Rattle.snap_scan.specs.contracts.number_list.NumberList.then.Key.{name as key}
-use Rattle.snap_scan.specs.contracts.number_list.NumberList.then as it
-use Rattle.snap_scan.proofs.number_list.NumberList.then.Statement as stated
-use Rattle.snap_scan.proofs.number_list.NumberList.then.Code as code
+use Rattle.snap_scan.specs.contracts.scan.NumberList.then.Key.{name as key}
+use Rattle.snap_scan.specs.contracts.scan.NumberList.then as it
+use Rattle.snap_scan.proofs.scan.NumberList.then.Statement as stated
+use Rattle.snap_scan.proofs.scan.NumberList.then.Code as code
 
 abbrev stayed : Stays (it.ended).signature.params (it.ended).kept
 stayed =

@@ -21,12 +21,12 @@ use denote.Triple.Entry.{on_entry}
 use denote.Triple.Spec.{Meets, triple_of}
 use denote.Triple.Table.{entered}
 use denote.Triple.Walked.{says, ends_at, walked, walk_Meets}
-use Rattle.snap_scan.specs.declared.number_list.NumberList.{NumberList}
-use Rattle.snap_scan.specs.contracts.number_list.NumberList as T
-use Rattle.snap_scan.specs.contracts.number_list.NumberList.none.Key.{name as key}
-use Rattle.snap_scan.specs.contracts.number_list.NumberList.none as it
-use Rattle.snap_scan.proofs.number_list.NumberList.none.Statement as stated
-use Rattle.snap_scan.proofs.number_list.NumberList.none.Code as code
+use Rattle.snap_scan.specs.declared.scan.NumberList.{NumberList}
+use Rattle.snap_scan.specs.contracts.scan.NumberList as T
+use Rattle.snap_scan.specs.contracts.scan.NumberList.none.Key.{name as key}
+use Rattle.snap_scan.specs.contracts.scan.NumberList.none as it
+use Rattle.snap_scan.proofs.scan.NumberList.none.Statement as stated
+use Rattle.snap_scan.proofs.scan.NumberList.none.Code as code
 
 abbrev made : Val
 made = vstruct vnil
