@@ -239,7 +239,8 @@ class Server:
         return sorted((it - 1 for it in counts if it), reverse=True)
 
     def descriptors(self):
-        return len(open_files(self.process.pid))
+        """How many descriptors it has, without those by which it reads of itself for a moment."""
+        return sum(not it.startswith("/proc/") for it in open_files(self.process.pid))
 
     def sockets_of(self, stream):
         """The system's report on both ends of this connection, the server's first: the fields of a line each."""
