@@ -219,8 +219,15 @@ def test_segments_have_the_names_of_their_files(snapd, _):
         assert (
             lines == [f'snapd_segment_info{{segment="{place}",name="{name}"}} 1' for place, name in enumerate(names)]
         ), lines
-        version = server.document("/stats")["version"]
-        assert f'\nsnapd_build_info{{version="{version}"}} 1\n' in server.get("/metrics")[2].decode()
+
+
+def test_the_version_is_that_of_the_program(snapd, _):
+    version = snapd("--version").output.split()[1].decode()
+    with SeenServer(snapd, *fresh(snapd, 1)) as server:
+        assert server.document("/stats")["version"] == version
+        metrics = server.get("/metrics")[2].decode()
+        for name in ("snapd_info", "snapd_build_info"):
+            assert f'\n{name}{{version="{version}"}} 1\n' in metrics, name
 
 
 def test_lines_that_the_log_loses_are_counted(snapd, _):

@@ -73,8 +73,8 @@ pub fn create<D: Disk>(
     write_synced(device, HEADER_GATE_AT, &[OPEN_GATE]).map_err(|_| Refusal::DeviceFailed)
 }
 
-/// Formats the file of segment `index` of `count`: [`create`] with number 0 and the empty value. No byte of the old
-/// content remains.
+/// Formats the file of segment `index` of `count`: [`create`] with number 0 and the empty value, with its device calls
+/// and errors, and what a crash leaves. No byte of the old content remains: the closed slots hold zeros.
 #[tactic(auto, unfolding(snap_slot::specs::Layout::fresh_file))]
 pub fn format<D: Disk>(device: &mut D, index: u8, count: u8) -> Result<(), Refusal>
     requires below { index < count }
