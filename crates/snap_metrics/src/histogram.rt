@@ -39,7 +39,8 @@ pub struct Histogram {
 impl Histogram {
     /// Counts one time; `None`, a time that couldn't be measured, isn't counted.
     pub fn observe(&self, took: Option<Duration>) {
-        if let Some(nanoseconds) = took.map(nanoseconds_of) {
+        if let Some(took) = took {
+            let nanoseconds = nanoseconds_of(took);
             self.counts[place_of(nanoseconds)].add(1);
             self.total.add(nanoseconds);
         }

@@ -44,7 +44,7 @@ pub struct RequestCounts {
 }
 
 /// The metrics of one segment, as they were read.
-#[derive(Clone, Copy, PartialEq, Eq)]
+#[derive(Clone, Copy)]
 pub struct SegmentSnapshot {
     /// Times of whole stores, from the first call of the device to the end of the last.
     pub stores: HistogramSnapshot,

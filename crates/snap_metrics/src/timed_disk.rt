@@ -167,7 +167,7 @@ pub fn time_all<'f, D: Disk + Drop, R: Clock + Copy>(
     let mut timed = Vec::with_capacity(alloc, devices.len())?;
     'devices: for device in devices {
         let segment = metrics.segment(timed.len());
-        timed.push(TimedDisk::new(device, clock, segment))?;
+        timed.push_reserved(TimedDisk::new(device, clock, segment));
     }
     Ok(timed)
 }

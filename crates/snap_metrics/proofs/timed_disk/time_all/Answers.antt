@@ -15,6 +15,12 @@ segment-segment-requires g c =
     let enough = c.requires in
     omega arith
 
+pub push_reserved-requires : goal.push_reserved-requires
+push_reserved-requires g c =
+    let next = taken (length c.devices.yielded) c.args.devices.items _ _ _ c.devices.invariant.rest
+    c.in-Some.ensures.steps.0 in
+    omega (arith, next.inside, c.devices.invariant.room, ap length c.devices.invariant.timed, c.devices.timed.ok.0)
+
 pub devices-preserved : goal.devices-preserved
 devices-preserved g c =
     let ds = c.args.devices.items in
@@ -28,7 +34,8 @@ devices-preserved g c =
       long = (let was = inv.long in let gone = c.in-Some.ensures.steps.1 in
           let short = ap length c.in-Some.ensures.steps.0 in omega arith);
       within = omega arith;
-      timed = rw (c.in_ok-push.ensures.items, inv.timed, c.new.ensures) refl;
+      room = omega (arith, inv.room, c.push_reserved.ensures.capacity);
+      timed = rw (c.push_reserved.ensures.items, inv.timed, c.new.ensures) refl;
     }
 
 pub returns : goal.returns
