@@ -5,3 +5,4 @@ mod Round
 mod Made
 mod Deals
 mod Inner
+mod Ended

@@ -90,7 +90,7 @@ impl IdleTimeout {
 }
 
 /// Why a worker checks a connection that it isn't polling.
-#[derive(Clone, Copy, Drop)]
+#[derive(Drop)]
 pub enum IdleCheck {
     /// The system reported an error of its socket.
     Lost,

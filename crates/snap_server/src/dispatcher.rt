@@ -71,10 +71,10 @@ impl<'a, H: Deliver> Dispatcher<'a, H> {
         ensures { result ≡ true → (last : H) × (slice_get self.now.senders.now
             (length self.now.senders.now - 1) ≡ Some last) × H.takes last arrival }
     {
-        match self.senders.get(self.senders.len().saturating_sub(1)) {
-            Some(last) => matches!(last.deliver(rt, arrival), Ok(true)),
-            None => false,
-        }
+        let Some(last) = self.senders.last() else {
+            return false;
+        };
+        matches!(last.deliver(rt, arrival), Ok(true))
     }
 
     /// Accepts one connection, and delivers it to a worker without one, or to the next worker, or to the last if that

@@ -39,7 +39,7 @@ pub enum ServerFault {
 }
 
 /// Why [`run`](crate::run) ended early.
-#[derive(Debug, Drop)]
+#[derive(Drop)]
 pub enum RunFault {
     /// The server couldn't start, or stopped serving.
     Server(ServerFault),

@@ -96,20 +96,22 @@ impl<'a, R: Files<File = File> + Clock> Listeners<'a, R> {
     }
 
     fn add(&mut self, opened: Opened<'a, R>, endpoint: Endpoint) -> Result<(), BindFault> {
-        // A single listener blocks in its own system call.
-        if let Some(first) = self.opened.first() {
-            first.stop_waiting()?;
-            opened.stop_waiting()?;
-        }
         self.watch(&opened)?;
-        if self.opened.push(opened).is_err() || self.endpoints.push(endpoint).is_err() {
+        if self.opened.reserve(1).is_err() || self.endpoints.reserve(1).is_err() {
             return Err(BindFault::NoMemory);
         }
+        self.opened.push_reserved(opened);
+        self.endpoints.push_reserved(endpoint);
         Ok(())
     }
 
     /// Registers the listener, so that the system reports its waiting connections.
     fn watch(&mut self, opened: &Opened<'a, R>) -> io::Result<()> {
+        // A single listener blocks in its own system call.
+        if let Some(first) = self.opened.first() {
+            first.stop_waiting()?;
+            opened.stop_waiting()?;
+        }
         let descriptor = opened.descriptor();
         let mut source = SourceFd(&descriptor);
         let token = Token(self.opened.len());
@@ -128,8 +130,9 @@ impl<'a, R: Files<File = File> + Clock> Listeners<'a, R> {
                 return Ok(None);
             };
             self.next += 1;
-            if let Some(arrival) = opened.take()? {
-                return Ok(Some(arrival));
+            match opened.take() {
+                Ok(None) => {}
+                taken => return taken,
             }
         }
         Ok(None)

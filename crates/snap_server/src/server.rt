@@ -107,14 +107,16 @@ where
     let mut workers = Vec::new(alloc);
     let mut senders = Vec::new(alloc);
     let count = services.len();
+    if workers.reserve(count).is_err() || senders.reserve(count).is_err() {
+        return Err(ServerFault::NoMemory);
+    }
     'services: for service in services {
         let place = workers.len();
         let is_last = place + 1 == count;
         let service = Gated { service, gate };
         let (worker, sender) = Worker::new(net, alloc, service, place, is_last, idle, limit)?;
-        if workers.push(worker).is_err() || senders.push(sender).is_err() {
-            return Err(ServerFault::NoMemory);
-        }
+        workers.push_reserved(worker);
+        senders.push_reserved(sender);
     }
     Ok((workers, senders))
 }

@@ -9,7 +9,7 @@ use std::alloc::Global;
 use std::fs::{self, File, Metadata, OpenOptions, Permissions, TryLockError};
 use std::io::{self, ErrorKind};
 use std::net::Net;
-use std::os::fd::{AsFd, AsRawFd};
+use std::os::fd::{AsFd, AsRawFd, OwnedFd};
 use std::os::unix::fs::{FileTypeExt, MetadataExt, PermissionsExt};
 use std::os::unix::net::{SocketAddr, UnixListener};
 use std::rt::{Clock, Files};
@@ -72,29 +72,15 @@ impl From<io::Error> for BindFault {
     }
 }
 
-/// The identity of a file: its device and its inode.
-#[derive(Clone, Copy, PartialEq, Eq)]
-struct SocketFile {
-    device: u64,
-    number: u64,
-}
-
-impl SocketFile {
-    fn of(found: &Metadata) -> SocketFile {
-        SocketFile {
-            device: found.dev(),
-            number: found.ino(),
-        }
-    }
-}
-
 /// A listening socket at a path. Dropping it removes its file, if the path still names that file.
 pub struct UnixSocket<'a, R: Files<File = File> + Clock> {
     rt: &'a R,
     /// The path, as it was given.
     pub(crate) path: String,
     pub(crate) listener: UnixListener,
-    file: SocketFile,
+    /// The socket's file: its device and its inode.
+    device: u64,
+    inode: u64,
 }
 
 impl<'a, R: Files<File = File> + Clock> UnixSocket<'a, R> {
@@ -112,23 +98,18 @@ impl<'a, R: Files<File = File> + Clock> UnixSocket<'a, R> {
     where
         R: Net,
     {
-        let own_path = String::from_str(alloc, path).map_err(|_| BindFault::NoMemory)?;
         let address = SocketAddr::from_pathname(path)?;
         let folder = lock_folder(rt, path)?;
         make_way(rt, path)?;
-        let socket = rt.unix_socket()?;
-        // The file is created with this mode, less the process's umask, so it never has another
-        // bit. It would if the mode were set afterwards.
-        if libc::fchmod(socket.as_raw_fd(), mode) != 0 {
-            return Err(BindFault::System(last_error()));
-        }
-        rt.bind_unix(socket.as_fd(), &address)?;
+        let own_path = String::from_str(alloc, path).map_err(|_| BindFault::NoMemory)?;
+        let socket = bind_file(rt, &address, mode)?;
         let found = fs::symlink_metadata(rt, path)?;
         let bound = UnixSocket {
             rt,
             path: own_path,
             listener: UnixListener::from(socket),
-            file: SocketFile::of(&found),
+            device: found.dev(),
+            inode: found.ino(),
         };
         if found.mode() & MODE_BITS != mode {
             give_back(rt, &folder, path, mode)?;
@@ -180,7 +161,7 @@ impl<'a, R: Files<File = File> + Clock> UnixSocket<'a, R> {
     /// no other file gets its inode number.
     fn remove(&self) {
         if let Ok(found) = fs::symlink_metadata(self.rt, &self.path) {
-            if SocketFile::of(&found) == self.file {
+            if found.dev() == self.device && found.ino() == self.inode {
                 let _ = fs::remove_file(self.rt, &self.path);
             }
         }
@@ -194,7 +175,8 @@ impl<R: Files<File = File> + Clock> Drop for UnixSocket<'_, R> {
             rt: _,
             path: _,
             listener: _,
-            file: _,
+            device: _,
+            inode: _,
         } = self;
     }
 }
@@ -220,6 +202,21 @@ fn lock_folder<R: Files<File = File> + Clock>(rt: &R, path: &str) -> Result<File
         thread::sleep(rt, Duration::from_millis(LOCK_REST_MILLIS));
     }
     Err(BindFault::Locked)
+}
+
+/// Binds a new socket at this address. Its file is created with this mode, less the process's umask, so it never has
+/// another bit. It would if the mode were set afterwards.
+fn bind_file<R: Net + Files>(
+    rt: &R,
+    address: &SocketAddr,
+    mode: u32,
+) -> Result<OwnedFd, BindFault> {
+    let socket = rt.unix_socket()?;
+    if libc::fchmod(socket.as_raw_fd(), mode) != 0 {
+        return Err(BindFault::System(last_error()));
+    }
+    rt.bind_unix(socket.as_fd(), address)?;
+    Ok(socket)
 }
 
 /// The permission bits of a mode.

@@ -233,30 +233,30 @@ where
         }
     }
 
-    /// Waits at most `most` until something is ready; without end if `None`.
-    fn wait_for(&mut self, most: Option<Duration>) -> io::Result<()>
+    /// Waits at most `most` until something is ready, without end if `None`; `false` if the system's wait fails.
+    fn wait_for(&mut self, most: Option<Duration>) -> bool
         ensures { self.new.sessions ≡ self.old.sessions }
     {
-        self.poll.poll(&mut self.events, most)
+        self.poll.poll(&mut self.events, most).is_ok()
     }
 
-    /// Polls without sleeping until something is ready or arrives in the mailbox; `false` if nothing does.
-    fn spin_until_ready(&mut self) -> io::Result<bool>
+    /// Waits without sleeping until something is ready or arrives in the mailbox; `None` if nothing does.
+    fn spin_until_ready(&mut self) -> Option<bool>
         ensures { self.new.sessions ≡ self.old.sessions }
     {
         for _ in 0..SPINS {
-            self.wait_for(Some(Duration::ZERO))?;
-            if !self.events.is_empty() || self.mailbox.has_some() {
-                return Ok(true);
+            let has_waited = self.wait_for(Some(Duration::ZERO));
+            if !has_waited || !self.events.is_empty() || self.mailbox.has_some() {
+                return Some(has_waited);
             }
             thread::yield_now();
         }
-        Ok(false)
+        None
     }
 
     /// Sleeps until something is ready, the worker is woken, or an idle check is due. It doesn't
     /// sleep if the mailbox isn't empty.
-    fn sleep(&mut self) -> io::Result<()>
+    fn sleep(&mut self) -> bool
         ensures { self.new.sessions ≡ self.old.sessions }
     {
         if !self.mailbox.may_sleep() {
@@ -267,17 +267,17 @@ where
         slept
     }
 
-    /// Waits until something is ready, or an idle check is due. It doesn't wait while connections
-    /// are listed, or the mailbox isn't empty.
-    fn wait(&mut self) -> io::Result<()>
+    /// Waits until something is ready, or an idle check is due; `false` if the system's wait fails. It doesn't wait
+    /// while connections are listed, or the mailbox isn't empty.
+    fn wait(&mut self) -> bool
         ensures { self.new.sessions ≡ self.old.sessions }
     {
         if self.mailbox.has_some() || self.sessions.listed.len() != 0 {
             return self.wait_for(Some(Duration::ZERO));
         }
         if self.spin.is_due() {
-            if self.spin_until_ready()? {
-                return Ok(());
+            if let Some(has_waited) = self.spin_until_ready() {
+                return has_waited;
             }
             self.spin.rest();
         }
@@ -330,7 +330,7 @@ where
                 }
                 self.mailbox.be_idle();
             }
-            if self.wait().is_err() {
+            if !self.wait() {
                 return false;
             }
             list_ready(&mut self.sessions, &self.events, self.limit, note);

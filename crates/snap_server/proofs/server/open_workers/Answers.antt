@@ -1,16 +1,21 @@
-use Rattle.std.proofs.Common.{◌≡◌, ◌∷◌, length, not, ap, sym, ◌∙◌, arith}
+use Rattle.std.proofs.Common.{◌≡◌, ◌∷◌, length, ap, sym, ◌∙◌, arith}
 use Rattle.std.specs.{List.range_with_len, Vec.Iter.into_iter_items}
-use Rattle.snap_server.proofs.Made.{made_more, made_all, made_len, numbered_more, pushed, pushed_len}
+use Rattle.snap_server.proofs.Made.{made_more, made_all, made_len, numbered_more, pushed_len}
 use Rattle.snap_server.proofs.server.open_workers.Goals as goal
+
+pub push_reserved-requires : goal.push_reserved-requires
+push_reserved-requires g c = omega (arith, c.services.invariant.room.0, c.in-Some.ensures.steps.1)
+
+pub push_reserved-requires-in-services : goal.push_reserved-requires-in-services
+push_reserved-requires-in-services g c = omega (arith, c.services.invariant.room.1, c.in-Some.ensures.steps.1)
 
 pub services-preserved : goal.services-preserved
 services-preserved g c =
     let next : into_iter_items c.services.service-iterator ≡ c.in-Some.service ∷ into_iter_items
     c.next.new.self =
     c.in-Some.ensures.steps.0 in
-    let one_more = pushed _ _ _ _ c.push.ensures.items (c.is_err.ensures.negation ∙ ap not c.if-is_err.false) in
-    let door_more = pushed _ _ _ _ c.push-else-is_err.ensures.items
-    (c.is_err-else-is_err.ensures.negation ∙ ap not c.if-is_err-2.false) in
+    let one_more = c.push_reserved.ensures.items in
+    let door_more = c.push_reserved-in-services.ensures.items in
     record {
       made = made_more _ c.services.workers.items _ c.in_ok-worker.worker _ _ _ c.services.invariant.made one_more
           (next ∙ ap (λ s. s ∷ into_iter_items c.next.new.self)
@@ -21,6 +26,10 @@ services-preserved g c =
           (c.in_ok-worker.ensures.sender ∙ c.len-place.ensures ∙ c.services.workers.ok.0
           ∙ sym c.services.invariant.senders);
       senders = pushed_len _ _ _ _ _ _ c.services.invariant.senders door_more one_more;
+      room = (
+        omega (arith, c.services.invariant.room.0, c.in-Some.ensures.steps.1, c.push_reserved.ensures),
+        omega (arith, c.services.invariant.room.1, c.in-Some.ensures.steps.1, c.push_reserved-in-services.ensures),
+      );
       long = omega (arith, c.services.invariant.long, c.in-Some.ensures.steps.1, ap length next);
     }
 

@@ -1,5 +1,5 @@
 use Rattle.std.proofs.Common.{sym, ◌∙◌, refl, rules}
-use Rattle.snap_server.proofs.Step.{written, same_stage, ends_idle}
+use Rattle.snap_server.proofs.Step.{written, of_both, same_stage, ends_idle}
 use Rattle.snap_server.proofs.SharedService.{no_turn, still_holds}
 use Rattle.snap_server.specs.declared.connection.{Connection.Connection, ConnectionState.TheVariants.Over}
 use Rattle.snap_server.proofs.sessions.Sessions.look.Goals as goal
@@ -17,8 +17,16 @@ invariant_of-self-2 g c =
     (no_turn g.S.Service.gives _ _ _ c.look.ensures.session)
     (ends_idle (sym c.look.ensures.stage ∙ idle) refl))
 
-pub returns-clause-ended : goal.returns-clause-ended
-returns-clause-ended g c =
+pub returns : goal.returns
+returns g c =
     let over : Connection = record c.look.new.self { stage = Over; socket = c.end.new.self.socket } in
     let step = written c.args.self.now.connections c.args.key _ over (sym c.in_ok-connection.ensures.value) in
-    rw c.end.ensures.over (over, step.behind, (refl, c.end.ensures.peer, rw c.end.ensures.how c.in_ok-how.ensures.may))
+    rw c.end.ensures.over (record {
+      service = refl;
+      ended = (over, step.behind, (refl, c.end.ensures.peer, rw c.end.ensures.how c.in_ok-how.ensures.may));
+      session = of_both _ step c.look.ensures.session;
+      stays = tt;
+      order = refl;
+      others = step.others;
+      count = step.count;
+    })
