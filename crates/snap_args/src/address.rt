@@ -8,7 +8,7 @@ use thiserror::Error;
 const MAX_SOCKET_PATH: usize = 107;
 
 /// The part that an address lacks. The message also says what to give.
-#[derive(Clone, Copy, Debug, PartialEq, Eq, Error)]
+#[derive(Clone, Copy, Debug, Error)]
 pub enum AddressFault {
     #[error("an address is HOST:PORT or unix:PATH, and the host is missing: give for example 127.0.0.1:7070")]
     Host,

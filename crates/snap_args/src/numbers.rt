@@ -72,9 +72,12 @@ pub(crate) fn large_number_of(
 ) -> Result<Option<u64>, WordFault>
     ensures { Reads result (λ k. IfSome k (λ n. n ≤ most) × IsLargeNumberOf (word_of matches.now what.now) k) }
 {
-    match matches.get_str(what) {
-        Some(word) => Ok(Some(number_in(word, most, rule)?)),
-        None => Ok(None),
+    let Some(word) = matches.get_str(what) else {
+        return Ok(None);
+    };
+    match word.parse::<u64>() {
+        Ok(number) if number <= most => Ok(Some(number)),
+        _ => Err(WordFault::Rule(rule)),
     }
 }
 
