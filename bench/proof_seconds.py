@@ -20,18 +20,20 @@ MOST = 25
 def main():
     words = argparse.ArgumentParser(description="Says which functions of a crate are dear to prove.")
     words.add_argument("folder", nargs="?", default=".", type=pathlib.Path, help="of the crate")
-    files = (words.parse_args().folder / "out" / "incremental").rglob("*.oantt")
-    written = sorted((it.stat().st_mtime, it.name) for it in files)
+    left = words.parse_args().folder / "out" / "incremental"
+    written = sorted((it.stat().st_mtime, it.name) for it in left.rglob("*.oantt"))
     if not written:
-        raise SystemExit("no check has left anything here: run rt check --jobs 1 first")
+        raise SystemExit(f"{left} has nothing that a check left: run rt check --jobs 1 in the crate first")
     parts = defaultdict(Counter)
     for (before, _), (after, name) in zip(written, written[1:]):
         found = PART.search(name)
         function, part = found.groups() if found else ("all else", "files")
         parts[function][part] += after - before
     print(f"{written[-1][0] - written[0][0]:.0f} s in all")
-    for function, took in sorted(parts.items(), key=lambda it: -it[1].total())[:MOST]:
-        print(f"{took.total():6.1f} {function} ({', '.join(f'{part} {it:.1f}' for part, it in took.most_common())})")
+    in_all = {function: sum(took.values()) for function, took in parts.items()}
+    for function in sorted(in_all, key=in_all.get, reverse=True)[:MOST]:
+        told = ", ".join(f"{part} {it:.1f}" for part, it in parts[function].most_common())
+        print(f"{in_all[function]:6.1f} {function} ({told})")
 
 
 if __name__ == "__main__":

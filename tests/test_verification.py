@@ -452,3 +452,17 @@ def test_a_crate_that_is_not_there_is_told_by_its_name(snapd, _):
             timeout=PATIENCE,
         )
         assert (run.returncode, run.stdout, run.stderr) == (1, "", "crates.txt has no nowhere\n"), (program, run)
+
+
+def test_the_seconds_of_a_proof_are_those_of_its_functions(snapd, _):
+    left = pathlib.Path(snapd.folder) / "out" / "incremental"
+    words = [sys.executable, TOP / "bench" / "proof_seconds.py", snapd.folder]
+    run = subprocess.run(words, capture_output=True, text=True, timeout=PATIENCE)
+    assert run.returncode == 1 and run.stderr.startswith(f"{left} has nothing"), run
+    left.mkdir(parents=True)
+    ends = {"first": 0, "a-proofs.desk.ask.Lts": 2, "a-proofs.desk.ask.Proof.decls": 5, "a-specs.Words": 6}
+    for name, at in ends.items():
+        (left / f"{name}.oantt").touch()
+        os.utime(left / f"{name}.oantt", (at, at))
+    run = subprocess.run(words, capture_output=True, text=True, timeout=PATIENCE)
+    assert run.stdout == "6 s in all\n   5.0 desk.ask (Proof 3.0, Lts 2.0)\n   1.0 all else (files 1.0)\n", run

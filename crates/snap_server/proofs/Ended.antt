@@ -13,6 +13,7 @@ ended P r has_failed kept failed = by (has_failed && was_announced r)
     by true = failed
     by false = kept
 
+-- what was announced is announced, whether or not a thread has failed
 pub ended_announced : {T : Type 0} (announces fails : T → T → Type 0) (old new : T) (r : Result ℕ RunFault)
     (has_failed : Bool) → Announced announces fails old r new → Announced announces fails old (end_of r has_failed) new
 ended_announced announces fails old new r false is = is
@@ -32,6 +33,7 @@ ended_served Q (Err why) true whole gives = tt
 ended_served Q (Ok k) false whole gives = tt
 ended_served Q (Err why) false whole gives = ended (λ r. OnOk r Q) (Err why) true tt tt
 
+-- what holds with this listener holds with one that is left
 pub left_behind : {L : Type 0} (P : ℕ → L → Type 0) (r : Result ℕ RunFault) (left : L)
     → IfOk r (λ k. P k left) → IfOk r (λ k. (last : L) × P k last)
 left_behind P (Ok k) left known = (left, known)

@@ -105,7 +105,8 @@ impl<'a, R: Files<File = File> + Clock> Listeners<'a, R> {
         Ok(())
     }
 
-    /// Registers the listener, so that the system reports its waiting connections.
+    /// Registers the listener, so that the system reports its waiting connections. If it isn't the only one, neither it
+    /// nor the first one waits for a connection any more.
     fn watch(&mut self, opened: &Opened<'a, R>) -> io::Result<()> {
         // A single listener blocks in its own system call.
         if let Some(first) = self.opened.first() {

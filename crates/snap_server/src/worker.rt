@@ -240,7 +240,8 @@ where
         self.poll.poll(&mut self.events, most).is_ok()
     }
 
-    /// Waits without sleeping until something is ready or arrives in the mailbox; `None` if nothing does.
+    /// Waits without sleeping until something is ready or arrives in the mailbox, `None` if nothing does; or until the
+    /// system's wait fails, `false`.
     fn spin_until_ready(&mut self) -> Option<bool>
         ensures { self.new.sessions ≡ self.old.sessions }
     {
@@ -254,8 +255,8 @@ where
         None
     }
 
-    /// Sleeps until something is ready, the worker is woken, or an idle check is due. It doesn't
-    /// sleep if the mailbox isn't empty.
+    /// Sleeps until something is ready, the worker is woken, or an idle check is due; `false` if the system's wait
+    /// fails. It doesn't sleep if the mailbox isn't empty.
     fn sleep(&mut self) -> bool
         ensures { self.new.sessions ≡ self.old.sessions }
     {
