@@ -25,11 +25,11 @@ test:
 	@sh verification/needs.sh rt python3 gcc
 	@python3 verification/test.py $(if $(filter all,$(PROVE)),--all) $(if $(FRESH),--fresh)
 
-# Tries the edits that must-fail.lock doesn't have as they are now, with CRATES="NAME .." those of these crates,
-# and records them.
+# Tries the edits that must-fail.lock doesn't have as they are now, with CRATES="NAME .." those of these crates, and
+# records them. With EVERY=1 also those that it has.
 edits:
 	@sh verification/needs.sh rt python3
-	@python3 verification/edits.py $(CRATES)
+	@python3 verification/test.py --edits $(if $(EVERY),--all) $(CRATES)
 
 # Lays the libraries that this machine has proved before where `rt check` looks, so that it begins at once in any crate.
 libraries:

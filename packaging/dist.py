@@ -23,8 +23,8 @@ TOP = pathlib.Path(__file__).resolve().parent.parent
 sys.path[:0] = [str(TOP / "verification"), str(TOP / "packaging")]
 
 import kit  # noqa: E402
+import locks  # noqa: E402
 import notices  # noqa: E402
-import record  # noqa: E402
 import version  # noqa: E402
 
 DOC = "share/doc/snapd-board"
@@ -59,8 +59,8 @@ def proved(program):
         "commit": said("git", "rev-parse", "HEAD") + (", with changes that aren't committed" if is_changed else ""),
         "kit": kit.release(),
         "logic": kit.logic().removeprefix("logic "),
-        "proofs.lock": f"SHA-256 {digest(TOP / record.LOCK)}",
-        "record": record.Record.of(TOP).told(),
+        "proofs.lock": f"SHA-256 {digest(TOP / locks.LOCK)}",
+        "record": locks.Record.of(TOP).told(),
     }
     return "".join(f"{name}: {text}\n" for name, text in lines.items())
 

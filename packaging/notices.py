@@ -24,7 +24,7 @@ Crates of the Rattle kit that are linked into snapd, each with the files of its 
 
 def licences():
     """The files of each linked crate's licence, by the crate's name."""
-    rtlib = kit.load("rtlib.KIT", "rtlib.crates_below", "rtlib.kit_sources", "Crate.sources_below").rtlib
+    rtlib = kit.load().rtlib
     program = next(it for it in rtlib.crates_below(str(TOP)) if it.name == "snapd")
     named = [name for it in [program, *program.below()] for name in it.of_kit]
     # A word is `NAME:USES=PATH/src/lib.rt`, or an option.

@@ -20,6 +20,12 @@ README, RECIPES = ((TOP / name).read_text() for name in ("README.md", "docs/RECI
 EXAMPLES = re.findall(r"^```\w*\n(.*?)^```$", README, re.S | re.M)
 
 
+def test_first_job_of_a_build(snapd, _):
+    words = ["sh", TOP / "tests" / "demo.sh", snapd.path]
+    run = subprocess.run(words, cwd=snapd.folder, capture_output=True, text=True, timeout=PATIENCE)
+    assert run.returncode == 0 and "\nstored 1\n" in run.stdout, run
+
+
 def test_readme_script_prints_what_it_shows(snapd, random):
     block = next(it for it in EXAMPLES if "snapd script" in it)
     command, _, printed = block.removeprefix("$ ").rpartition("| tail -n 1\n")

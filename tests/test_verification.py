@@ -12,15 +12,15 @@ TOP = pathlib.Path(__file__).resolve().parent.parent
 sys.path.insert(0, str(TOP / "verification"))
 
 import archive  # noqa: E402
+import crates  # noqa: E402
 import kit  # noqa: E402
+import proofs  # noqa: E402
 import quick  # noqa: E402
-import record  # noqa: E402
 from digests import Digests  # noqa: E402
-from edits import Edits, Refusal  # noqa: E402
-from proofs import Proofs, by_seconds  # noqa: E402
-from record import Proved, Record  # noqa: E402
+from locks import Edits, Proved, Record, Refusal, digests_of  # noqa: E402
+from proofs import by_seconds  # noqa: E402
 from source import function_of, functions_in, uncommented  # noqa: E402
-from test import drawn, judged  # noqa: E402
+from test import drawn  # noqa: E402
 from tree import copied, edits_of, proved_crates  # noqa: E402
 from waiting import PATIENCE  # noqa: E402
 
@@ -201,7 +201,7 @@ def test_a_sample_is_new_with_each_seed_and_keeps_to_its_bounds(snapd, _):
     )
     # Where nothing below is at hand, a high one would cost all three.
     draws = [drawn(LOWER, edits, crates, seconds, list(LOWER), seed, (3, 99, 250)) for seed in range(40)]
-    assert {tuple(sorted(names)) for names, _ in draws} == {("low", "middle"), ("middle",)}, draws
+    assert {tuple(sorted(names)) for names, _ in draws} == {("low", "middle")}, draws
 
 
 def test_a_record_has_a_crate_as_long_as_nothing_under_its_proof_changes(snapd, _):
@@ -211,7 +211,7 @@ def test_a_record_has_a_crate_as_long_as_nothing_under_its_proof_changes(snapd, 
         (top / "crates" / name / "src").mkdir(parents=True)
         (top / "crates" / name / "src" / "lib.rt").write_text(text)
     assert proved_crates(top) == list(LOWER)
-    made = Record(record.digests_of(top, "logic"), {})
+    made = Record(digests_of(top, "logic"), {})
     assert made.told() == "proofs.lock: 0 of 3 crates were proved as they are here; not low, middle, high"
     made.take({"low": 7, "middle": 5, "high": 3}, "2026-11-28")
     made.write(top)
@@ -229,9 +229,9 @@ def test_a_record_has_a_crate_as_long_as_nothing_under_its_proof_changes(snapd, 
     ):
         text = (top / path).read_text()
         (top / path).write_text(text.replace(old, new))
-        assert Record(record.digests_of(top, "logic"), made.lines).missing() == wanted, path
+        assert Record(digests_of(top, "logic"), made.lines).missing() == wanted, path
         (top / path).write_text(text)
-    assert Record(record.digests_of(top, "another"), made.lines).missing() == list(LOWER)
+    assert Record(digests_of(top, "another"), made.lines).missing() == list(LOWER)
     # Crates that were proved before keep their day and time, and those that no longer exist are dropped.
     again = Record({**made.digests, "high": "new"}, {**made.lines, "gone": Proved("0", "old", "day", 1)})
     again.take({"high": 4}, "2026-12-01")
@@ -280,42 +280,23 @@ def test_a_copy_has_what_the_prover_reads_and_the_edits_that_are_tried(snapd, _)
         assert not copy.exists()
 
 
-def ended(lines, status, names=("low", "middle", "high")):
-    """What a run of the prover over these crates came to that has printed these lines."""
-    proofs = Proofs(dict.fromkeys(names, 60), 2)
-    with contextlib.redirect_stdout(None):
-        for it in lines:
-            proofs.take(f"{it}\n")
-    proofs.end(status)
-    return proofs
-
-
 def test_a_prover_that_fails_is_never_taken_for_one_that_passed(snapd, _):
-    every = [f"rt: {it} proved" for it in LOWER]
-    assert ended([*every, "rt: ok; handles allowed: none", "3 passed, 0 failed"], 0).part() == (3, 0, [])
-    # An edit that isn't refused fails no proof.
-    told = ["rt: must-fail low/first.edit: NOT REFUSED: text", "rt: FAILED: low/first.edit", "3 passed, 1 failed"]
-    assert ended([*every, *told], 1).part() == (3, 0, [])
-    for lines, status in (
-        ([*every, "3 passed, 0 failed"], 1), ([], 0), ([*every, "3 passed, 0 failed", "more"], 0),
-        ([*every, "rt: FAILED: low", "2 passed, 1 failed"], 0), (["rt: no"], -9), ([*every, *told[:2]], 1),
-        ([*every, "rt: FAILED: low (run)", "3 passed, 1 failed"], 1),
-        ([*every, "rt: low NOT PROVED again, before its edits", "3 passed, 0 failed"], 0),
+    low, middle = "[1 of 3] low was kept, about 2 min left", "[2 of 3] middle proved in 12 s, about 1 min left"
+    high, lacking = "[3 of 3] high proved in 3 s", "[3 of 3] high NOT PROVED in 3 s"
+
+    def came(lines, status, log=("rt: more",)):
+        return proofs.judged(LOWER, [*filter(None, map(proofs.TOLD.match, lines))], status, [*log])
+
+    assert came([low, middle, high], 0) == (3, 0, [])
+    log = ["rt: high: note", "rt: high NOT PROVED", "rt: FAILED: high", "rt: must-fail high/first: NOT PROVED"]
+    passed, failed, said = came([low, middle, lacking], 1, log)
+    assert (passed, failed, said[:-1]) == (2, 1, log[1:3]) and said[-1].startswith("the whole log: ")
+    for lines, status, wanted in (
+        ([low, middle, high], 1, (3, 1)), ([low, middle, high], -9, (3, 1)), ([], 0, (0, 3)),
+        ([low, middle], 0, (2, 1)), ([low, middle, lacking], 0, (2, 1)), (["Traceback"], 1, (0, 3)),
     ):
-        came = ended(lines, status)
-        assert came.failed and (came.failures or not lines), lines
-    came = ended(["rt: low NOT PROVED", "x", "rt: FAILED: low", "0 passed, 1 failed"], 1, ["low"])
-    assert came.part() == (0, 1, ["rt: low NOT PROVED", "rt: FAILED: low"])
-
-
-def test_each_proof_is_told_as_it_ends(snapd, _):
-    lines = (
-        "took low 12", "rt: low proved", "rt: middle is kept: an earlier run", "took high 3", "rt: high NOT PROVED",
-        "rt: high: note", "rt: FAILED: high", "2 passed, 1 failed",
-    )
-    proofs = ended(lines, 1)
-    assert (proofs.kept, proofs.seconds, proofs.left) == (1, {"low": 12, "high": 3}, {})
-    assert proofs.part() == (2, 1, ["rt: high NOT PROVED", "rt: FAILED: high"])
+        passed, failed, said = came(lines, status)
+        assert (passed, failed) == wanted and said, (lines, status)
 
 
 def test_a_proof_is_kept_as_long_as_all_that_it_read_is_the_same(snapd, _):
@@ -334,7 +315,7 @@ def test_a_proof_is_kept_as_long_as_all_that_it_read_is_the_same(snapd, _):
         kept.is_built(it)
         if it.name != "high":
             kept.keep(it, False, kept.key(it))
-    assert archive.missing(top) == ["high"] and (built("high") / "format").exists()
+    assert archive.lay(top) == ["high"]
     for path, lost in (
         ("crates/middle/src/lib.rt", ["middle", "high"]), ("crates/middle/specs/Words.antt", ["middle", "high"]),
         ("crates/low/src/lib.rt", list(LOWER)), ("HANDLES", list(LOWER)), ("crates.txt", ["middle", "high"]),
@@ -342,56 +323,44 @@ def test_a_proof_is_kept_as_long_as_all_that_it_read_is_the_same(snapd, _):
         file = top / path
         text = file.read_text()
         file.write_text(text.replace("middle: low", "middle: low bytes") if path == "crates.txt" else text + " ")
-        assert archive.missing(top) == lost, path
+        assert archive.lay(top) == lost, path
         file.write_text(text)
     source = top / "crates" / "middle" / "src" / "lib.rt"
     source.write_text("// A comment more.\n" + source.read_text())
     # What is laid is what was kept, with a stamp, and nothing is left of the others.
-    (built("low") / "format").unlink()
-    assert archive.missing(top, is_laid=True) == ["high"]
+    built("high").mkdir(parents=True)
+    assert archive.lay(top) == ["high"]
     assert (built("low") / "format").read_text() == "low" and not built("high").exists()
     assert [it.is_built() for it in rt.rtlib.crates_below(str(top))] == [True, True, False]
     for it in (snapd.folder / "snapd-proofs").glob("proof-low-*/0"):
         it.write_text("another")
-    assert archive.missing(top, is_laid=True) == list(LOWER)
+    assert archive.lay(top) == list(LOWER)
 
 
-def test_an_archive_that_others_can_write_to_is_refused(snapd, _):
-    words = [sys.executable, "-c", "import archive; print(archive.place())"]
+def test_nobody_else_can_write_to_the_archive(snapd, _):
     kept = snapd.folder / "snapd-proofs"
-    how = {"cwd": TOP / "verification", "capture_output": True, "text": True, "timeout": PATIENCE}
-    how["env"] = {**os.environ, "XDG_CACHE_HOME": str(snapd.folder)}
-    assert subprocess.run(words, **how).stdout == f"{kept}\n" and kept.stat().st_mode & 0o777 == 0o700
-    kept.chmod(0o770)
-    run = subprocess.run(words, **how)
-    assert (
-        run.returncode == 1 and run.stderr.startswith(f"{kept} isn't yours alone") and "Traceback" not in run.stderr
-    ), run
+    kept.mkdir(mode=0o770)
+    os.environ["XDG_CACHE_HOME"] = str(snapd.folder)
+    assert archive.opened().Kept([]).at == str(kept) and kept.stat().st_mode & 0o777 == 0o700
 
 
 def test_the_longest_chain_goes_by_what_was_measured(snapd, _):
-    call = lambda given, jobs: jobs  # noqa: E731
-    tasks = {
-        ("low", "proof"): ([], 100, 1, call), ("low", "tests"): ([], 100, 1, call),
-        ("new", "proof"): ([("low", "proof")], 100, 2, call), ("new", "tests"): ([("low", "proof")], 100, 2, call),
-    }
-    found = by_seconds(tasks, {"low": 70, "new": 0}, 4)
-    # Nobody uses `new`: its tests pass before anything is proved, and its proof gets all processors, however few are
-    # idle as it begins.
-    waits, work, _, tests = found.pop(("new", "tests"))
-    assert (waits, work, tests({}, 4)) == ((), 82.0, True)
+    call, below = lambda given, jobs: jobs, [("low", "proof")]  # noqa: E731
+    tasks = {("low", "proof"): ([], 100, 1, call), ("new", "proof"): (below, 100, 2, call)}
+    edits = {("low", "seed"): ([], 0, 1, call), ("new", "edits", 0): (below, 100, 2, call)}
+    found = by_seconds({**tasks, **edits}, {"low": 70, "new": 0}, 4)
+    # Nobody uses `new`: its proof gets all processors, however few are idle as it begins.
     *rest, proof = found.pop(("new", "proof"))
-    assert (*rest, proof({}, 1)) == ([("low", "proof")], 12.0, 1, 4)
-    assert found == {("low", "proof"): ([], 70, 1, call), ("low", "tests"): ([], 0, 1, call)}
+    assert (*rest, proof({}, 1)) == (below, 60, 1, 4)
+    assert found == {("low", "proof"): ([], 70, 1, call), **edits, ("new", "edits", 0): (below, 0, 2, call)}
 
 
 def test_tests_that_end_without_a_count_have_failed(snapd, _):
-    assert judged("low", ["test it ... ok", "test result: ok. 2 passed; 0 failed; 0 ignored"], 0) == (2, [])
-    passed, failed = judged(
-        "low", ["test it ... FAILED", "test result: FAILED. 1 passed; 1 failed; 0 ignored"], 1
-    )
-    assert (passed, failed) == (1, ["low: test it ... FAILED"])
-    assert judged("low", ["test it ... ok"], 0)[1] and judged("low", [], -11)[1]
+    assert crates.judged("low", 0, "test it ... ok\ntest result: ok. 2 passed; 0 failed; 0 ignored\n") == (2, [])
+    said = "test it ... FAILED\ntest result: FAILED. 1 passed; 1 failed; 0 ignored"
+    assert crates.judged("low", 1, said) == (1, ["low: test it ... FAILED"])
+    for status, said in ((0, "test it ... ok"), (-11, ""), (1, "test result: ok. 2 passed; 0 failed; 0 ignored")):
+        assert crates.judged("low", status, said)[1], (status, said)
 
 
 def test_a_built_program_gets_a_line_on_its_build(snapd, _):
@@ -439,14 +408,14 @@ def test_what_is_missing_is_told_in_one_line(snapd, _):
 
 def test_a_kit_that_lacks_a_part_is_told_apart(snapd, _):
     run = subprocess.run(
-        [sys.executable, "-c", "import kit; kit.load('main', 'no.such')"], cwd=TOP / "verification",
+        [sys.executable, "-c", "import kit; kit.PARTS.append('no.such'); kit.load()"], cwd=TOP / "verification",
         capture_output=True, text=True, timeout=PATIENCE,
     )
     assert run.returncode == 1 and "lacks what -c goes by: " in run.stderr and "Traceback" not in run.stderr, run
 
 
 def test_a_crate_that_is_not_there_is_told_by_its_name(snapd, _):
-    for program in ("quick", "test", "edits"):
+    for program in ("quick", "test"):
         run = subprocess.run(
             [sys.executable, TOP / "verification" / f"{program}.py", "nowhere"], capture_output=True, text=True,
             timeout=PATIENCE,

@@ -11,6 +11,9 @@ import subprocess
 import sys
 
 sys.dont_write_bytecode = True
+# The parts of `rt` that these scripts go by.
+PARTS = """main in_lanes processors free seeded edited drop_to_nobody STORE own_sum kit_sum Crate.ci Crate.sources_below
+ Kept.key Kept.give Kept.is_built Kept.tried rtlib.KIT rtlib.RUNNER rtlib.crates_below rtlib.kit_sources""".split()
 
 
 @functools.lru_cache(maxsize=None)
@@ -33,13 +36,13 @@ def path():
 
 
 @functools.lru_cache(maxsize=None)
-def load(*names):
-    """The command `rt` as a module. Ends the program where it lacks one of these parts, which are named with dots."""
+def load():
+    """The command `rt` as a module. Ends the program where it lacks one of its parts."""
     loader = importlib.machinery.SourceFileLoader("rt_of_the_kit", str(path()))
     rt = importlib.util.module_from_spec(importlib.util.spec_from_loader("rt_of_the_kit", loader))
     loader.exec_module(rt)
     try:
-        operator.attrgetter(*names)(rt)
+        operator.attrgetter(*PARTS)(rt)
     except AttributeError as lack:
         sys.exit(f"{identity()} lacks what {pathlib.Path(sys.argv[0]).name} goes by: {lack}: look through it first")
     return rt

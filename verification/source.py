@@ -78,7 +78,7 @@ def items_of(text, path):
 def function_of(folder, edit):
     """The file that an edit changes, and the text of the function that it lies in, with the head of its impl; where it
     lies in several, or in none, the whole file's. None of an edit that can't be applied."""
-    changed, _ = kit.load("edited").edited(edit.read_text(), str(folder))
+    changed, _ = kit.load().edited(edit.read_text(), str(folder))
     if not changed:
         return None
     path, *others = changed

@@ -57,8 +57,7 @@ def has_tests(folder):
 def proved_crates(top):
     """The crates that are proved: the program, all crates that it uses, and the laws. Crates of tests, and programs
     that tests run, are built without proofs and run."""
-    names = [it for it in crates_of(top) if not it.startswith("try_")]
-    return [it for it in names if not (it.startswith("tests_") and has_tests(top / "crates" / it))]
+    return [it for it in crates_of(top) if not it.startswith(("try_", "tests_"))]
 
 
 def edits_of(top, name):

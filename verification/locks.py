@@ -1,30 +1,26 @@
-"""The record of proofs: which crates were proved whole as they are now, by which release of the kit, when, and in what
-time.
+"""The two locks, by which it is known what was proved and what was refused. A line is only a claim of its author.
 
-    python3 verification/record.py
-
-prints how much of this checkout is in `proofs.lock` as it is now. A line's digest (SHA-256) is of all that the proof
-rests on: each file of the crate's src/, specs/ and proofs/ without its comments, its line of crates.txt, HANDLES, the
-kit's logic, and the digests of the crates below. It is only a claim of its author: anyone can check it by `make prove`,
-which writes the record, and `make test` checks a sample.
+The digest (SHA-256) in a line of `proofs.lock` is of all that a crate's proof rests on: each file of its src/, specs/
+and proofs/ without comments, its line of crates.txt, HANDLES, the kit's logic, and the digests of the crates below.
+Anyone can check it by `make prove`, which writes it, and `make test` checks a sample. A line of `must-fail.lock` has
+the digest of what an edit's refusal rests on (digests.py); every run that tries an edit writes it.
 """
 
 import datetime
 import functools
+import re
 from collections import namedtuple
 from dataclasses import dataclass
 
 import kit
-from digests import summed
-from tree import TOP, crates_of, proved_crates, texts_of
+from digests import Digests, summed
+from tree import crates_of, edits_of, proved_crates, texts_of
 
 LOCK = "proofs.lock"
-HEAD = """\
-# Each crate that was proved whole, from nothing: the digest of all that the proof rests on, the kit's release, the day,
-# and the seconds that its proof took when `make prove`, which writes this, last made it itself, maybe of other sources.
-"""
-# A line of the record.
-Proved = namedtuple("Proved", "digest release day seconds")
+# What the kit says of an edit, and of one that took a name away which a proof cites: that says nothing of the contract.
+SAID = re.compile(r"rt: must-fail (\S+/\S+): (refused|NOT REFUSED|BAD EDIT|NOT TRIED)(.*)")
+NAMELESS = "only because a proof file names"
+Proved, Refusal = namedtuple("Proved", "digest release day seconds"), namedtuple("Refusal", "digest release")
 
 
 @dataclass
@@ -76,9 +72,13 @@ def digests_of(top, logic):
 
 
 class Record(Lock):
-    """A checkout's crates by their digests, and what the record has of them."""
+    """A checkout's crates by their digests, and what the record of proofs has of them."""
 
-    file, head, what = LOCK, HEAD, "crates were proved"
+    file, what = LOCK, "crates were proved"
+    head = """\
+# Each crate that was proved whole, from nothing: the digest of all that the proof rests on, the kit's release, the day,
+# and the seconds that its proof took when `make prove`, which writes this, last made it itself, maybe of other sources.
+"""
     line = staticmethod(lambda digest, release, day, seconds: Proved(digest, release, day, int(seconds)))
 
     @classmethod
@@ -101,5 +101,35 @@ class Record(Lock):
         self.lines = {name: it if name in new else were[name] for name, it in made.items()}
 
 
-if __name__ == "__main__":
-    print(Record.of(TOP).told())
+class Edits(Lock):
+    """A checkout's must-fail edits, pairs of crate and path, by their digests, and what the lock has of them."""
+
+    file, what, line = "must-fail.lock", "edits were refused", Refusal
+    head = """\
+# Each edit that the prover has refused: the digest of what that rests on (the edit, its function, the contracts and
+# definitions that this names, and the kit's logic), and the kit's release. Every run that tries an edit records it.
+# Where names alone changed since, or what a digest leaves out, its line was carried over; make edits EVERY=1 tries all.
+"""
+
+    @classmethod
+    def of(cls, top):
+        digests, edits = Digests(top, kit.logic()), [(it, path) for it in crates_of(top) for path in edits_of(top, it)]
+        return cls({it: digests.edit(*it) for it in edits}, cls.read(top))
+
+    @staticmethod
+    def name(edit):
+        return f"{edit[0]}/{edit[1].name}"
+
+    def take(self, chosen, lines):
+        """Takes in what the kit said of these edits: how many were refused, how many not, and what is said of these."""
+        found, failures = {it[1]: it.groups()[1:] for it in map(SAID.match, lines) if it}, []
+        for edit in chosen:
+            name = self.name(edit)
+            came, text = found.get(name, ("NOT TRIED", ""))
+            if came == "refused" and NAMELESS not in text:
+                self.lines[name] = Refusal(self.digests[edit], kit.release())
+                continue
+            failures.append(f"edit {name}: {came}{text[:300]}")
+            if came != "NOT TRIED":
+                self.lines.pop(name, None)
+        return len(chosen) - len(failures), len(failures), failures
