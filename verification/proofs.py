@@ -15,7 +15,6 @@ import sys
 import time
 
 import archive
-import kit
 from locks import Record
 from quick import place, put, ran
 from tree import TOP, copied, crates_of, with_below

@@ -128,7 +128,7 @@ def main():
     words = argparse.ArgumentParser(description="Runs every test, proves what isn't on record and a sample of what is.")
     words.add_argument("--prove", action="store_true", help="prove everything, and record it, in place of the test")
     words.add_argument("--edits", action="store_true", help="try must-fail edits alone, and record them")
-    words.add_argument("--all", action="store_true", help="every crate, proved by this run or an earlier one; every edit")
+    words.add_argument("--all", action="store_true", help="every crate, proved now or by an earlier run; every edit")
     words.add_argument("--fresh", action="store_true", help="take nothing from this machine's archive of proofs")
     words.add_argument("--seed", type=int, default=random.SystemRandom().randrange(10**9), help="of the sample")
     words = parsed(words, "programs that are proved alone, or crates whose edits are tried")
