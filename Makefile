@@ -34,7 +34,7 @@ edits:
 # Lays the libraries that this machine has proved before where `rt check` looks, so that it begins at once in any crate.
 libraries:
 	@sh verification/needs.sh rt python3
-	@python3 verification/archive.py
+	@python3 verification/test.py --lay
 
 # The program that the end-to-end tests run beside snapd, without its proofs, and these tests alone, on bin/snapd.
 programs:

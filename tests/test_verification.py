@@ -11,7 +11,6 @@ import types
 TOP = pathlib.Path(__file__).resolve().parent.parent
 sys.path.insert(0, str(TOP / "verification"))
 
-import archive  # noqa: E402
 import crates  # noqa: E402
 import kit  # noqa: E402
 import proofs  # noqa: E402
@@ -21,7 +20,7 @@ from locks import Edits, Proved, Record, Refusal, digests_of  # noqa: E402
 from proofs import by_seconds  # noqa: E402
 from source import function_of, functions_in, uncommented  # noqa: E402
 from test import drawn  # noqa: E402
-from tree import copied, edits_of, proved_crates  # noqa: E402
+from tree import copied, proved_crates  # noqa: E402
 from waiting import PATIENCE  # noqa: E402
 
 BODY = """\
@@ -79,6 +78,10 @@ def tree(folder):
     (top / "crates.txt").write_text("# The crates: three.\nlow: byteorder\nmiddle: low\nhigh: middle\n")
     (top / "HANDLES").write_text("Handles allowed: none.\n")
     return top
+
+
+def edits_of(top, name):
+    return sorted((top / "crates" / name / "must-fail").glob("*.edit"))
 
 
 def digests(top, logic="logic"):
@@ -306,7 +309,7 @@ def test_a_proof_is_kept_as_long_as_all_that_it_read_is_the_same(snapd, _):
     def built(name):
         return top / "crates" / name / "out" / "rlib" / f"{name}.rlib"
 
-    rt = archive.opened()
+    rt = proofs.opened()
     crates = rt.rtlib.crates_below(str(top))
     kept = rt.Kept(crates)
     for it in crates:
@@ -315,7 +318,7 @@ def test_a_proof_is_kept_as_long_as_all_that_it_read_is_the_same(snapd, _):
         kept.is_built(it)
         if it.name != "high":
             kept.keep(it, False, kept.key(it))
-    assert archive.lay(top) == ["high"]
+    assert proofs.lay(top) == ["high"]
     for path, lost in (
         ("crates/middle/src/lib.rt", ["middle", "high"]), ("crates/middle/specs/Words.antt", ["middle", "high"]),
         ("crates/low/src/lib.rt", list(LOWER)), ("HANDLES", list(LOWER)), ("crates.txt", ["middle", "high"]),
@@ -323,25 +326,25 @@ def test_a_proof_is_kept_as_long_as_all_that_it_read_is_the_same(snapd, _):
         file = top / path
         text = file.read_text()
         file.write_text(text.replace("middle: low", "middle: low bytes") if path == "crates.txt" else text + " ")
-        assert archive.lay(top) == lost, path
+        assert proofs.lay(top) == lost, path
         file.write_text(text)
     source = top / "crates" / "middle" / "src" / "lib.rt"
     source.write_text("// A comment more.\n" + source.read_text())
     # What is laid is what was kept, with a stamp, and nothing is left of the others.
     built("high").mkdir(parents=True)
-    assert archive.lay(top) == ["high"]
+    assert proofs.lay(top) == ["high"]
     assert (built("low") / "format").read_text() == "low" and not built("high").exists()
     assert [it.is_built() for it in rt.rtlib.crates_below(str(top))] == [True, True, False]
     for it in (snapd.folder / "snapd-proofs").glob("proof-low-*/0"):
         it.write_text("another")
-    assert archive.lay(top) == list(LOWER)
+    assert proofs.lay(top) == list(LOWER)
 
 
 def test_nobody_else_can_write_to_the_archive(snapd, _):
     kept = snapd.folder / "snapd-proofs"
     kept.mkdir(mode=0o770)
     os.environ["XDG_CACHE_HOME"] = str(snapd.folder)
-    assert archive.opened().Kept([]).at == str(kept) and kept.stat().st_mode & 0o777 == 0o700
+    assert proofs.opened().Kept([]).at == str(kept) and kept.stat().st_mode & 0o777 == 0o700
 
 
 def test_the_longest_chain_goes_by_what_was_measured(snapd, _):

@@ -4,7 +4,6 @@ import functools
 import importlib.machinery
 import importlib.util
 import operator
-import os
 import pathlib
 import shutil
 import subprocess
@@ -32,7 +31,7 @@ def logic():
 
 
 def path():
-    return pathlib.Path(os.path.realpath(shutil.which("rt")))
+    return pathlib.Path(shutil.which("rt")).resolve()
 
 
 @functools.lru_cache(maxsize=None)

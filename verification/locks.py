@@ -14,7 +14,7 @@ from dataclasses import dataclass
 
 import kit
 from digests import Digests, summed
-from tree import crates_of, edits_of, proved_crates, texts_of
+from tree import crates_of, proved_crates, texts_of
 
 LOCK = "proofs.lock"
 # What the kit says of an edit, and of one that took a name away which a proof cites: that says nothing of the contract.
@@ -113,8 +113,8 @@ class Edits(Lock):
 
     @classmethod
     def of(cls, top):
-        digests, edits = Digests(top, kit.logic()), [(it, path) for it in crates_of(top) for path in edits_of(top, it)]
-        return cls({it: digests.edit(*it) for it in edits}, cls.read(top))
+        digests, paths = Digests(top, kit.logic()), sorted(top.glob("crates/*/must-fail/*.edit"))
+        return cls({it: digests.edit(*it) for it in ((path.parts[-3], path) for path in paths)}, cls.read(top))
 
     @staticmethod
     def name(edit):

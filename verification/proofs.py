@@ -6,18 +6,24 @@ is the kit's `rt ci` in this folder, except that tests aren't proved; that crate
 times, with the longest chain first; and that what was proved before is taken from our archive, but not these crates,
 with --anew none, and never what came of an edit. With --over the tries of a crate's edits begin with what `rt check`
 left of it in the checkout, if it did. The kit's own lines are in LOG.
+
+The archive is what this machine has proved, as `rt ci` keeps it, but in a folder of ours and whatever comments say:
+each crate under the sum of all that its proof has read, the kit, HANDLES, the crate's line of crates.txt, its files
+without their comments, and the built libraries below it. Whoever can write to it can forge a proof.
 """
 
 import os
 import pathlib
 import re
+import shutil
 import sys
 import time
 
-import archive
+import kit
+from digests import summed
 from locks import Record
 from quick import place, put, ran
-from tree import TOP, copied, crates_of, with_below
+from tree import TOP, copied, crates_of, proved_crates, texts_of, with_below
 
 # What each crate took on record, and what one takes that isn't.
 SECONDS, UNKNOWN = {name: it.seconds for name, it in Record.read(TOP).items()}, 60
@@ -26,6 +32,40 @@ TOLD, COUNT = re.compile(r"\[.*\] (\w+) (was kept|proved in (\d+) s)"), re.compi
 # How many lines of a failed run are shown again.
 LAST = 12
 LOG = TOP / "out" / "proofs.log"
+
+
+def opened():
+    """The kit's command as a module that keeps what it proves in our archive. (It lets nobody else write there, and
+    uses none that is another user's.)"""
+    rt, caches = kit.load(), os.environ.get("XDG_CACHE_HOME") or pathlib.Path.home() / ".cache"
+
+    def own_sum(crate):
+        """The sum of all that a crate's proof reads but the libraries below it."""
+        folder, top = pathlib.Path(crate.folder), pathlib.Path(crate.folder).parent.parent
+        line = crates_of(top)[crate.name].line
+        return summed(rt.kit_sum(), (top / "HANDLES").read_bytes(), line, *texts_of(folder))
+
+    rt.STORE, rt.own_sum = f"{caches}/snapd-proofs", own_sum
+    return rt
+
+
+def lay(top):
+    """Puts each library that the archive has into its crate's out/, with the stamp by which `rt check` sees that
+    nothing has changed since, and returns the names of the others. (Statements fit only the libraries that they were
+    built over, so what else is there is removed.)"""
+    rt, lacking = opened(), []
+    crates = [it for it in rt.rtlib.crates_below(str(top)) if it.makes_rlib() and it.name in proved_crates(top)]
+    kept = rt.Kept(crates)
+    for crate in crates:
+        out = pathlib.Path(crate.folder, "out", "rlib")
+        shutil.rmtree(out, ignore_errors=True)
+        # (over a library that is lacking, nothing was kept under this key)
+        if kept.give(crate, False, kept.key(crate)):
+            kept.is_built(crate)
+            (out / "stamp").write_text(crate.stamp())
+        else:
+            lacking.append(crate.name)
+    return lacking
 
 
 def judged(names, told, status, log):
@@ -72,7 +112,7 @@ def by_seconds(tasks, seconds, lanes):
 
 
 def main():
-    rt, anew, out = archive.opened(), sys.argv[1:], sys.stdout
+    rt, anew, out = opened(), sys.argv[1:], sys.stdout
     in_lanes, ci, seeded, give = rt.in_lanes, rt.Crate.ci, rt.seeded, rt.Kept.give
     left = {it: SECONDS.get(it) or UNKNOWN for it in crates_of(pathlib.Path.cwd())}
     every = len(left)

@@ -1,12 +1,11 @@
 """The whole test, and with --prove the proof of all: `make test` and `make prove` (docs/PROMISES.md has what they try).
 
-    python3 verification/test.py [--all] [--fresh] [--seed N]
-    python3 verification/test.py --prove [--fresh] [NAME ..]
-    python3 verification/test.py --edits [--all] [NAME ..]
+    python3 verification/test.py [--prove | --edits | --lay] [--all] [--fresh] [--seed N] [NAME ..]
 
 With --all, and with --prove, the end-to-end tests run on the proved program, which is left at bin/snapd. If every proof
 passed, --prove writes proofs.lock and README's line; with names it proves these programs alone. --edits tries the
-must-fail edits that must-fail.lock lacks, with --all every one, of all crates or of these.
+must-fail edits that must-fail.lock lacks, with --all every one, of all crates or of these. --lay gives `rt check` the
+libraries that this machine has proved: in a fresh checkout it would prove each one below its crate first.
 
 What comes of a part is how much passed, how much failed, and what is said of that. The last line, `N passed, M failed`,
 is the sum of all parts, and the status is 1 where something failed or didn't come to its count.
@@ -18,12 +17,11 @@ import re
 import sys
 from concurrent.futures import ThreadPoolExecutor
 
-import archive
 import kit
 from locks import LOCK, Edits, Record
-from proofs import COUNT, LAST, SECONDS, UNKNOWN, prove
+from proofs import COUNT, LAST, SECONDS, UNKNOWN, lay, prove
 from quick import build_all, place, ran
-from tree import TOP, copied, crates_of, has_tests, parsed, proved_crates, with_below
+from tree import TOP, copied, crates_of, parsed, proved_crates, with_below
 
 # The sample: how many crates, how many of their edits, and the seconds of a processor that the crates' proofs may take.
 SAMPLE = (3, 20, 600)
@@ -33,7 +31,8 @@ BOTH = 16_000_000_000
 PROGRAM = TOP / "out" / "snapd"
 # The programs that end-to-end tests run beside it, and the crates with tests, the highest, which read the most, first.
 BESIDE = [it for it in crates_of(TOP) if it.startswith("try_") and it != "try_bench"]
-TESTED = [it for it in reversed(crates_of(TOP)) if has_tests(TOP / "crates" / it)]
+WITH_TESTS = {it.relative_to(TOP).parts[1] for it in TOP.glob("crates/*/src/**/*.rt") if "#[test]" in it.read_text()}
+TESTED = [it for it in reversed(crates_of(TOP)) if it in WITH_TESTS]
 
 
 def run_tests(script, *words):
@@ -74,7 +73,7 @@ def prove_some(words):
         said += [f"must-fail.lock doesn't have {edits.name(it)} as it is: make edits tries it" for it in new]
         new = []
     with copied(TOP, proved) as copy:
-        lacking = {*(proved if words.fresh else archive.lay(copy))} - owed
+        lacking = {*(proved if words.fresh else lay(copy))} - owed
     # (the program's proof takes all processors)
     names = [it for it in proved if it != "snapd"]
     names, chosen = drawn(names, edits.known(), crates, SECONDS, lacking, words.seed, SAMPLE)
@@ -83,28 +82,25 @@ def prove_some(words):
     return [(0, len(said), said), *prove({*owed, *names}, edits, [*new, *chosen], anew, ["snapd"] * words.all)[1]]
 
 
-def test_all(words):
-    """Builds and runs the tests of crates beside the proofs where memory allows, and then the end-to-end tests."""
-    lanes = 2 if kit.load().free() > BOTH else 1
+def test_all(words, lanes):
+    """Builds and runs the tests of crates, and proves beside that, and then runs the end-to-end tests."""
     with ThreadPoolExecutor(lanes) as pool:
         tests, proofs = pool.submit(build_and_run, 4 // lanes), pool.submit(prove_some, words)
     program = place("snapd") if words.all else PROGRAM
     return [*tests.result(), *proofs.result(), run_tests("run.py", "--program", program)]
 
 
-def prove_all(words):
-    """Proves everything, or these programs alone."""
+def prove_all(words, lanes):
+    """Proves everything, and builds beside that what end-to-end tests run, and runs them; or proves these programs."""
     anew, edits = ["--anew" if words.fresh else "--over"], Edits.of(TOP)
     if words.names:
         return prove(words.names, edits, [], anew, words.names)[1]
-    with ThreadPoolExecutor(1) as pool:
-        # (beside the proofs where memory allows)
-        beside = pool.submit(build_all, BESIDE) if kit.load().free() > BOTH else None
-        seconds, parts = prove(proved_crates(TOP), edits, edits.missing(), anew, ["snapd"])
+    with ThreadPoolExecutor(lanes) as pool:
+        proofs = pool.submit(prove, proved_crates(TOP), edits, edits.missing(), anew, ["snapd"])
+        pool.submit(build_all, BESIDE)
+    seconds, parts = proofs.result()
     if parts[0][1]:
         return parts
-    if not beside:
-        build_all(BESIDE)
     # Every crate is on record as it is now.
     record, readme = Record.of(TOP), TOP / "README.md"
     record.take(seconds)
@@ -117,8 +113,8 @@ def prove_all(words):
 def try_edits(words):
     """Tries edits alone, over what `rt check` proved of their crates in this checkout, or else from nothing."""
     edits = Edits.of(TOP)
-    chosen = [it for it in edits.digests if not words.names or it[0] in words.names]
-    chosen = chosen if words.all else [it for it in edits.missing() if it in chosen]
+    wanted = edits.digests if words.all else edits.missing()
+    chosen = [it for it in wanted if not words.names or it[0] in words.names]
     parts = prove([], edits, chosen, ["--over"])[1] if chosen else []
     print(edits.told())
     return parts
@@ -131,8 +127,15 @@ def main():
     words.add_argument("--all", action="store_true", help="every crate, proved now or by an earlier run; every edit")
     words.add_argument("--fresh", action="store_true", help="take nothing from this machine's archive of proofs")
     words.add_argument("--seed", type=int, default=random.SystemRandom().randrange(10**9), help="of the sample")
+    words.add_argument("--lay", action="store_true", help="lay the libraries that this machine has proved")
     words = parsed(words, "programs that are proved alone, or crates whose edits are tried")
-    parts = prove_all(words) if words.prove else try_edits(words) if words.edits else test_all(words)
+    if words.lay:
+        print("these libraries weren't proved here:", ", ".join(lay(TOP)) or "none")
+        return 0
+    # (side by side where memory allows)
+    lanes = 2 if kit.load().free() > BOTH else 1
+    every = prove_all if words.prove else test_all
+    parts = try_edits(words) if words.edits else every(words, lanes)
     print(*(line for _, failed, lines in parts if failed for line in lines), sep="\n")
     passed, failed = (sum(it[at] for it in parts) for at in (0, 1))
     print(f"{passed} passed, {failed} failed")

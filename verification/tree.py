@@ -11,7 +11,6 @@ from collections import namedtuple
 from source import without_comments
 
 TOP = pathlib.Path(__file__).resolve().parent.parent
-TEST = re.compile(r"^\s*#\[test\]", re.M)
 # A line of crates.txt: the crate's name with the words that belong to it, and what it uses.
 LINE = re.compile(r"^((\w+)[^:#\n]*:([^#\n]*).*)$", re.M)
 Crate = namedtuple("Crate", "line uses")
@@ -49,20 +48,10 @@ def texts_of(folder):
     return [part for it in files for part in (str(it.relative_to(folder)), without_comments(it))]
 
 
-def has_tests(folder):
-    """Whether a crate has tests."""
-    return any(TEST.search(it.read_text()) for it in (folder / "src").rglob("*.rt"))
-
-
 def proved_crates(top):
     """The crates that are proved: the program, all crates that it uses, and the laws. Crates of tests, and programs
     that tests run, are built without proofs and run."""
     return [it for it in crates_of(top) if not it.startswith(("try_", "tests_"))]
-
-
-def edits_of(top, name):
-    """The edits of a crate that the prover has to refuse."""
-    return sorted((top / "crates" / name / "must-fail").glob("*.edit"))
 
 
 @contextlib.contextmanager
