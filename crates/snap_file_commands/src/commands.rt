@@ -66,10 +66,13 @@ pub fn act<D: Disk, R: Read, W: Write>(
         }
         FileOrder::Put { index, count, .. } => put(alloc, disk, index, count, reader, writer),
         FileOrder::Get { index, count, .. } => match Segment::open(alloc, disk, index, count) {
-            Ok(segment) => match write_whole(writer, segment.value()) {
-                Ok(()) => (segment.into_device(), Ok(Status::Done)),
-                Err(error) => (segment.into_device(), Err(CommandFault::Output(error))),
-            },
+            Ok(segment) => {
+                let end = match write_whole(writer, segment.value()) {
+                    Ok(()) => Ok(Status::Done),
+                    Err(error) => Err(CommandFault::Output(error)),
+                };
+                (segment.into_device(), end)
+            }
             Err((why, disk)) => (disk, Err(CommandFault::Refused(why))),
         },
         FileOrder::Check { is_json, .. } => {
@@ -195,11 +198,12 @@ fn check_file<D: Disk, W: Write>(
     ensures any_time { LeavesNoMore D.Disk disk.old disk.new }
 {
     let findings = check(disk)?;
-    let text = if is_json {
-        findings_document(alloc, &findings)?
+    let made = if is_json {
+        findings_document(alloc, &findings)
     } else {
-        findings.to_string(alloc)?.into_bytes()
+        findings.to_string(alloc).map(String::into_bytes)
     };
+    let text = made?;
     let status = if findings.answer.is_some() {
         Status::Done
     } else {

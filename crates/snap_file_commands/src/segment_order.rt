@@ -63,7 +63,7 @@ pub fn order_files(alloc: Global, places: &[SegmentPlace]) -> Result<Vec<usize>,
         let Some(file) = seats[usize::from(index)] else {
             return Err(FolderFault::Missing { index, count });
         };
-        order.push(file).map_err(|_| FolderFault::NoMemory)?;
+        order.push_reserved(file);
     }
     Ok(order)
 }

@@ -55,10 +55,7 @@ fn report_files(rt: &HostRuntime, folder: &str, files: &[String]) -> io::Result<
             );
             tell(rt, folder, &line, true)
         }
-        Err(trouble) => {
-            report_trouble(rt, &trouble)?;
-            Ok(false)
-        }
+        Err(trouble) => report_trouble(rt, &trouble, false),
     }
 }
 
@@ -89,10 +86,7 @@ fn report_file(
                     ..
                 },
             ) => {}
-            Err(trouble) => {
-                report_trouble(rt, &trouble)?;
-                return Ok(FileState::Ill);
-            }
+            Err(trouble) => return report_trouble(rt, &trouble, FileState::Ill),
         }
     }
     let why = "a server or another command has it: ask it, as by snapd call ADDR status";
@@ -140,19 +134,23 @@ fn report_remedy(rt: &HostRuntime, path: &str, reason: &io::Error) -> io::Result
     }
 }
 
-/// Reports what is wrong with a file or the folder.
-fn report_trouble(rt: &HostRuntime, trouble: &FolderReadFault<'_>) -> io::Result<()> {
+/// Reports what is wrong with a file or the folder, and returns the value.
+fn report_trouble<V: Copy>(
+    rt: &HostRuntime,
+    trouble: &FolderReadFault<'_>,
+    value: V,
+) -> io::Result<V> {
     match trouble {
         FolderReadFault::Path { file, fault } => {
             tell(rt, file, fault, ())?;
-            match fault {
-                FileFault::System(reason) => report_remedy(rt, file, reason),
-                _ => Ok(()),
+            if let FileFault::System(reason) = fault {
+                report_remedy(rt, file, reason)?;
             }
         }
-        FolderReadFault::NoMemory(_) => Err(io::Error::from(ErrorKind::OutOfMemory)),
-        why => rt.println(why),
+        FolderReadFault::NoMemory(_) => return Err(io::Error::from(ErrorKind::OutOfMemory)),
+        why => rt.println(why)?,
     }
+    Ok(value)
 }
 
 /// Reports the type of the folder's file system, and whether locks work there. They are tried on a

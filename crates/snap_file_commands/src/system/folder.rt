@@ -100,15 +100,13 @@ pub fn order_of<'f>(
     ensures some { IfOk result (λ paths. 0 < length paths.items) }
     ensures few { IfOk result (λ paths. length paths.items ≤ MAX_COUNT) }
 {
-    let order = match order_files(alloc, places) {
-        Ok(order) => order,
-        Err(fault) => return Err(trouble_of(alloc, folder, files, places, fault)),
-    };
-    let mut paths = Vec::with_capacity(alloc, order.len())?;
-    for at in &order {
-        paths.push(path_at(folder, files, *at))?;
+    match order_files(alloc, places) {
+        Ok(order) => {
+            let paths = order.iter().map(|at| path_at(folder, files, *at));
+            Ok(paths.collect(alloc)?)
+        }
+        Err(fault) => Err(trouble_of(alloc, folder, files, places, fault)),
     }
-    Ok(paths)
 }
 
 /// The place in the header of the file at this path, and the number that a restart would recover, if there is one.

@@ -1,4 +1,5 @@
-use Rattle.std.proofs.{Common.rules, Common.take, Common.ap, Common.◌∙◌, Common.Err, KnownBytes.Keeps-refl}
+use Rattle.std.proofs.{Common.rules, Common.take, Common.ap, Common.◌∙◌, Common.Err, Common.inl, KnownBytes.Keeps-refl}
+use Rattle.snap_disk.specs.Laws.{started, weaker}
 use Rattle.snap_stream.proofs.Known.{had}
 use Rattle.snap_file_commands.proofs.{Refused.put_keeps, Refused.refused_open, Stored.held, Stored.put_leaves}
 use Rattle.snap_file_commands.{proofs.Stored.store_ends_put, specs.declared.fault.CommandFault.TheVariants.Refused}
@@ -17,6 +18,17 @@ returns-in-Err-open-clause-ends g c =
     (device c.in-Err-open.disk) out out (Err (Refused why)) (had _ _ v came.came (came.ended (search rules)))
     (refused_open honest c.args.index c.args.count v (device c.args.disk) (device c.in-Err-open.disk) out out why
     answer.refusals answer.refused (Keeps-refl out))
+
+pub returns-in-Err-clause-any_time : goal.returns-in-Err-clause-any_time
+returns-in-Err-clause-any_time g c = λ honest. started _ _ _ (λ b left. inl (g.met.D.Disk.only_now _ b honest left))
+
+pub returns-then-len-gt-MAX_VALUE_LEN-clause-any_time : goal.returns-then-len-gt-MAX_VALUE_LEN-clause-any_time
+returns-then-len-gt-MAX_VALUE_LEN-clause-any_time g c = λ honest.
+    started _ _ _ (λ b left. inl (g.met.D.Disk.only_now _ b honest left))
+
+pub returns-in-Err-open-clause-any_time : goal.returns-in-Err-open-clause-any_time
+returns-in-Err-open-clause-any_time g c = λ honest.
+    weaker _ _ _ _ _ (c.in-Err-open.ensures.any_time_err honest) (λ b left. inl left)
 
 pub returns-clause-ends : goal.returns-clause-ends
 returns-clause-ends g c =

@@ -1,5 +1,5 @@
 use Rattle.std.proofs.Common.{◌<◌, ◌∙◌, None, Some, ap, arith, get_or, length}
-use Rattle.std.proofs.lemmas.Option.{slice_get-get_or}
+use Rattle.std.proofs.lemmas.{Grind.common_steps, Option.slice_get-get_or}
 use Rattle.snap_json.proofs.Growth.{same_place}
 use Rattle.snap_file_commands.proofs.segment_order.order_files.Goals as goal
 
@@ -13,3 +13,6 @@ returns-clause-within c = λ k d below.
     let inside : k < length seats = omega (arith, early, seating.size, c.loop-index.auto.index-end) in
     let sits = slice_get-get_or seats k None inside ∙ ap Some (inv.2 k early) in
     rw (same_place order k d 0 below) (seating.back k (get_or order k 0) sits).0
+
+pub loop-index-preserved : goal.loop-index-preserved
+loop-index-preserved c = grind (arith, common_steps)
