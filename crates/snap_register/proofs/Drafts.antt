@@ -1,7 +1,6 @@
 -- A seat after it stored words into the free buffer.
 use Rattle.std.proofs.Common.{◌≡◌, ℕ, ◌+◌, ◌-◌, ◌*◌, ◌≤◌, ◌++◌, ◌∷◌, [], List, length, get_or, refl, ap, sym, subst}
-use Rattle.std.proofs.Common.{◌∙◌}
-use Rattle.std.proofs.Common.{arith, length-append, append-nil}
+use Rattle.std.proofs.Common.{◌∙◌, arith, length-append, append-nil}
 use Rattle.snap_history.specs.History.{Start}
 use Rattle.snap_register.specs.Words.{AreBlocks, piece, size_at, block_at}
 use Rattle.snap_register.specs.{declared.access.Access.Access, Registers.Mine, Held.held, Steps.draft_of}
@@ -11,21 +10,25 @@ use Rattle.snap_register.specs.declared.access.draft.DraftEnd.{DraftEnd}
 use Rattle.snap_register.proofs.{Blocks.blocks_push, Blocks.piece_length, Lines.prefix_trans, Aligned.two_more}
 use mathlib.Core.List.{IsPrefix}
 
+-- m with this draft
+abbrev pub drafting : Mine → List ℕ → Mine
+drafting m l = (record m.0 { pool = record m.0.pool { draft = l } }, m.1)
+
 -- nothing changed but the draft
 abbrev pub Drafted : Mine → Mine → Type 0
-Drafted m n = n ≡ (record m.0 { pool = record m.0.pool { draft = n.0.pool.draft } }, m.1)
+Drafted m n = n ≡ drafting m n.0.pool.draft
 
 abbrev pub DraftedBy : Mine → List ℕ → Mine → Type 0
-DraftedBy m l n = n ≡ (record m.0 { pool = record m.0.pool { draft = l } }, m.1)
+DraftedBy m l n = n ≡ drafting m l
 
 pub draft_is : (m n : Mine) (l : List ℕ) → DraftedBy m l n → n.0.pool.draft ≡ l
 draft_is m n l e = ap (λ (x : Mine). x.0.pool.draft) e
 
 pub drafted : (m n : Mine) (l : List ℕ) → DraftedBy m l n → Drafted m n
-drafted m n l e = e ∙ ap (λ (x : Mine). (record m.0 { pool = record m.0.pool { draft = x.0.pool.draft } }, m.1)) (sym e)
+drafted m n l e = e ∙ ap (λ (x : Mine). drafting m x.0.pool.draft) (sym e)
 
 pub drafted_then : (a m n : Mine) (l : List ℕ) → Drafted a m → DraftedBy m l n → DraftedBy a l n
-drafted_then a m n l d e = e ∙ ap (λ (x : Mine). (record x.0 { pool = record x.0.pool { draft = l } }, x.1)) d
+drafted_then a m n l d e = e ∙ ap (λ (x : Mine). drafting x l) d
 
 pub held_drafted : (m n : Mine) (j : ℕ) → Drafted m n → held n.0 j ≡ held m.0 j
 held_drafted m n j d = ap (λ (x : Mine). held x.0 j) d
@@ -48,14 +51,7 @@ headed_then a m n w at x y k head rest first second =
 
 -- nothing is drafted
 pub drafted_none : (a : Access) (w : List ℕ) (at : ℕ) → HasDrafted a a (draft_of a ++ piece w at 0)
-drafted_none a w at = (
-  refl,
-  refl,
-  refl,
-  ap (λ (l : List ℕ).
-      (record a.seat.me.0 { pool = record a.seat.me.0.pool { draft = l } }, a.seat.me.1)) (sym (append-nil (draft_of
-      a))),
-)
+drafted_none a w at = (refl, refl, refl, ap (λ (l : List ℕ). drafting a.seat.me l) (sym (append-nil (draft_of a))))
 
 -- k blocks of an update's view were appended to a draft that ended at place `at`
 pub record HasAppended (a b : Access) (at : ℕ) (to : DraftEnd) (k : ℕ) (f : Start) : Type 0 where

@@ -165,8 +165,9 @@ pub(crate) fn open(
     let buffers = n + scanners + 2;
     let width = (n + 1) * block_words;
     let rest = n * block_words + (n + scanners + 1) * width;
-    let count = n + (n * buffers + n * buffers * width);
-    let words = first_words(alloc, values, n + n * buffers, rest, count)?;
+    let all = n * buffers;
+    let count = n + (all + all * width);
+    let words = first_words(alloc, values, n + all, rest, count)?;
     let setup = Setup {
         scanners,
         looks,

@@ -45,10 +45,9 @@ impl Access {
             self.draft(first + 2 + q, word_of(&value[from..from + 8]));
         }
         self.draft_tail(i, b, value, whole);
-        DraftEnd {
-            at: block_size(value.len()),
-            is_aligned: is_filled && old_length == value.len() as u64,
-        }
+        let is_aligned = is_filled && old_length == value.len() as u64;
+        let at = block_size(value.len());
+        DraftEnd { at, is_aligned }
     }
 
     // Stores the bytes after the value's whole words, if there are any, as one more word.

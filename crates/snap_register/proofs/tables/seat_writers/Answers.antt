@@ -1,7 +1,9 @@
-use Rattle.std.proofs.Common.{rules, ◌≡◌, ℕ, ◌+◌, ap, ◌∙◌, arith, refl}
+use Rattle.std.proofs.Common.{rules, ◌≡◌, ℕ, ◌+◌, ◌<◌, length, ap, sym, ◌∙◌, arith, refl}
+use Rattle.std.proofs.lemmas.List.{get_or-map}
 use Rattle.atomic_table.specs.Seated.{TableId}
 use Rattle.snap_register.proofs.Opens.{enough, bare, first_after, writers_more, new_seat}
-use Rattle.snap_register.specs.{declared.plan.Plan.Plan, Rule.size, Parts.IsNewSeat}
+use Rattle.snap_register.specs.declared.plan.{Opening.Opening, Plan.Plan}
+use Rattle.snap_register.specs.{Parts.IsNewSeat, Rule.segments, Rule.size}
 use Rattle.snap_register.proofs.{Joins.gives, Later.some_words}
 use Rattle.snap_register.proofs.tables.seat_writers.Goals as goal
 
@@ -41,3 +43,19 @@ loop-i-preserved c =
       count = search rules;
       each = rw c.in_ok-push.ensures.items more;
     }
+
+pub of-requires : goal.of-requires
+of-requires c =
+    let inv = c.loop-i.invariant in
+    let i : ℕ = c.loop-i.i in
+    let p : Plan = c.args.first_seat.now.me.0.plan in
+    let all = c.requires.numbers.0 in
+    let next = ap (λ (n : ℕ). n + 1) inv.low in
+    let own : i < segments p = omega (arith, c.requires.sized.0.segments_are) in
+    let value = get_or-map (λ (x : Opening). x.number) c.args.values.now.items i c.index.result.now 0 (omega arith) in
+    let number = ap (λ (x : Opening). x.number) c.index.ensures ∙ (sym value ∙ c.requires.numbers.1 i own) in
+    rw (c.in_ok-access_of.ensures.1 ∙ c.split_seat-seat.ensures.4) (record {
+      role = ((inv.low, next, next, next), rw inv.plan own);
+      number = (rw inv.plan number, inv.first.seen_is);
+      pool = inv.first.pool_is;
+    })

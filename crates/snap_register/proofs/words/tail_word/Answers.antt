@@ -1,6 +1,5 @@
+use Rattle.std.{specs.Prelude.replicate, proofs.lemmas.List.drop-replicate, proofs.lemmas.Slice.drop-put_mid}
 use Rattle.std.proofs.Common.{◌≡◌, ℕ, length, drop, ap, ◌∙◌, arith}
-use Rattle.std.specs.Prelude.{replicate}
-use Rattle.std.proofs.lemmas.{List.drop-replicate, Slice.drop-put_mid}
 use Rattle.snap_register.proofs.words.tail_word.Goals as goal
 
 pub returns-clause-zeros : goal.returns-clause-zeros

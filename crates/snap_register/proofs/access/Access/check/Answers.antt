@@ -1,9 +1,8 @@
 use Rattle.std.proofs.Common.{rules, ◌≡◌, ap, ◌∙◌, get_or}
 use Rattle.atomic_table.specs.Seated.{TableId}
-use Rattle.snap_register.specs.Rule.{next_other}
-use Rattle.snap_register.specs.{Registers.Mine, declared.plan.BufferPool.BufferPool, Setup.IsSeated, Steps.view_of}
-use Rattle.snap_register.specs.{Steps.pool_of}
-use Rattle.snap_register.proofs.{Pools.checks, Later.seated_pool, Later.sized_still}
+use Rattle.snap_register.{specs.declared.plan.BufferPool.BufferPool, proofs.Later.seated_pool, proofs.Later.sized_still}
+use Rattle.snap_register.proofs.Pools.{checks}
+use Rattle.snap_register.specs.{Rule.next_other, Registers.Mine, Setup.IsSeated, Steps.view_of, Steps.pool_of}
 use mathlib.Core.Logic.{dite}
 use native.Mathlib.Decide.{ℕ_discrete}
 use Rattle.snap_register.proofs.access.Access.check.Goals as goal

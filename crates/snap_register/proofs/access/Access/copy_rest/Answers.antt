@@ -1,10 +1,8 @@
 use Rattle.std.proofs.Common.{◌++◌, ◌∙◌, refl, ap}
 use Rattle.atomic_table.specs.Seated.{TableId}
-use Rattle.snap_register.specs.Steps.{view_of, draft_of, Drafts}
-use Rattle.snap_register.specs.{Registers.Mine, Held.held, Words.piece}
-use Rattle.snap_register.proofs.Later.{seated_pool, sized_still}
+use Rattle.snap_register.proofs.{Later.seated_pool, Later.sized_still, access.Access.copy_rest.Goals.After-copy_words}
+use Rattle.snap_register.specs.{Steps.view_of, Steps.draft_of, Steps.Drafts, Registers.Mine, Held.held, Words.piece}
 use Rattle.snap_register.proofs.access.Access.copy_rest.Goals as goal
-use Rattle.snap_register.proofs.access.Access.copy_rest.Goals.{After-copy_words}
 
 copied : (c : After-copy_words) → Drafts c.args.self.now.seat c.copy_words.new.seat
     (draft_of c.args.self.now ++ piece (held (view_of c.args.self.now) c.args.j) c.args.from c.args.count)

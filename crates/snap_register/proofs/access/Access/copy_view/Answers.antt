@@ -1,14 +1,12 @@
 use Rattle.std.proofs.Common.{◌≡◌, ℕ, ◌+◌, ◌-◌, ◌<◌, List, ap, sym, ◌∙◌, arith}
-use Rattle.snap_register.specs.Words.{IsWhole, size_at, block_at, behind}
-use Rattle.snap_register.specs.declared.view.View.TheVariants.{Collected, Borrowed}
-use Rattle.snap_register.specs.{Registers.Mine, Rule.segments, Held.held, Held.taken, Held.CanTake}
-use Rattle.snap_register.specs.{Steps.view_of, Steps.IsOf, declared.plan.SeatView.SeatView}
-use Rattle.snap_register.specs.declared.access.draft.DraftEnd.{DraftEnd}
-use Rattle.snap_register.proofs.{Blocks.behind_more, Views.view_whole, Views.ends_small}
-use Rattle.snap_register.proofs.Aligned.{of_record, of_view}
-use Rattle.snap_register.proofs.Drafts.{held_drafted, block_copied}
-use Rattle.snap_register.proofs.access.Access.copy_view.Goals as goal
+use Rattle.snap_register.{specs.declared.plan.SeatView.SeatView, proofs.Drafts.held_drafted, proofs.Drafts.block_copied}
+use Rattle.snap_register.{specs.Registers.Mine, specs.Rule.segments, proofs.Blocks.behind_more}
+use Rattle.snap_register.proofs.{Views.view_whole, Views.ends_small, Aligned.of_record, Aligned.of_view}
 use Rattle.snap_register.proofs.access.Access.copy_view.Goals.{In-loop-k, In-loop}
+use Rattle.snap_register.specs.{Words.IsWhole, Words.size_at, Words.block_at, Words.behind, Steps.view_of, Steps.IsOf}
+use Rattle.snap_register.specs.{Held.held, Held.taken, Held.CanTake, declared.access.draft.DraftEnd.DraftEnd}
+use Rattle.snap_register.specs.declared.view.View.TheVariants.{Collected, Borrowed}
+use Rattle.snap_register.proofs.access.Access.copy_view.Goals as goal
 
 -- the segment is one of the plan's
 inside : (c : In-loop-k) → c.loop-k.k < segments (view_of c.loop-k.self).plan
@@ -103,8 +101,7 @@ loop-preserved c =
     let k : ℕ = c.loop.counter in
     let j : ℕ = c.in-Borrowed.j in
     let step = c.copy_block-next.ensures in
-    let same : held (view_of m) j ≡ held (view_of a) j =
-    held_drafted a.seat.me m.seat.me j inv.copied.same.3 in
+    let same : held (view_of m) j ≡ held (view_of a) j = held_drafted a.seat.me m.seat.me j inv.copied.same.3 in
     let w : List ℕ = held (view_of a) j in
     let e = (goal.at.loop-preserved c).In-loop in
     let size : c.copy_block-next.result.at - c.loop.to.at ≡ size_at w (behind w (size_at w 0) k) =

@@ -5,8 +5,7 @@ use Rattle.snap_register.{specs.Steps.view_of, proofs.Drafts.HasAppended}
 use Rattle.snap_register.proofs.access.Access.copy_view.Given as goal
 
 abbrev pub invariant-loop-k : goal.invariant-loop-k
-invariant-loop-k l =
-    HasAppended l.initial.self l.self l.fn.end.at l.to l.k (taken (view_of l.initial.self) Collected)
+invariant-loop-k l = HasAppended l.initial.self l.self l.fn.end.at l.to l.k (taken (view_of l.initial.self) Collected)
 
 abbrev pub invariant-loop : goal.invariant-loop
 invariant-loop l = record {

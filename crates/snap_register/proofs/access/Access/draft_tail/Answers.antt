@@ -11,8 +11,7 @@ returns-then-from-value-clause-bytes c =
     let value : List ℕ = c.args.value.now in
     let x : ℕ = c.tail_word.result in
     let tail : List ℕ = drop (8 * c.args.whole) value in
-    let new : draft_of c.draft.new.self ≡ d ++ x ∷ [] =
-    ap (λ (m : Mine). m.0.pool.draft) c.draft.ensures.drafted.3 in
+    let new : draft_of c.draft.new.self ≡ d ++ x ∷ [] = ap (λ (m : Mine). m.0.pool.draft) c.draft.ensures.drafted.3 in
     let slice : List ℕ = take (length value - 8 * c.args.whole) tail in
     let all : slice ≡ tail = take_all (length value - 8 * c.args.whole) tail (omega (
       arith,

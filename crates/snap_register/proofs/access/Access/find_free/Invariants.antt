@@ -1,6 +1,5 @@
 use Rattle.std.proofs.Common.{◌≤◌}
-use Rattle.snap_register.specs.Rule.{seats}
-use Rattle.snap_register.specs.Steps.{view_of, pool_of, IsSameSeat, HasPool}
+use Rattle.snap_register.specs.{Rule.seats, Steps.view_of, Steps.pool_of, Steps.IsSameSeat, Steps.HasPool}
 use Rattle.snap_register.proofs.access.Access.find_free.Given as goal
 
 abbrev pub invariant-loop-k : goal.invariant-loop-k

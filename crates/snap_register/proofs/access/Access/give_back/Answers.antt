@@ -1,9 +1,8 @@
 use Rattle.std.proofs.Common.{rules, ◌-◌, ◌≡◌, ◌<◌, refl, ap, ◌∙◌, arith, get_or, set}
 use Rattle.atomic_table.specs.Seated.{TableId}
-use Rattle.snap_register.specs.{Registers.Mine, Steps.view_of}
-use Rattle.snap_register.proofs.{Keeps.gives_back, Later.seated_bare, Later.sized_still}
+use Rattle.snap_register.{specs.Registers.Mine, specs.Steps.view_of, proofs.Keeps.gives_back}
+use Rattle.snap_register.proofs.{Later.seated_bare, Later.sized_still, access.Access.give_back.Goals.After-fetch_add}
 use Rattle.snap_register.proofs.access.Access.give_back.Goals as goal
-use Rattle.snap_register.proofs.access.Access.give_back.Goals.{After-fetch_add}
 
 pub fetch_add-requires : goal.fetch_add-requires
 fetch_add-requires c =

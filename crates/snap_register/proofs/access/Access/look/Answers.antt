@@ -1,10 +1,9 @@
 use Rattle.std.proofs.Common.{rules, ℕ, ◌<◌, List, ap, arith, get_or}
-use Rattle.snap_register.specs.Held.{HasLookedFrom, Readable}
 use Rattle.snap_register.proofs.Updates.{number_is, grows_is, below_is}
-use Rattle.snap_register.specs.{Registers.Mine, declared.plan.SeatView.SeatView}
+use Rattle.snap_register.proofs.access.Access.look.Goals.{After-hold, After-read}
+use Rattle.snap_register.specs.{Held.HasLookedFrom, Held.Readable, Registers.Mine, declared.plan.SeatView.SeatView}
 use Rattle.snap_register.specs.{History.number, Rule.segments, Rule.Learns, Steps.view_of}
 use Rattle.snap_register.proofs.access.Access.look.Goals as goal
-use Rattle.snap_register.proofs.access.Access.look.Goals.{After-hold, After-read}
 
 in_plan : (c : After-hold) → c.args.j < segments (view_of c.hold.new.self).plan
 in_plan c = rw (ap (λ (u : SeatView). u.plan) c.hold.ensures.view) c.requires.0

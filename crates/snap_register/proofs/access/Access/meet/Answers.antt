@@ -1,14 +1,11 @@
 use Rattle.std.proofs.Common.{rules, ◌≡◌, sym, ap, ◌∙◌, get_or}
-use Rattle.snap_register.specs.Rule.{Learns, with_received}
-use Rattle.snap_register.proofs.Joins.{shares, tells, adopts}
-use Rattle.snap_register.proofs.Keeps.{hears}
-use Rattle.snap_register.proofs.Later.{seated_shown, sized_still, some_words}
-use Rattle.snap_register.specs.{Registers.Mine}
-use Rattle.snap_register.specs.{Steps.view_of, Steps.pool_of}
 use Rattle.atomic_table.specs.Seated.{TableId}
+use Rattle.snap_register.proofs.{Keeps.hears, Later.seated_shown, Later.sized_still, Later.some_words}
+use Rattle.snap_register.proofs.Joins.{shares, tells, adopts}
+use Rattle.snap_register.proofs.access.Access.meet.Goals.{After-split_seat-answer, After-join_seat-2}
+use Rattle.snap_register.specs.{Rule.Learns, Rule.with_received, Registers.Mine, Steps.view_of, Steps.pool_of}
 use mathlib.Core.List.{IsPrefix}
 use Rattle.snap_register.proofs.access.Access.meet.Goals as goal
-use Rattle.snap_register.proofs.access.Access.meet.Goals.{After-split_seat-answer, After-join_seat-2}
 
 pub split_seat-messenger-requires : goal.split_seat-messenger-requires
 split_seat-messenger-requires c =

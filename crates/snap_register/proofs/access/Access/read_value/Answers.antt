@@ -1,10 +1,9 @@
-use Rattle.std.proofs.Common.{rules, ◌≡◌, ℕ, ◌+◌, ◌*◌, ◌/◌, ◌≤◌, List, length, take, ap, sym, ◌∙◌}
-use Rattle.std.proofs.Common.{arith}
+use Rattle.std.proofs.Common.{rules, ◌≡◌, ℕ, ◌+◌, ◌*◌, ◌/◌, ◌≤◌, List, length, take, ap, sym, ◌∙◌, arith}
 use Rattle.std.proofs.lemmas.List.{take-take}
-use Rattle.snap_register.specs.Words.{bytes_at, length_at, words_for}
-use Rattle.snap_register.specs.{Registers.Mine, Held.held, Steps.view_of, Steps.LiesAt}
+use Rattle.snap_register.{specs.Registers.Mine, proofs.access.Access.read_value.Goals.After-read-length}
+use Rattle.snap_register.specs.{Words.bytes_at, Words.length_at, Words.words_for, Steps.view_of, Steps.LiesAt}
+use Rattle.snap_register.specs.Held.{held}
 use Rattle.snap_register.proofs.access.Access.read_value.Goals as goal
-use Rattle.snap_register.proofs.access.Access.read_value.Goals.{After-read-length}
 
 -- the place of the block
 lies : (c : After-read-length) → LiesAt (view_of c.read-length.new.self) c.args.j c.args.at c.place-place.result

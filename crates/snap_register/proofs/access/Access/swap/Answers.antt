@@ -1,9 +1,8 @@
 use Rattle.std.proofs.Common.{rules, ◌*◌, ◌^◌, ◌≡◌, ℕ, refl, ap, ◌∙◌}
 use Rattle.atomic_table.specs.Seated.{TableId}
+use Rattle.snap_register.{specs.Steps.view_of, proofs.Pools.publishes, proofs.Places.word_inside}
 use Rattle.snap_register.proofs.Later.{seated_phase, seated_shown, publishes_later, sized_still}
-use Rattle.snap_register.specs.declared.plan.UpdatePhase.TheVariants.{Shown}
-use Rattle.snap_register.specs.{declared.plan.SeatView.SeatView, Steps.view_of}
-use Rattle.snap_register.proofs.{Pools.publishes, Places.word_inside}
+use Rattle.snap_register.specs.declared.plan.{UpdatePhase.TheVariants.Shown, SeatView.SeatView}
 use Rattle.snap_register.proofs.access.Access.swap.Goals as goal
 
 pub swap-found-requires : goal.swap-found-requires

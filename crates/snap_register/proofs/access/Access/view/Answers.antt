@@ -1,16 +1,14 @@
-use Rattle.std.proofs.Common.{rules, ◌≡◌, ℕ, ◌+◌, ◌<◌, List, Some, length, refl, ap, sym}
-use Rattle.std.proofs.Common.{◌∙◌, arith}
+use Rattle.std.proofs.Common.{rules, ◌≡◌, ℕ, ◌+◌, ◌<◌, List, Some, length, refl, ap, sym, ◌∙◌, arith}
 use Rattle.std.proofs.lemmas.Bool.{MatchBool-at_true, MatchBool-at_false, false_from_ne_true}
 use Rattle.std.proofs.lemmas.Option.{slice_get_read}
-use Rattle.snap_register.specs.Words.{IsWhole, size_at, block_at, behind}
-use Rattle.snap_register.specs.{Registers.Mine, Rule.segments, Held.held, Held.view_in, Steps.view_of}
-use Rattle.snap_register.proofs.{Blocks.behind_more, Views.view_whole, Views.ends_small, Updates.update_found}
-use Rattle.snap_register.proofs.Updates.{view_shown}
 use Rattle.snap_history.proofs.Lists.{get-set_same, get-set_other}
+use Rattle.snap_register.proofs.{Updates.update_found, Updates.view_shown, access.Access.view.Goals.In-loop-k}
+use Rattle.snap_register.proofs.{Blocks.behind_more, Views.view_whole, Views.ends_small}
+use Rattle.snap_register.specs.{Words.IsWhole, Words.size_at, Words.block_at, Words.behind, Held.held, Held.view_in}
+use Rattle.snap_register.specs.{Registers.Mine, Rule.segments, Steps.view_of}
 use mathlib.Core.Logic.{dite}
 use native.Mathlib.Decide.{ℕ_discrete}
 use Rattle.snap_register.proofs.access.Access.view.Goals as goal
-use Rattle.snap_register.proofs.access.Access.view.Goals.{In-loop-k}
 
 words_are : (c : In-loop-k) → held (view_of c.loop-k.self) c.args.j ≡ held (view_of c.args.self.now) c.args.j
 words_are c = search rules
@@ -45,8 +43,7 @@ loop-k-preserved c =
     let a = c.size_at-at.new.self.seat.me in
     let k : ℕ = c.loop-k.k in
     let w : List ℕ = held a.0 c.args.j in
-    let words : held (view_of c.loop-k.self) c.args.j ≡ w =
-    ap (λ (m : Mine). held m.0 c.args.j) inv.same.2 in
+    let words : held (view_of c.loop-k.self) c.args.j ≡ w = ap (λ (m : Mine). held m.0 c.args.j) inv.same.2 in
     let here : block_at (held (view_of c.loop-k.self) c.args.j) c.loop-k.at ≡ view_in w k =
     λ t. block_at (words t) (inv.at t) in
     let size : c.read_named-at.result ≡ size_at w (behind w (size_at w 0) k) =

@@ -1,11 +1,9 @@
-use Rattle.std.proofs.Common.{◌≡◌, ℕ, ◌+◌, ◌≤◌, ◌++◌, ◌∷◌, [], List, length, get_or, refl, ap, sym, ◌∙◌}
-use Rattle.std.proofs.Common.{arith, append_assoc}
-use Rattle.snap_register.specs.Steps.{LiesAt, IsNext}
-use Rattle.snap_register.specs.{Registers.Mine, Held.held, Words.piece}
-use Rattle.snap_register.proofs.{Blocks.piece_more, Blocks.piece_length, Drafts.DraftedBy, Spots.lies_more}
-use Rattle.snap_register.proofs.Spots.{next_more}
+use Rattle.std.proofs.Common.{◌≡◌, ℕ, ◌+◌, ◌≤◌, ◌++◌, ◌∷◌, [], List, length, get_or, refl, ap, sym, ◌∙◌, arith}
+use Rattle.std.proofs.Common.{append_assoc}
+use Rattle.snap_register.{specs.Steps.LiesAt, specs.Steps.IsNext, proofs.Spots.lies_more, proofs.Spots.next_more}
+use Rattle.snap_register.{specs.Registers.Mine, specs.Held.held, specs.Words.piece, proofs.Drafts.DraftedBy}
+use Rattle.snap_register.proofs.{Blocks.piece_more, Blocks.piece_length, access.draft.copy_words.Goals.In-loop-q}
 use Rattle.snap_register.proofs.access.draft.copy_words.Goals as goal
-use Rattle.snap_register.proofs.access.draft.copy_words.Goals.{In-loop-q}
 
 -- the place of the next word
 lies : (c : In-loop-q) (j from : ℕ) → LiesAt c.args.seat.now.me.0 j from c.args.source
@@ -25,11 +23,7 @@ load_word-word-requires c =
     record {
       own = (c.loop-q.invariant.copied w.0 w.1 w.2 w.3).0 ∙ c.requires.own;
       seated = c.loop-q.invariant.seated;
-      place = (
-        w.0,
-        w.1 + c.loop-q.q,
-        lies (goal.at.load_word-word-requires c).In-loop-q w.0 w.1 w.2 w.3,
-      );
+      place = (w.0, w.1 + c.loop-q.q, lies (goal.at.load_word-word-requires c).In-loop-q w.0 w.1 w.2 w.3);
     }
 
 pub draft_word-requires : goal.draft_word-requires
@@ -87,6 +81,4 @@ returns c =
     let end = c.loop-q.auto.q-end in
     let over = c.loop-q-test.false in
     let all : c.loop-q.q ≡ c.args.count = omega arith in
-    record {
-      copied = λ j from first inside. rw (← all) (c.loop-q.invariant.copied j from first inside);
-    }
+    record { copied = λ j from first inside. rw (← all) (c.loop-q.invariant.copied j from first inside) }

@@ -1,6 +1,5 @@
 use Rattle.std.proofs.Common.{ℕ, ◌+◌, ◌≤◌, ◌++◌, length}
-use Rattle.snap_register.specs.{Held.held, Words.piece}
-use Rattle.snap_register.specs.Steps.{LiesAt, HasSeat, Drafts}
+use Rattle.snap_register.specs.{Held.held, Words.piece, Steps.LiesAt, Steps.HasSeat, Steps.Drafts}
 use Rattle.snap_register.proofs.access.draft.copy_words.Given as goal
 
 abbrev pub invariant-loop-q : goal.invariant-loop-q

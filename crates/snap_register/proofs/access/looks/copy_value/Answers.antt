@@ -1,9 +1,8 @@
-use Rattle.std.proofs.Common.{rules, ◌≡◌, ℕ, ◌+◌, ◌-◌, ◌≤◌, ◌*◌, ◌++◌, List, length, get_or, ap, sym, ◌∙◌, arith}
 use Rattle.std.{specs.Int.w64, specs.Int.to_le_bytes, proofs.lemmas.Slice.take-put_mid}
+use Rattle.std.proofs.Common.{rules, ◌≡◌, ℕ, ◌+◌, ◌-◌, ◌≤◌, ◌*◌, ◌++◌, List, length, get_or, ap, sym, ◌∙◌, arith}
+use Rattle.snap_register.proofs.{Blocks.bytes_more, Spots.lies_more, access.looks.copy_value.Goals.In-loop-q}
 use Rattle.snap_register.specs.{Registers.Mine, Held.held, Steps.LiesAt}
-use Rattle.snap_register.proofs.{Blocks.bytes_more, Spots.lies_more}
 use Rattle.snap_register.proofs.access.looks.copy_value.Goals as goal
-use Rattle.snap_register.proofs.access.looks.copy_value.Goals.{In-loop-q}
 
 -- the place of the value's next word
 lies : (c : In-loop-q) (j at : ℕ) → LiesAt c.args.seat.now.me.0 j at c.args.place
@@ -35,8 +34,7 @@ pub loop-q-preserved : goal.loop-q-preserved
 loop-q-preserved c =
     let a = c.args.seat.now.me in
     let q : ℕ = c.loop-q.q in
-    let long : length c.copy_from_slice.new.self ≡ 8 =
-    omega (arith, c.copy_from_slice.ensures.len) in
+    let long : length c.copy_from_slice.new.self ≡ 8 = omega (arith, c.copy_from_slice.ensures.len) in
     let same = c.load_word-word.ensures.same in
     let inv = c.loop-q.invariant in
     record {

@@ -1,12 +1,10 @@
-use Rattle.std.proofs.Common.{rules, ◌≡◌, ℕ, List, [], ◌∷◌, ◌++◌, length, map, take, slice_get, Some, refl}
-use Rattle.std.proofs.Common.{arith}
+use Rattle.std.proofs.Common.{rules, ◌≡◌, ℕ, List, [], ◌∷◌, ◌++◌, length, map, take, slice_get, Some, refl, arith}
 use Rattle.std.proofs.lemmas.{Option.slice_get_read, Result.IfOk-weaker}
 use Rattle.snap_history.specs.Pairs.{Pairs}
-use Rattle.snap_register.proofs.Pairs.{Pairs-push, map_next}
+use Rattle.snap_register.{specs.declared.plan.Opening.Opening, proofs.registers.Registers.open.Goals.After-loop-start}
+use Rattle.snap_register.{proofs.Pairs.Pairs-push, proofs.Pairs.map_next, specs.Parts.IsPacked, specs.Setup.plan_with}
 use Rattle.snap_register.proofs.Packed.{ready_is, opening_is, packed_all, packed_length}
-use Rattle.snap_register.specs.{declared.plan.Opening.Opening, Parts.IsPacked, Setup.plan_with}
 use Rattle.snap_register.proofs.registers.Registers.open.Goals as goal
-use Rattle.snap_register.proofs.registers.Registers.open.Goals.{After-loop-start}
 
 pub loop-start-preserved : goal.loop-start-preserved
 loop-start-preserved c =
@@ -14,8 +12,7 @@ loop-start-preserved c =
     let k : ℕ = c.loop-start.start-index in
     let x = c.start-item.result in
     let o : Opening = c.in_ok-opening_of.field-0 in
-    let e : slice_get vs k ≡ Some x =
-    slice_get_read vs (length vs) k x refl c.loop-start-test.true c.start-item.is in
+    let e : slice_get vs k ≡ Some x = slice_get_read vs (length vs) k x refl c.loop-start-test.true c.start-item.is in
     let packed : IsPacked (x.0, x.1.items) o = record {
       number_is = search rules;
       low = c.requires.numbers k x e;

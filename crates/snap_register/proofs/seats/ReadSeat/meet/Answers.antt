@@ -1,7 +1,6 @@
 use Rattle.std.proofs.Common.{◌≡◌, ap, sym, ◌∙◌, arith}
-use Rattle.snap_register.specs.{Registers.Mine, declared.plan.SeatView.SeatView}
-use Rattle.snap_register.specs.{Seat.Known, Steps.view_of}
-use Rattle.snap_register.proofs.Updates.{meets_is, below_is}
+use Rattle.snap_register.{specs.declared.plan.SeatView.SeatView, proofs.Updates.meets_is, proofs.Updates.below_is}
+use Rattle.snap_register.specs.{Registers.Mine, Seat.Known, Steps.view_of}
 use Rattle.snap_register.proofs.seats.ReadSeat.meet.Goals as goal
 
 pub returns-clause-scanner : goal.returns-clause-scanner

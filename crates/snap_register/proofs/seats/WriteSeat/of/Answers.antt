@@ -1,8 +1,7 @@
 use Rattle.std.proofs.Common.{ℕ, ap, sym, ◌∙◌, arith, length, get_or, List}
 use Rattle.std.proofs.lemmas.List.{length-replicate, get_or-replicate}
-use Rattle.snap_register.{specs.declared.plan.BufferPool.BufferPool, specs.declared.plan.Entry.Entry}
-use Rattle.snap_register.{specs.History.count}
 use Rattle.snap_register.{specs.Rule.buffers, specs.Steps.view_of, proofs.Views.few_buffers}
+use Rattle.snap_register.specs.{declared.plan.BufferPool.BufferPool, declared.plan.Entry.Entry, History.count}
 use Rattle.snap_register.proofs.seats.WriteSeat.of.Goals as goal
 
 pub invariant_of-result : goal.invariant_of-result

@@ -1,19 +1,16 @@
+use Rattle.std.proofs.{Common.get_or-set_same, Common.get_or-set_other, lemmas.List.length-set}
 use Rattle.std.proofs.Common.{rules, ◌≡◌, ℕ, ◌+◌, ◌^◌, ◌<◌, List, length, get_or, refl, ap, sym, subst, ◌∙◌, arith}
-use Rattle.std.proofs.Common.{get_or-set_same, get_or-set_other}
-use Rattle.std.proofs.lemmas.List.{length-set}
-use Rattle.snap_register.specs.declared.view.View.{View, TheVariants.Collected, TheVariants.Borrowed}
-use Rattle.snap_register.specs.declared.plan.{Plan.Plan, BufferPool.BufferPool, SeatView.SeatView}
-use Rattle.snap_register.specs.declared.plan.UpdatePhase.TheVariants.{Shown}
-use Rattle.snap_register.specs.History.{entry, count, number, start_at}
-use Rattle.snap_register.specs.Rule.{buffers, segments, IsLegal, Follows, moved_pool}
-use Rattle.snap_register.specs.Seat.{Known, number_in, own_of}
-use Rattle.snap_register.specs.Steps.{view_of, known_of, pool_of, draft_of}
-use Rattle.snap_register.specs.{Held.CanTake, Held.IsShown, Held.taken, Words.AreBlocks}
-use Rattle.snap_register.specs.{declared.access.Access.Access}
+use Rattle.snap_register.{specs.Held.CanTake, specs.Held.IsShown, specs.Held.taken, proofs.Later.publishes_count}
+use Rattle.snap_register.proofs.Blocks.{block_stays}
 use Rattle.snap_register.proofs.Updates.{can_take, may_take, shown_is, below_is, number_is, follows_is}
-use Rattle.snap_register.proofs.{Blocks.block_stays, Later.publishes_count}
-use Rattle.snap_register.proofs.seats.WriteSeat.publish.Goals as goal
 use Rattle.snap_register.proofs.seats.WriteSeat.publish.Goals.{After-copy_view, After-swap}
+use Rattle.snap_register.specs.{declared.plan.Plan.Plan, Steps.view_of, Steps.known_of, Steps.pool_of, Steps.draft_of}
+use Rattle.snap_register.specs.{declared.view.View.View, History.entry, History.count, History.number, History.start_at}
+use Rattle.snap_register.specs.{Seat.Known, Seat.number_in, Seat.own_of, Words.AreBlocks, declared.access.Access.Access}
+use Rattle.snap_register.specs.Rule.{buffers, segments, IsLegal, Follows, moved_pool}
+use Rattle.snap_register.specs.declared.plan.{BufferPool.BufferPool, SeatView.SeatView, UpdatePhase.TheVariants.Shown}
+use Rattle.snap_register.specs.declared.view.View.TheVariants.{Collected, Borrowed}
+use Rattle.snap_register.proofs.seats.WriteSeat.publish.Goals as goal
 
 -- the next number is valid
 next_small : (a : Access) (i k : ℕ) (x : Known) → known_of a ≡ x → number_in x x.seen (own_of x) + 1 < 2 ^ 63
@@ -60,8 +57,7 @@ may_follow c legal =
     let may = rw (← c.self.view_is) at c.requires.view in
     let v : SeatView = view_of c.self.inside.access in
     let size = c.draft_value-end.ensures.size in
-    let plan : (view_of c.draft_value-end.new.self).plan ≡ v.plan =
-    ap (λ (u : SeatView). u.plan) (second_is c) in
+    let plan : (view_of c.draft_value-end.new.self).plan ≡ v.plan = ap (λ (u : SeatView). u.plan) (second_is c) in
     let took : taken (view_of c.draft_value-end.new.self) c.args.view.now
     ≡ taken v c.args.view.now = ap (λ (u : SeatView). taken u c.args.view.now) (second_is c)
     ∙ taken_pool v (pool_of c.draft_value-end.new.self) c.args.view.now in
