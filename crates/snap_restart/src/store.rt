@@ -157,8 +157,7 @@ fn take_memory<D: Disk + Drop>(
     ensures scanners { IfOk result (λ r. (r.2.items ≡ []) × (scanners ≤ vec_capacity r.2)) }
     ensures report { IfOk result (λ r. r.3.segments.items ≡ map recovered segments.now.items) }
 {
-    let values = values_of(alloc, segments)?;
-    let parts = Registers::open(alloc, &values, scanners, LOOKS)?;
+    let parts = Registers::open(alloc, &values_of(alloc, segments)?, scanners, LOOKS)?;
     let places = Vec::with_capacity(alloc, segments.len())?;
     let scanners = Vec::with_capacity(alloc, scanners)?;
     Ok((parts, places, scanners, report_of(alloc, segments)?))
