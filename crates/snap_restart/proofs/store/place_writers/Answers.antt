@@ -18,7 +18,8 @@ new-requires g c =
     }
 
 pub returns-clause-segments : goal.returns-clause-segments
-returns-clause-segments g c = grind (arith, all_yielded)
+returns-clause-segments g c = let inv = c.writers.invariant in
+    all_yielded _ _ _ inv.segments inv.segments_long c.in-None.ensures.steps.0
 
 pub returns-clause-seats : goal.returns-clause-seats
 returns-clause-seats g c =
