@@ -2,11 +2,9 @@
 //!
 //! No clause states this text: tests_server and tests/test_http.py compare it byte by byte.
 
-use crate::document::{begin_list, put_number, put_text};
+use crate::document::Document;
 use crate::facts::{ServerFacts, name_of};
 use crate::metrics::{all, bound, kinds, refusal_at};
-use json::Writer;
-use snap_json::line_of;
 use snap_metrics::{BOUNDS, HistogramSnapshot, RequestCounts, SegmentSnapshot};
 use std::alloc::{AllocError, Global};
 
@@ -15,100 +13,97 @@ use std::alloc::{AllocError, Global};
 /// A histogram has, for each bound, the number of times up to it and above the bound before; last,
 /// the number of times above all bounds.
 pub(crate) fn figures_document(alloc: Global, facts: &ServerFacts) -> Result<Vec<u8>, AllocError> {
-    let mut writer = Writer::new(Vec::new(alloc));
-    writer.begin_object()?;
-    put_server(&mut writer, facts)?;
-    put_requests(&mut writer, &facts.reading.requests)?;
-    begin_list(&mut writer, "bounds_microseconds")?;
+    let mut document = Document::new(alloc);
+    document.begin_object();
+    put_server(&mut document, facts);
+    put_requests(&mut document, &facts.reading.requests);
+    document.begin_list("bounds_microseconds");
     for place in 0..BOUNDS {
-        writer.u64(bound(place))?;
+        document.number(bound(place));
     }
-    writer.end_array()?;
-    begin_list(&mut writer, "segments")?;
+    document.end_list();
+    document.begin_list("segments");
     for (index, segment) in facts.reading.segments.iter().enumerate() {
-        put_segment(&mut writer, facts, index, segment)?;
+        put_segment(&mut document, facts, index, segment);
     }
-    writer.end_array()?;
-    writer.end_object()?;
-    line_of(writer)
+    document.end_list();
+    document.end_object();
+    document.line()
 }
 
-fn put_server(writer: &mut Writer, facts: &ServerFacts) -> Result<(), AllocError> {
-    put_text(writer, "version", Some(facts.version))?;
-    put_number(writer, "uptime_milliseconds", facts.uptime)?;
-    put_number(writer, "now_milliseconds", facts.time)?;
-    put_number(writer, "resident_bytes", facts.resident)?;
-    begin_list(writer, "addresses")?;
+fn put_server(document: &mut Document, facts: &ServerFacts) {
+    document.put_text("version", Some(facts.version));
+    document.put_number("uptime_milliseconds", facts.uptime);
+    document.put_number("now_milliseconds", facts.time);
+    document.put_number("resident_bytes", facts.resident);
+    document.begin_list("addresses");
     for address in facts.addresses {
-        writer.string(address.as_str())?;
+        document.text(address.as_str());
     }
-    writer.end_array()?;
+    document.end_list();
     let reading = &facts.reading;
-    let connections = [("total", reading.accepted), ("open", reading.open)];
-    put_object(writer, "connections", &connections)
+    document.key("connections");
+    document.begin_object();
+    document.put_number("total", Some(reading.accepted));
+    document.put_number("open", Some(reading.open));
+    document.end_object();
 }
 
-fn put_requests(writer: &mut Writer, counts: &RequestCounts) -> Result<(), AllocError> {
-    put_object(writer, "requests", &kinds(counts))?;
-    put_number(writer, "scan_looks", Some(counts.looks))?;
-    put_number(writer, "received_bytes", Some(counts.bytes_in))?;
-    put_number(writer, "sent_bytes", Some(counts.bytes_out))?;
-    begin_list(writer, "refusals")?;
+fn put_requests(document: &mut Document, counts: &RequestCounts) {
+    document.key("requests");
+    document.begin_object();
+    for (kind, count) in kinds(counts) {
+        document.put_number(kind, Some(count));
+    }
+    document.end_object();
+    document.put_number("scan_looks", Some(counts.looks));
+    document.put_number("received_bytes", Some(counts.bytes_in));
+    document.put_number("sent_bytes", Some(counts.bytes_out));
+    document.begin_list("refusals");
     for (place, count) in counts.refusals.iter().enumerate() {
         if let Some(why) = refusal_at(place) {
-            writer.begin_object()?;
-            put_number(writer, "number", Some(u64::from(why.code())))?;
-            put_text(writer, "name", Some(why.name()))?;
-            put_number(writer, "count", Some(*count))?;
-            writer.end_object()?;
+            document.begin_object();
+            document.put_number("number", Some(u64::from(why.code())));
+            document.put_text("name", Some(why.name()));
+            document.put_number("count", Some(*count));
+            document.end_object();
         }
     }
-    writer.end_array()
+    document.end_list();
 }
 
 fn put_segment(
-    writer: &mut Writer,
+    document: &mut Document,
     facts: &ServerFacts,
     index: usize,
     segment: &SegmentSnapshot,
-) -> Result<(), AllocError> {
+) {
     let file = facts.files.get(index).copied();
-    writer.begin_object()?;
-    put_number(writer, "segment", Some(index as u64))?;
-    put_text(writer, "file", file)?;
-    put_text(writer, "name", file.and_then(name_of))?;
+    document.begin_object();
+    document.put_number("segment", Some(index as u64));
+    document.put_text("file", file);
+    document.put_text("name", file.and_then(name_of));
     if let Some(status) = facts.statuses.get(index) {
-        put_number(writer, "number", Some(status.number))?;
-        writer.key("fenced")?;
-        writer.boolean(status.is_fenced)?;
+        document.put_number("number", Some(status.number));
+        document.put_boolean("fenced", status.is_fenced);
     }
-    put_number(writer, "updates", Some(all(&segment.stores)))?;
-    put_number(writer, "repeats", Some(segment.repeats))?;
-    put_number(writer, "age_milliseconds", facts.age(segment))?;
-    put_times(writer, "store", &segment.stores)?;
-    put_times(writer, "value_wait", &segment.first_waits)?;
-    put_times(writer, "gate_wait", &segment.second_waits)?;
-    writer.end_object()
+    document.put_number("updates", Some(all(&segment.stores)));
+    document.put_number("repeats", Some(segment.repeats));
+    document.put_number("age_milliseconds", facts.age(segment));
+    put_times(document, "store", &segment.stores);
+    put_times(document, "value_wait", &segment.first_waits);
+    put_times(document, "gate_wait", &segment.second_waits);
+    document.end_object();
 }
 
-fn put_times(writer: &mut Writer, name: &str, times: &HistogramSnapshot) -> Result<(), AllocError> {
-    writer.key(name)?;
-    writer.begin_object()?;
-    begin_list(writer, "counts")?;
+fn put_times(document: &mut Document, name: &str, times: &HistogramSnapshot) {
+    document.key(name);
+    document.begin_object();
+    document.begin_list("counts");
     for count in &times.counts {
-        writer.u64(*count)?;
+        document.number(*count);
     }
-    writer.end_array()?;
-    put_number(writer, "total_nanoseconds", Some(times.total))?;
-    writer.end_object()
-}
-
-/// Writes an object of numbers as a member.
-fn put_object(writer: &mut Writer, name: &str, counts: &[(&str, u64)]) -> Result<(), AllocError> {
-    writer.key(name)?;
-    writer.begin_object()?;
-    for (name, count) in counts {
-        put_number(writer, *name, Some(*count))?;
-    }
-    writer.end_object()
+    document.end_list();
+    document.put_number("total_nanoseconds", Some(times.total));
+    document.end_object();
 }

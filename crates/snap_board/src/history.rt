@@ -1,8 +1,6 @@
 //! The history of the last three minutes.
 
-use crate::document::{begin_list, put_number};
-use json::Writer;
-use snap_json::line_of;
+use crate::document::Document;
 use snap_metrics::{BOUNDS, Counter, MetricsSnapshot, milliseconds_of};
 use std::alloc::{AllocError, Global};
 use std::time::Duration;
@@ -62,26 +60,29 @@ impl History {
 
     /// Makes a JSON document of the samples, on one line, the oldest first.
     pub fn document(&self, alloc: Global) -> Result<Vec<u8>, AllocError> {
-        let mut writer = Writer::new(Vec::new(alloc));
-        writer.begin_object()?;
-        begin_list(&mut writer, "samples")?;
+        let mut document = Document::new(alloc);
+        document.begin_object();
+        document.begin_list("samples");
         let taken = self.taken.get();
         for number in taken.saturating_sub(SAMPLES)..taken {
             if let Some(sample) = self.samples.get((number % SAMPLES) as usize) {
-                writer.begin_object()?;
-                let uptime = sample.uptime.get();
-                put_number(&mut writer, "uptime_milliseconds", Some(uptime))?;
-                put_number(&mut writer, "scans", Some(sample.scans.get()))?;
-                begin_list(&mut writer, "store_counts")?;
-                for count in &sample.stores {
-                    writer.u64(count.get())?;
-                }
-                writer.end_array()?;
-                writer.end_object()?;
+                put_sample(&mut document, sample);
             }
         }
-        writer.end_array()?;
-        writer.end_object()?;
-        line_of(writer)
+        document.end_list();
+        document.end_object();
+        document.line()
     }
+}
+
+fn put_sample(document: &mut Document, sample: &Sample) {
+    document.begin_object();
+    document.put_number("uptime_milliseconds", Some(sample.uptime.get()));
+    document.put_number("scans", Some(sample.scans.get()));
+    document.begin_list("store_counts");
+    for count in &sample.stores {
+        document.number(count.get());
+    }
+    document.end_list();
+    document.end_object();
 }

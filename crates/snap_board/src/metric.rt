@@ -1,7 +1,7 @@
 //! The metrics for Prometheus, and the lines of one in its text format.
 
-use std::alloc::AllocError;
-use std::fmt;
+use std::alloc::{AllocError, Global};
+use std::fmt::{self, Display};
 
 /// Each metric: its name, its kind and a line of help.
 const METRICS: &str = "\
@@ -35,17 +35,52 @@ process_max_fds gauge Descriptors that may be open.
 snapd_segment_info gauge The name of the segment, which is its file's, always 1.
 ";
 
-/// Appends the head of a metric: the two lines before its samples.
-pub(crate) fn put_head(out: &mut String, name: &str) -> Result<(), AllocError> {
-    for metric in METRICS.lines() {
-        if let Some((own, words)) = metric.split_once(' ') {
-            if own == name {
-                let (kind, help) = words.split_once(' ').unwrap_or(("", ""));
-                return write!(out, "# HELP {name} {help}\n# TYPE {name} {kind}\n");
+/// A text of metrics. If memory for a line runs out, there is no text in the end.
+#[derive(Drop)]
+pub(crate) struct MetricsText {
+    text: String,
+    /// Whether memory was enough so far.
+    is_whole: bool,
+}
+
+impl MetricsText {
+    pub(crate) fn new(alloc: Global) -> MetricsText {
+        MetricsText {
+            text: String::new(alloc),
+            is_whole: true,
+        }
+    }
+
+    /// Appends a line.
+    pub(crate) fn put<T: Display>(&mut self, line: &T) {
+        self.is_whole &= writeln!(self.text, "{line}").is_ok();
+    }
+
+    /// Appends the head of a metric: the two lines before its samples.
+    pub(crate) fn put_head(&mut self, name: &str) {
+        for metric in METRICS.lines() {
+            if let Some((own, words)) = metric.split_once(' ') {
+                if own == name {
+                    let (kind, help) = words.split_once(' ').unwrap_or(("", ""));
+                    return self.put(&format_args!("# HELP {name} {help}\n# TYPE {name} {kind}"));
+                }
             }
         }
     }
-    Ok(())
+
+    /// Appends a number of the whole server that is known, with its head.
+    pub(crate) fn put_single(&mut self, name: &str, count: Option<u64>, unit: Unit) {
+        if let Some(count) = count {
+            self.put_head(name);
+            self.put(&format_args!("{name} {}", Amount(count, unit)));
+        }
+    }
+
+    /// The text. The error is that memory ran out.
+    pub(crate) fn whole(self) -> Result<String, AllocError> {
+        let MetricsText { text, is_whole } = self;
+        if is_whole { Ok(text) } else { Err(AllocError) }
+    }
 }
 
 /// The unit of a number: one, or a fraction of a second.
@@ -76,20 +111,6 @@ impl fmt::Display for Amount {
     }
 }
 
-/// A number by its metric's name, if it is known, and its unit.
-pub(crate) type Single = (&'static str, Option<u64>, Unit);
-
-/// Appends each of these numbers of the whole server that is known, with its head.
-pub(crate) fn put_singles(out: &mut String, singles: &[Single]) -> Result<(), AllocError> {
-    for (name, count, unit) in singles {
-        if let Some(count) = *count {
-            put_head(out, *name)?;
-            writeln!(out, "{name} {}", Amount(count, *unit))?;
-        }
-    }
-    Ok(())
-}
-
 /// A text as it is written in a label: with a backslash before each backslash and quote, and with `\n` for a line feed.
 #[derive(Clone, Copy)]
 pub(crate) struct Escaped<'a>(pub &'a str);
@@ -98,11 +119,10 @@ impl fmt::Display for Escaped<'_> {
     fn fmt<W: fmt::Write>(&self, f: &mut fmt::Formatter<W>) -> fmt::Result {
         for c in self.0.chars() {
             match c {
-                '\\' => write!(f, "\\\\")?,
-                '"' => write!(f, "\\\"")?,
-                '\n' => write!(f, "\\n")?,
-                _ => write!(f, "{c}")?,
-            }
+                '\n' => write!(f, "\\n"),
+                '\\' | '"' => write!(f, "\\{c}"),
+                _ => write!(f, "{c}"),
+            }?;
         }
         Ok(())
     }

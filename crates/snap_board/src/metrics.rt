@@ -6,7 +6,7 @@ ghost use Rattle.snap_metrics.specs.declared.snapshot.TheConstants.{BOUNDS};
 
 use crate::facts::{ServerFacts, Usage, name_of};
 use crate::metric::Unit::{Microsecond, Millisecond, Nanosecond, Whole};
-use crate::metric::{Amount, Escaped, put_head, put_singles};
+use crate::metric::{Amount, Escaped, MetricsText};
 use snap_disk::Refusal;
 use snap_metrics::{BOUNDS, FIRST_BOUND, HistogramSnapshot, RequestCounts, SegmentSnapshot};
 use std::alloc::{AllocError, Global};
@@ -18,54 +18,43 @@ pub(crate) fn metrics_text(
     facts: &ServerFacts,
     usage: &Usage,
 ) -> Result<String, AllocError> {
-    let mut out = String::new(alloc);
+    let mut out = MetricsText::new(alloc);
     let reading = &facts.reading;
-    put_version(&mut out, "snapd_info", facts.version)?;
-    put_singles(
-        &mut out,
-        &[
-            ("snapd_uptime_seconds", facts.uptime, Millisecond),
-            ("snapd_resident_memory_bytes", facts.resident, Whole),
-            ("snapd_connections_total", Some(reading.accepted), Whole),
-            ("snapd_connections_open", Some(reading.open), Whole),
-        ],
-    )?;
-    put_requests(&mut out, &reading.requests)?;
-    put_segments(&mut out, facts)?;
-    put_process(&mut out, facts, usage)?;
-    put_names(&mut out, facts.files)?;
-    Ok(out)
+    put_version(&mut out, "snapd_info", facts.version);
+    out.put_single("snapd_uptime_seconds", facts.uptime, Millisecond);
+    out.put_single("snapd_resident_memory_bytes", facts.resident, Whole);
+    out.put_single("snapd_connections_total", Some(reading.accepted), Whole);
+    out.put_single("snapd_connections_open", Some(reading.open), Whole);
+    put_requests(&mut out, &reading.requests);
+    put_segments(&mut out, facts);
+    put_process(&mut out, facts, usage);
+    put_names(&mut out, facts.files);
+    out.whole()
 }
 
-fn put_version(out: &mut String, name: &str, version: &str) -> Result<(), AllocError> {
-    put_head(out, name)?;
-    writeln!(out, "{name}{{version=\"{}\"}} 1", Escaped(version))
+fn put_version(out: &mut MetricsText, name: &str, version: &str) {
+    out.put_head(name);
+    out.put(&format_args!("{name}{{version=\"{}\"}} 1", Escaped(version)));
 }
 
 /// Appends the counts of requests; of refusals also those that are 0.
-fn put_requests(out: &mut String, counts: &RequestCounts) -> Result<(), AllocError> {
-    put_head(out, "snapd_requests_total")?;
+fn put_requests(out: &mut MetricsText, counts: &RequestCounts) {
+    out.put_head("snapd_requests_total");
     for (kind, count) in kinds(counts) {
-        writeln!(out, "snapd_requests_total{{kind=\"{kind}\"}} {count}")?;
+        out.put(&format_args!("snapd_requests_total{{kind=\"{kind}\"}} {count}"));
     }
-    put_head(out, "snapd_refusals_total")?;
+    out.put_head("snapd_refusals_total");
     for (place, count) in counts.refusals.iter().enumerate() {
         if let Some(why) = refusal_at(place) {
             let (number, name) = (why.code(), why.name());
-            writeln!(
-                out,
+            out.put(&format_args!(
                 "snapd_refusals_total{{number=\"{number}\",name=\"{name}\"}} {count}"
-            )?;
+            ));
         }
     }
-    put_singles(
-        out,
-        &[
-            ("snapd_scan_looks_total", Some(counts.looks), Whole),
-            ("snapd_received_bytes_total", Some(counts.bytes_in), Whole),
-            ("snapd_sent_bytes_total", Some(counts.bytes_out), Whole),
-        ],
-    )
+    out.put_single("snapd_scan_looks_total", Some(counts.looks), Whole);
+    out.put_single("snapd_received_bytes_total", Some(counts.bytes_in), Whole);
+    out.put_single("snapd_sent_bytes_total", Some(counts.bytes_out), Whole);
 }
 
 /// The number of requests of each kind.
@@ -84,27 +73,26 @@ pub(crate) fn refusal_at(place: usize) -> Option<Refusal> {
     Refusal::of_code(code)
 }
 
-fn put_segments(out: &mut String, facts: &ServerFacts) -> Result<(), AllocError> {
-    put_each(out, "snapd_updates_total", facts)?;
-    put_each(out, "snapd_repeats_total", facts)?;
+fn put_segments(out: &mut MetricsText, facts: &ServerFacts) {
+    put_each(out, "snapd_updates_total", facts);
+    put_each(out, "snapd_repeats_total", facts);
     let segments = &facts.reading.segments;
-    put_times(out, "snapd_store_seconds", segments)?;
-    put_times(out, "snapd_value_wait_seconds", segments)?;
-    put_times(out, "snapd_gate_wait_seconds", segments)?;
-    put_each(out, "snapd_segment_age_seconds", facts)?;
-    put_each(out, "snapd_segment_number", facts)?;
-    put_each(out, "snapd_segment_fenced", facts)
+    put_times(out, "snapd_store_seconds", segments);
+    put_times(out, "snapd_value_wait_seconds", segments);
+    put_times(out, "snapd_gate_wait_seconds", segments);
+    put_each(out, "snapd_segment_age_seconds", facts);
+    put_each(out, "snapd_segment_number", facts);
+    put_each(out, "snapd_segment_fenced", facts);
 }
 
 /// Appends this number of each segment.
-fn put_each(out: &mut String, name: &str, facts: &ServerFacts) -> Result<(), AllocError> {
-    put_head(out, name)?;
+fn put_each(out: &mut MetricsText, name: &str, facts: &ServerFacts) {
+    out.put_head(name);
     for segment in 0..facts.reading.segments.len().max(facts.statuses.len()) {
         if let Some(amount) = number(name, facts, segment) {
-            writeln!(out, "{name}{{segment=\"{segment}\"}} {amount}")?;
+            out.put(&format_args!("{name}{{segment=\"{segment}\"}} {amount}"));
         }
     }
-    Ok(())
 }
 
 /// This number of one segment, if it is known.
@@ -135,67 +123,48 @@ pub(crate) fn bound(place: usize) -> u64
 }
 
 /// Appends this histogram of each segment.
-fn put_times(out: &mut String, name: &str, segments: &[SegmentSnapshot]) -> Result<(), AllocError> {
-    put_head(out, name)?;
+fn put_times(out: &mut MetricsText, name: &str, segments: &[SegmentSnapshot]) {
+    out.put_head(name);
     for (index, segment) in segments.iter().enumerate() {
         let times = match name {
             "snapd_store_seconds" => &segment.stores,
             "snapd_value_wait_seconds" => &segment.first_waits,
             _ => &segment.second_waits,
         };
-        put_histogram(out, name, index, times)?;
+        put_histogram(out, name, index, times);
     }
-    Ok(())
 }
 
 /// Appends for each bound the number of times up to it, then their sum and their number.
-fn put_histogram(
-    out: &mut String,
-    name: &str,
-    segment: usize,
-    times: &HistogramSnapshot,
-) -> Result<(), AllocError> {
+fn put_histogram(out: &mut MetricsText, name: &str, segment: usize, times: &HistogramSnapshot) {
     let mut within: u64 = 0;
-    for (place, count) in times.counts.iter().enumerate() {
-        within = within.saturating_add(*count);
-        write!(out, "{name}_bucket{{segment=\"{segment}\",le=\"")?;
-        if place < BOUNDS {
-            write!(out, "{}", Amount(bound(place), Microsecond))?;
-        } else {
-            out.push_str("+Inf")?;
-        }
-        writeln!(out, "\"}} {within}")?;
+    for place in 0..BOUNDS {
+        within = within.saturating_add(times.counts[place]);
+        let bound = Amount(bound(place), Microsecond);
+        out.put(&format_args!("{name}_bucket{{segment=\"{segment}\",le=\"{bound}\"}} {within}"));
     }
-    let total = Amount(times.total, Nanosecond);
-    writeln!(out, "{name}_sum{{segment=\"{segment}\"}} {total}")?;
-    writeln!(out, "{name}_count{{segment=\"{segment}\"}} {within}")
+    let (count, total) = (all(times), Amount(times.total, Nanosecond));
+    out.put(&format_args!("{name}_bucket{{segment=\"{segment}\",le=\"+Inf\"}} {count}"));
+    out.put(&format_args!("{name}_sum{{segment=\"{segment}\"}} {total}"));
+    out.put(&format_args!("{name}_count{{segment=\"{segment}\"}} {count}"));
 }
 
-fn put_process(out: &mut String, facts: &ServerFacts, usage: &Usage) -> Result<(), AllocError> {
-    put_version(out, "snapd_build_info", facts.version)?;
-    put_singles(
-        out,
-        &[
-            ("snapd_connections_max", Some(usage.most_clients), Whole),
-            ("snapd_log_lost_lines_total", Some(usage.lost_lines), Whole),
-            ("process_start_time_seconds", usage.started, Millisecond),
-            ("process_cpu_seconds_total", usage.processors, Nanosecond),
-            ("process_resident_memory_bytes", facts.resident, Whole),
-            ("process_virtual_memory_bytes", usage.addresses, Whole),
-            ("process_open_fds", usage.descriptors, Whole),
-            ("process_max_fds", usage.most_descriptors, Whole),
-        ],
-    )
+fn put_process(out: &mut MetricsText, facts: &ServerFacts, usage: &Usage) {
+    put_version(out, "snapd_build_info", facts.version);
+    out.put_single("snapd_connections_max", Some(usage.most_clients), Whole);
+    out.put_single("snapd_log_lost_lines_total", Some(usage.lost_lines), Whole);
+    out.put_single("process_start_time_seconds", usage.started, Millisecond);
+    out.put_single("process_cpu_seconds_total", usage.processors, Nanosecond);
+    out.put_single("process_resident_memory_bytes", facts.resident, Whole);
+    out.put_single("process_virtual_memory_bytes", usage.addresses, Whole);
+    out.put_single("process_open_fds", usage.descriptors, Whole);
+    out.put_single("process_max_fds", usage.most_descriptors, Whole);
 }
 
-fn put_names(out: &mut String, files: &[&str]) -> Result<(), AllocError> {
-    put_head(out, "snapd_segment_info")?;
+fn put_names(out: &mut MetricsText, files: &[&str]) {
+    out.put_head("snapd_segment_info");
     for (segment, file) in files.iter().enumerate() {
         let name = Escaped(name_of(*file).unwrap_or(""));
-        writeln!(
-            out,
-            "snapd_segment_info{{segment=\"{segment}\",name=\"{name}\"}} 1"
-        )?;
+        out.put(&format_args!("snapd_segment_info{{segment=\"{segment}\",name=\"{name}\"}} 1"));
     }
-    Ok(())
 }
