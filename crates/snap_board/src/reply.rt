@@ -89,30 +89,57 @@ pub(crate) fn fill(response: &mut Response, answer: PageAnswer) -> Result<(), Al
     ensures { OnOk result (HasContent answer.status answer.content response.new) }
 {
     response.status = answer.status;
-    response.add_header(header::CONTENT_TYPE, answer.kind.value())?;
-    response.add_header(header::CACHE_CONTROL, HeaderValue::from_static("no-store"))?;
-    response.add_header(
+    add_headers(response, answer.status, answer.kind)?;
+    response.body.push(answer.content)
+}
+
+/// Adds the headers of an answer.
+fn add_headers(
+    response: &mut Response,
+    status: StatusCode,
+    kind: ContentKind,
+) -> Result<(), AllocError>
+    ensures status { response.new.status ≡ response.old.status }
+    ensures body { response.new.body ≡ response.old.body }
+{
+    let mut is_whole = add(response, header::CONTENT_TYPE, kind.value());
+    is_whole &= add(
+        response,
+        header::CACHE_CONTROL,
+        HeaderValue::from_static("no-store"),
+    );
+    is_whole &= add(
+        response,
         header::X_CONTENT_TYPE_OPTIONS,
         HeaderValue::from_static("nosniff"),
-    )?;
-    response.add_header(
-        HeaderName::from_static("cross-origin-resource-policy"),
-        HeaderValue::from_static("same-origin"),
-    )?;
-    if let ContentKind::Html = answer.kind {
-        response.add_header(
+    );
+    let policy = HeaderName::from_static("cross-origin-resource-policy");
+    is_whole &= add(response, policy, HeaderValue::from_static("same-origin"));
+    if let ContentKind::Html = kind {
+        is_whole &= add(
+            response,
             header::CONTENT_SECURITY_POLICY,
             HeaderValue::from_static(POLICY),
-        )?;
-        response.add_header(
-            HeaderName::from_static("referrer-policy"),
-            HeaderValue::from_static("no-referrer"),
-        )?;
+        );
+        let policy = HeaderName::from_static("referrer-policy");
+        is_whole &= add(response, policy, HeaderValue::from_static("no-referrer"));
     }
-    if answer.status == StatusCode::METHOD_NOT_ALLOWED {
-        response.add_header(header::ALLOW, HeaderValue::from_static("GET, HEAD"))?;
+    if status == StatusCode::METHOD_NOT_ALLOWED {
+        is_whole &= add(
+            response,
+            header::ALLOW,
+            HeaderValue::from_static("GET, HEAD"),
+        );
     }
-    response.body.push(answer.content)
+    if is_whole { Ok(()) } else { Err(AllocError) }
+}
+
+/// Adds a header. Returns whether memory was enough.
+fn add(response: &mut Response, name: HeaderName, value: HeaderValue) -> bool
+    ensures status { response.new.status ≡ response.old.status }
+    ensures body { response.new.body ≡ response.old.body }
+{
+    response.add_header(name, value).is_ok()
 }
 
 /// Makes the response an empty 503, since memory ran out. It allocates nothing.

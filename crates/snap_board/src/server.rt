@@ -102,16 +102,16 @@ impl HttpServer {
         alloc: Global,
         mut listener: TcpListener,
     ) -> io::Result<(HttpServer, StopHandle)> {
+        let keys = RandomState::new(rt)?;
+        let now = Instant::now(rt)?;
         let poll = Poll::new(rt)?;
-        let events = Events::with_capacity(alloc, MAX_EVENTS)?;
+        poll.registry()
+            .register(&mut listener, LISTENER, Interest::READABLE)?;
         let waker = Waker::new(poll.registry(), WAKER)?;
         let is_set = AtomicBool::new(false);
         let stopping = Arc::new(alloc, StopSignal { waker, is_set })?;
         let signal = Arc::try_clone(&stopping)?;
-        poll.registry()
-            .register(&mut listener, LISTENER, Interest::READABLE)?;
-        let keys = RandomState::new(rt)?;
-        let now = Instant::now(rt)?;
+        let events = Events::with_capacity(alloc, MAX_EVENTS)?;
         let server = HttpServer {
             poll,
             events,

@@ -38,6 +38,15 @@ const LIMITS: Config = Config {
 /// The most bytes that are read and dropped after the last response, if the peer still sends.
 const MAX_DRAINED: usize = 64 * 1024;
 
+/// Registers a socket, so that the system reports under `token` when it is readable or writable.
+pub(crate) fn register(
+    registry: &Registry,
+    stream: &mut TcpStream,
+    token: Token,
+) -> io::Result<()> {
+    registry.register(stream, token, Interest::READABLE | Interest::WRITABLE)
+}
+
 /// A connection: a non-blocking socket, with the bytes that were read and those to be written.
 #[derive(Drop)]
 pub(crate) struct HttpConnection {
@@ -66,12 +75,6 @@ impl HttpConnection {
             leaves: false,
             drained: 0,
         }
-    }
-
-    /// Registers the socket, so that the system reports under `token` when it is readable or writable.
-    pub(crate) fn register(&mut self, registry: &Registry, token: Token) -> io::Result<()> {
-        let events = Interest::READABLE | Interest::WRITABLE;
-        registry.register(&mut self.stream, token, events)
     }
 
     /// Reads, answers and writes as far as its socket allows, [`STEPS`] steps at most. Returns whether the connection

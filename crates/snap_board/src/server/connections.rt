@@ -3,7 +3,7 @@ ghost use Rattle.std.specs.Prelude.{◌≤◌};
 ghost use Rattle.slab.specs.Slab.{slab_len};
 ghost use Rattle.snap_board.specs.{Answered.Answered, declared.server.connections.TheConstants.MAX_CONNECTIONS};
 
-use super::connection::HttpConnection;
+use super::connection::{HttpConnection, register};
 use http_server::Service;
 use mio::net::TcpStream;
 use mio::{Registry, Token};
@@ -39,16 +39,16 @@ impl Connections {
 
     /// Adds a connection. If the table is full, it replaces the one whose last progress was longest ago. If memory for
     /// it runs out, or the system can't register it, it is closed; the others aren't affected.
-    pub(crate) fn welcome(&mut self, registry: &Registry, stream: TcpStream, now: Instant) {
+    pub(crate) fn welcome(&mut self, registry: &Registry, mut stream: TcpStream, now: Instant) {
         if self.connections.len() >= MAX_CONNECTIONS {
             self.drop_slowest();
         }
         if self.connections.len() >= MAX_CONNECTIONS || self.connections.reserve(1).is_err() {
             return;
         }
-        let mut connection = HttpConnection::new(self.alloc, self.keys, stream, now);
         let key = self.connections.vacant_key();
-        if connection.register(registry, Token(key)).is_ok() {
+        if register(registry, &mut stream, Token(key)).is_ok() {
+            let connection = HttpConnection::new(self.alloc, self.keys, stream, now);
             self.connections.insert_reserved(connection);
         }
     }
@@ -57,8 +57,13 @@ impl Connections {
     fn drop_slowest(&mut self) {
         let slowest = self.connections.iter().min_by_key(|entry| entry.1.moved);
         if let Some((key, _)) = slowest {
-            self.connections.try_remove(key);
+            self.close(key);
         }
+    }
+
+    /// Closes a connection, if there is one.
+    fn close(&mut self, key: usize) {
+        self.connections.try_remove(key);
     }
 
     /// Lets a connection take its steps, and drops it if it has ended.
@@ -75,7 +80,7 @@ impl Connections {
             return;
         };
         if !connection.go_on(registry, Token(key), service, now) {
-            self.connections.try_remove(key);
+            self.close(key);
         }
     }
 
@@ -85,7 +90,7 @@ impl Connections {
         for key in 0..self.connections.capacity() {
             let moved = self.connections.get(key).map(|it| it.moved);
             if moved.is_some_and(|moved| now.duration_since(moved) >= most) {
-                self.connections.try_remove(key);
+                self.close(key);
             }
         }
     }
