@@ -52,16 +52,12 @@ impl Document {
         self.is_whole &= self.writer.string(text).is_ok();
     }
 
-    fn null(&mut self) {
-        self.is_whole &= self.writer.null().is_ok();
-    }
-
     /// Writes a number as a member, or `null` if it isn't known.
     pub(crate) fn put_number(&mut self, name: &str, number: Option<u64>) {
         self.key(name);
         match number {
             Some(number) => self.number(number),
-            None => self.null(),
+            None => self.is_whole &= self.writer.null().is_ok(),
         }
     }
 
@@ -70,7 +66,7 @@ impl Document {
         self.key(name);
         match text {
             Some(text) => self.text(text),
-            None => self.null(),
+            None => self.is_whole &= self.writer.null().is_ok(),
         }
     }
 

@@ -103,33 +103,21 @@ fn add_headers(
     ensures body { response.new.body ≡ response.old.body }
 {
     let mut is_whole = add(response, header::CONTENT_TYPE, kind.value());
-    is_whole &= add(
-        response,
-        header::CACHE_CONTROL,
-        HeaderValue::from_static("no-store"),
-    );
-    is_whole &= add(
-        response,
-        header::X_CONTENT_TYPE_OPTIONS,
-        HeaderValue::from_static("nosniff"),
-    );
+    let no_store = HeaderValue::from_static("no-store");
+    is_whole &= add(response, header::CACHE_CONTROL, no_store);
+    let no_guess = HeaderValue::from_static("nosniff");
+    is_whole &= add(response, header::X_CONTENT_TYPE_OPTIONS, no_guess);
     let policy = HeaderName::from_static("cross-origin-resource-policy");
     is_whole &= add(response, policy, HeaderValue::from_static("same-origin"));
     if let ContentKind::Html = kind {
-        is_whole &= add(
-            response,
-            header::CONTENT_SECURITY_POLICY,
-            HeaderValue::from_static(POLICY),
-        );
+        let policy = HeaderValue::from_static(POLICY);
+        is_whole &= add(response, header::CONTENT_SECURITY_POLICY, policy);
         let policy = HeaderName::from_static("referrer-policy");
         is_whole &= add(response, policy, HeaderValue::from_static("no-referrer"));
     }
     if status == StatusCode::METHOD_NOT_ALLOWED {
-        is_whole &= add(
-            response,
-            header::ALLOW,
-            HeaderValue::from_static("GET, HEAD"),
-        );
+        let methods = HeaderValue::from_static("GET, HEAD");
+        is_whole &= add(response, header::ALLOW, methods);
     }
     if is_whole { Ok(()) } else { Err(AllocError) }
 }
