@@ -318,7 +318,7 @@ def test_a_proof_is_kept_as_long_as_all_that_it_read_is_the_same(snapd, _):
         kept.is_built(it)
         if it.name != "high":
             kept.keep(it, False, kept.key(it))
-    assert proofs.lay(top) == ["high"]
+    assert proofs.lacking(top) == ["high"] and (built("high") / "format").exists()
     for path, lost in (
         ("crates/middle/src/lib.rt", ["middle", "high"]), ("crates/middle/specs/Words.antt", ["middle", "high"]),
         ("crates/low/src/lib.rt", list(LOWER)), ("HANDLES", list(LOWER)), ("crates.txt", ["middle", "high"]),
@@ -326,18 +326,18 @@ def test_a_proof_is_kept_as_long_as_all_that_it_read_is_the_same(snapd, _):
         file = top / path
         text = file.read_text()
         file.write_text(text.replace("middle: low", "middle: low bytes") if path == "crates.txt" else text + " ")
-        assert proofs.lay(top) == lost, path
+        assert proofs.lacking(top) == lost, path
         file.write_text(text)
     source = top / "crates" / "middle" / "src" / "lib.rt"
     source.write_text("// A comment more.\n" + source.read_text())
     # What is laid is what was kept, with a stamp, and nothing is left of the others.
-    built("high").mkdir(parents=True)
-    assert proofs.lay(top) == ["high"]
+    (built("low") / "format").unlink()
+    assert proofs.lacking(top, is_laid=True) == ["high"]
     assert (built("low") / "format").read_text() == "low" and not built("high").exists()
     assert [it.is_built() for it in rt.rtlib.crates_below(str(top))] == [True, True, False]
     for it in (snapd.folder / "snapd-proofs").glob("proof-low-*/0"):
         it.write_text("another")
-    assert proofs.lay(top) == list(LOWER)
+    assert proofs.lacking(top, is_laid=True) == list(LOWER)
 
 
 def test_nobody_else_can_write_to_the_archive(snapd, _):

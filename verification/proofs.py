@@ -12,6 +12,8 @@ each crate under the sum of all that its proof has read, the kit, HANDLES, the c
 without their comments, and the built libraries below it. Whoever can write to it can forge a proof.
 """
 
+import hashlib
+import json
 import os
 import pathlib
 import re
@@ -49,23 +51,28 @@ def opened():
     return rt
 
 
-def lay(top):
-    """Puts each library that the archive has into its crate's out/, with the stamp by which `rt check` sees that
-    nothing has changed since, and returns the names of the others. (Statements fit only the libraries that they were
-    built over, so what else is there is removed.)"""
-    rt, lacking = opened(), []
+def lacking(top, is_laid=False):
+    """The libraries of a checkout that the archive lacks, or that use one of these. With `is_laid` the others are put
+    into their crates' out/, with the stamp by which `rt check` sees that nothing has changed since. (Statements fit
+    only the libraries that they were built over, so what else is there is removed.)"""
+    rt, found = opened(), []
     crates = [it for it in rt.rtlib.crates_below(str(top)) if it.makes_rlib() and it.name in proved_crates(top)]
     kept = rt.Kept(crates)
     for crate in crates:
-        out = pathlib.Path(crate.folder, "out", "rlib")
-        shutil.rmtree(out, ignore_errors=True)
         # (over a library that is lacking, nothing was kept under this key)
-        if kept.give(crate, False, kept.key(crate)):
-            kept.is_built(crate)
+        key, out = kept.key(crate), pathlib.Path(crate.folder, "out", "rlib")
+        made = pathlib.Path(kept.place(crate, False, key), "made.json")
+        if is_laid:
+            shutil.rmtree(out, ignore_errors=True)
+        if not made.exists() or is_laid and not kept.give(crate, False, key):
+            found.append(crate.name)
+            continue
+        # (the library's sum, as the kit forms it)
+        files = [tuple(it) for it in json.loads(made.read_text())["files"]]
+        kept.rlibs[crate.name] = hashlib.sha256(repr(files).encode()).hexdigest()
+        if is_laid:
             (out / "stamp").write_text(crate.stamp())
-        else:
-            lacking.append(crate.name)
-    return lacking
+    return found
 
 
 def judged(names, told, status, log):

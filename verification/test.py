@@ -19,9 +19,9 @@ from concurrent.futures import ThreadPoolExecutor
 
 import kit
 from locks import LOCK, Edits, Record
-from proofs import COUNT, LAST, SECONDS, UNKNOWN, lay, prove
+from proofs import COUNT, LAST, SECONDS, UNKNOWN, lacking, prove
 from quick import build_all, place, ran
-from tree import TOP, copied, crates_of, parsed, proved_crates, with_below
+from tree import TOP, crates_of, parsed, proved_crates, with_below
 
 # The sample: how many crates, how many of their edits, and the seconds of a processor that the crates' proofs may take.
 SAMPLE = (3, 20, 600)
@@ -50,12 +50,12 @@ def build_and_run(lanes):
     return [(0, len(failed), failed), run_tests("crates.py", *TESTED)]
 
 
-def drawn(names, edits, crates, seconds, lacking, seed, most):
+def drawn(names, edits, crates, seconds, missing, seed, most):
     """A sample of these crates, drawn anew with each seed: `most[0]` of them at most, and `most[1]` of their edits.
     Their proofs, with what is below them and isn't at hand, take `most[2]` seconds of a processor in all, at most."""
     draw, chosen = random.Random(seed), []
     for name in draw.sample(sorted(names), len(names)):
-        owed = with_below(crates, [*chosen, name]) & {*lacking, *chosen, name}
+        owed = with_below(crates, [*chosen, name]) & {*missing, *chosen, name}
         if len(chosen) < most[0] and sum(seconds.get(it) or UNKNOWN for it in owed) <= most[2]:
             chosen.append(name)
     found = sorted(it for it in edits if it[0] in chosen)
@@ -72,11 +72,10 @@ def prove_some(words):
         said = [f"{LOCK} doesn't have {it} as it is: make prove writes it" for it in record.missing()]
         said += [f"must-fail.lock doesn't have {edits.name(it)} as it is: make edits tries it" for it in new]
         new = []
-    with copied(TOP, proved) as copy:
-        lacking = {*(proved if words.fresh else lay(copy))} - owed
+    missing = {*(proved if words.fresh else lacking(TOP))} - owed
     # (the program's proof takes all processors)
     names = [it for it in proved if it != "snapd"]
-    names, chosen = drawn(names, edits.known(), crates, SECONDS, lacking, words.seed, SAMPLE)
+    names, chosen = drawn(names, edits.known(), crates, SECONDS, missing, words.seed, SAMPLE)
     print(f"sample: {', '.join(names) or 'no crate'}, with {len(chosen)} edits (seed {words.seed})", flush=True)
     anew = ["--anew"] if words.fresh else [it for it in names if [edit[0] for edit in chosen].count(it) < 2]
     return [(0, len(said), said), *prove({*owed, *names}, edits, [*new, *chosen], anew, ["snapd"] * words.all)[1]]
@@ -130,7 +129,7 @@ def main():
     words.add_argument("--lay", action="store_true", help="lay the libraries that this machine has proved")
     words = parsed(words, "programs that are proved alone, or crates whose edits are tried")
     if words.lay:
-        print("these libraries weren't proved here:", ", ".join(lay(TOP)) or "none")
+        print("these libraries weren't proved here:", ", ".join(lacking(TOP, is_laid=True)) or "none")
         return 0
     # (side by side where memory allows)
     lanes = 2 if kit.load().free() > BOTH else 1
