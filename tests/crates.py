@@ -54,7 +54,8 @@ def judged(name, status, said):
 
 
 def main(names):
-    with ThreadPoolExecutor(len(os.sched_getaffinity(0))) as pool:
+    # (on half of the processors: `make test` proves beside)
+    with ThreadPoolExecutor(max(1, len(os.sched_getaffinity(0)) // 2)) as pool:
         came = [*pool.map(lambda it: judged(it, *run(it)), names)]
     for name, (passed, bad) in zip(names, came):
         print(f"tests of {name}: {passed} passed", *bad, sep="\n", flush=True)

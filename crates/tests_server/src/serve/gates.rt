@@ -4,8 +4,8 @@ use snap_server::Gate;
 use std::sync::atomic::{AtomicU64, Ordering};
 use std::thread::yield_now;
 
-/// How many turns of yielding a request is held at most.
-const TURNS: u64 = 1_000_000;
+/// How many turns of yielding a request is held at most: beside other work the second may be seconds late.
+const TURNS: u64 = 50_000_000;
 
 /// Holds the first request until the second one has been answered, or for all its turns.
 #[derive(Drop)]

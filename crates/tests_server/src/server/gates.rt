@@ -9,8 +9,8 @@ use std::sync::atomic::{AtomicU64, Ordering};
 use std::test::Fail;
 use std::thread::yield_now;
 
-/// How many turns of yielding a request waits at the gate.
-const TURNS: u64 = 1_000_000;
+/// How many turns of yielding a request waits at the gate, at most: beside other work the second may be seconds late.
+const TURNS: u64 = 50_000_000;
 
 /// Holds each request until a second one has entered, or for all its turns.
 #[derive(Drop)]
