@@ -302,6 +302,23 @@ def test_a_prover_that_fails_is_never_taken_for_one_that_passed(snapd, _):
         assert (passed, failed) == wanted and said, (lines, status)
 
 
+def test_a_run_that_ends_at_once_is_not_told_by_an_earlier_one(snapd, _):
+    log, own = snapd.folder / "out" / "proofs.log", proofs.LOG
+    log.parent.mkdir()
+    log.write_text("rt: must-fail snap_history/takes_each_update.edit: refused, as it must be: text\n")
+    edits = Edits.of(TOP)
+    chosen = [it for it in edits.digests if Edits.name(it) == "snap_history/takes_each_update.edit"]
+    edits.write = lambda top: None
+    proofs.LOG, ran = log, proofs.ran
+    proofs.ran = lambda words, each, **how: (1, ["a traceback"])
+    try:
+        with contextlib.redirect_stdout(None):
+            seconds, (proved, tried) = proofs.prove([], edits, chosen)
+    finally:
+        proofs.LOG, proofs.ran = own, ran
+    assert seconds == {} and proved[:2] == (0, 1) and tried[:2] == (0, 1), (proved, tried)
+
+
 def test_a_proof_is_kept_as_long_as_all_that_it_read_is_the_same(snapd, _):
     top = tree(snapd.folder)
     os.environ["XDG_CACHE_HOME"] = str(snapd.folder)

@@ -90,6 +90,8 @@ def prove(names, edits, chosen, anew=(), programs=()):
     how much failed, and what is said of that."""
     names, began = with_below(crates_of(TOP), {*names, *(it[0] for it in chosen)}), time.monotonic()
     LOG.parent.mkdir(exist_ok=True)
+    # (a run that ends before it has written a line is not told by those of an earlier one)
+    LOG.write_text("")
     with copied(TOP, names, chosen) as copy:
         words = [sys.executable, TOP / "verification" / "proofs.py", *anew]
         status, lines = ran(words, lambda it: print(it, flush=True), cwd=copy)
