@@ -366,13 +366,14 @@ def test_nobody_else_can_write_to_the_archive(snapd, _):
 
 def test_the_longest_chain_goes_by_what_was_measured(snapd, _):
     call, below = lambda given, jobs: jobs, [("low", "proof")]  # noqa: E731
-    tasks = {("low", "proof"): ([], 100, 1, call), ("new", "proof"): (below, 100, 2, call)}
-    edits = {("low", "seed"): ([], 0, 1, call), ("new", "edits", 0): (below, 100, 2, call)}
+    tasks = {("low", "proof"): ([], 100, 2, call), ("new", "proof"): (below, 100, 2, call)}
+    edits = {("low", "seed"): ([], 0, 2, call), ("new", "edits", 0): (below, 100, 2, call)}
     found = by_seconds({**tasks, **edits}, {"low": 70, "new": 0}, 4)
     # Nobody uses `new`: its proof gets all processors, however few are idle as it begins.
     *rest, proof = found.pop(("new", "proof"))
     assert (*rest, proof({}, 1)) == (below, 60, 1, 4)
-    assert found == {("low", "proof"): ([], 70, 1, call), **edits, ("new", "edits", 0): (below, 0, 2, call)}
+    rest = {("low", "seed"): ([], 0, 1, call), ("new", "edits", 0): (below, 0, 2, call)}
+    assert found == {("low", "proof"): ([], 70, 1, call), **rest}
 
 
 def test_tests_that_end_without_a_count_have_failed(snapd, _):

@@ -11,8 +11,9 @@ import sys
 
 sys.dont_write_bytecode = True
 # The parts of `rt` that these scripts go by.
-PARTS = """main in_lanes processors free seeded edited drop_to_nobody STORE own_sum kit_sum Crate.ci Crate.sources_below
- Kept.key Kept.give Kept.place Kept.tried rtlib.KIT rtlib.RUNNER rtlib.crates_below rtlib.kit_sources""".split()
+PARTS = """main in_lanes processors free seeded edited drop_to_nobody STORE BACKENDS own_sum kit_sum Crate.ci
+ Crate.compile_by Crate.sources_below Kept.key Kept.give Kept.place Kept.tried rtlib.KIT rtlib.RUNNER rtlib.crates_below
+ rtlib.kit_sources""".split()
 
 
 @functools.lru_cache(maxsize=None)

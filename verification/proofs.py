@@ -20,6 +20,7 @@ import re
 import shutil
 import sys
 import time
+from concurrent.futures import ThreadPoolExecutor
 
 import kit
 from digests import summed
@@ -111,18 +112,18 @@ def prove(names, edits, chosen, anew=(), programs=()):
 def by_seconds(tasks, seconds, lanes):
     """The kit's tasks with what each proof took last in place of its lines, by which the longest chain is found. The
     proofs of what no other crate uses, as the program, which comes last, and of that before its edits, get all
-    processors and not only those that are idle as they begin; of the memory that the kit expects they take half."""
+    processors and not only those that are idle as they begin. Of the memory that the kit expects, proofs take half."""
     used, timed = {name for (_, kind, *_), task in tasks.items() if kind == "proof" for name, _ in task[0]}, {}
     for key, (waits, _, needs, call) in tasks.items():
-        if key[0] not in used and key[1] in ("proof", "seed"):
-            needs, call = needs // 2, lambda given, _, call=call: call(given, lanes)
+        if key[1] in ("proof", "seed"):
+            needs, call = needs // 2, call if key[0] in used else lambda given, _, call=call: call(given, lanes)
         timed[key] = waits, (seconds.get(key[0]) or UNKNOWN) * (key[1] == "proof"), needs, call
     return timed
 
 
 def main():
     rt, anew, out = opened(), sys.argv[1:], sys.stdout
-    in_lanes, ci, seeded, give = rt.in_lanes, rt.Crate.ci, rt.seeded, rt.Kept.give
+    in_lanes, ci, compile_by, seeded, give = rt.in_lanes, rt.Crate.ci, rt.Crate.compile_by, rt.seeded, rt.Kept.give
     left = {it: SECONDS.get(it) or UNKNOWN for it in crates_of(pathlib.Path.cwd())}
     every = len(left)
 
@@ -151,7 +152,13 @@ def main():
         work = TOP / "crates" / crate.name / "out" / "incremental"
         return seeded(crate, flags, str(work) if "--over" in anew and work.is_dir() else start)
 
-    rt.Crate.ci, rt.Kept.give, rt.seeded = proved, given, begun
+    def compiled(crate, backend, words, to):
+        """Compiles a program by all compilers of the kit side by side, where it asks for the first of them."""
+        with ThreadPoolExecutor() as pool:
+            first, every = [*rt.BACKENDS][0], lambda it: compile_by(crate, it, words, to)
+            return backend == first and any(pool.map(every, rt.BACKENDS))
+
+    rt.Crate.ci, rt.Kept.give, rt.seeded, rt.Crate.compile_by = proved, given, begun, compiled
     rt.in_lanes = lambda tasks: in_lanes(by_seconds(tasks, SECONDS, rt.processors()))
     rt.rtlib.Crate.has_tests = lambda crate: False
     rt.Kept.tried = lambda kept, name: None
