@@ -158,7 +158,7 @@ def test_what_no_clause_says_has_a_test_or_says_that_it_has_none(snapd, random):
 
 # In these every function was checked for the table.
 GONE_THROUGH = ("snap_server/src", "snap_serve/src", "snapd/src", "snap_file_commands/src/system",
-    "snap_devices/src/file.rt")
+    "snap_client_commands/src/system", "snap_devices/src/file.rt")
 # Functions with no clause of their own that are in no row, by the reason.
 IN_NO_ROW = {
     "its trait's clauses are its own": (

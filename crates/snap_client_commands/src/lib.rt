@@ -1,5 +1,5 @@
-//! The commands that ask a running server, over any connections, reader and writers: `call`, `watch`, and the part of
-//! `dump` that fetches a server's values.
+//! The commands that ask a running server: `call`, `watch`, and the part of `dump` that fetches a server's values; over
+//! any connections, reader and writers, and, in [`system`], over the system's sockets.
 //!
 //! [`ask`] is the command `call`: it sends a request and prints the reply. `specs/Ends.antt` says how it ends after
 //! each answer, `specs/Puts.antt` which requests a put sends, and `specs/Text.antt` has the lines of a reply
@@ -10,6 +10,7 @@
 mod call;
 mod print;
 mod put;
+pub mod system;
 pub mod watch;
 
 pub use call::{ask, fetch};

@@ -2,10 +2,11 @@
 //!
 //! [`init`], [`load`] and [`examine`] (`doctor`) are whole commands. [`take_file`] and [`take_pair`] open the files of
 //! the others, [`segment_files`] and [`files_in_order`] find those of a folder, and [`open_telling`] opens one of them.
-//! The functions of complaint.rt print why a command ends, and return its status.
+//! The functions of complaint.rt print why a command ends at a file or folder, and return its status.
 
 mod complaint;
 mod doctor_command;
+mod dump_command;
 mod file_system;
 mod files;
 mod folder;
@@ -15,11 +16,9 @@ mod load_command;
 mod loading_folder;
 mod store_times;
 
-pub use complaint::{
-    fail, fail_at, fail_at_file, fail_in, fail_of, fail_twice, or_stop, print_whole, refuse, say,
-    say_of, stop, stop_without_memory,
-};
+pub use complaint::{fail_at_file, fail_in, fail_twice, stop};
 pub use doctor_command::examine;
+pub use dump_command::{folder_values, print_dump};
 pub use file_system::limit_of;
 pub use files::{
     FirstFault, first_faults, open_telling, take_file, take_pair, too_short_files, writes,

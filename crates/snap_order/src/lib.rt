@@ -1,12 +1,15 @@
-//! The parsed command line of `snapd`, its exit statuses, and the advice about a file that was refused.
+//! The parsed command line of `snapd`, its exit statuses, the messages with which a command ends, and the advice about a
+//! file that was refused.
 //!
 //! It hands on the types that an order uses, the requests to a server and the limits of all layers.
 #![tactic(auto)]
 
+mod message;
 mod order;
 mod remedy;
 mod status;
 
+pub use message::{fail, fail_of, or_stop, refuse, refuse_of, say, say_of, stop_without_memory};
 pub use order::{
     CallOptions, CallRequest, DoctorOptions, DumpOptions, DumpSource, FileOrder, InitOptions,
     Level, LoadOptions, MAX_ADDRESSES, MAX_CLIENTS, MAX_EVERY, MAX_IDLE, MAX_TIMEOUT, MODE_BITS,

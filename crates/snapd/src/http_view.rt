@@ -4,9 +4,10 @@ use crate::surroundings::{Process, Seen};
 use log::{info, warn};
 use mio::net::TcpListener;
 use snap_board::{Board, History, HttpServer, StopHandle};
-use snap_file_commands::system::{fail_of, say, say_of, stop_without_memory};
 use snap_log::Lines;
-use snap_order::{MAX_SCANNERS, ServeOptions, Status, socket_path};
+use snap_order::{
+    MAX_SCANNERS, ServeOptions, Status, fail_of, say, say_of, socket_path, stop_without_memory,
+};
 use snap_serve::Observer;
 use snap_session::Service;
 use std::io::{self, ErrorKind};

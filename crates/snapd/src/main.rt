@@ -1,46 +1,44 @@
 //! The program `snapd`: runs the commands on the system's files, sockets, threads and streams.
 //!
 //! `snap_args` parses the arguments. The commands themselves are in `snap_file_commands` (files and folders),
-//! `snap_serve` (a server), `snap_client_commands` (a client) and `snap_script` (scripts). Those of a server, a client
-//! and scripts are over any listener, connection, reader and writer: this crate connects them to the system. A server's
-//! log goes to standard error (`snap_log`).
+//! `snap_serve` (a server), `snap_client_commands` (a client) and `snap_script` (scripts). Those of a server and scripts
+//! are over any listener, reader and writer: this crate connects them to the system. A server's log goes to standard
+//! error (`snap_log`).
 #![tactic(auto)]
 
 ghost use Rattle.std.specs.Prelude.{◌≡◌, ◌<◌, ◌≤◌, length};
 ghost use Rattle.snap_order.specs.Limits.{MAX_COUNT};
 ghost use Rattle.snap_order.specs.Order.{IsFileWithinLimits, IsPlace, IsServable, IsWithinLimits, KeepsLimits};
+ghost use Rattle.snap_order.specs.Order.{IsDumpable};
 
-mod call_command;
-mod dump_command;
 mod http_view;
-mod remedy;
 mod serve_command;
 mod server_log;
 mod surroundings;
-mod time_limit;
-mod tries;
-mod watch_command;
 
-use call_command::call;
-use dump_command::dump;
+use jiff::Timestamp;
 use serve_command::{say_right_order, serve};
 use snap_args::{WordFault, lack_of, order};
+use snap_client_commands::system::{call, fetch, watch};
 use snap_disk::Disk;
 use snap_file_commands::system::{
-    FirstFault, examine, fail, fail_in, fail_of, files_in_order, init, load, say, segment_files,
-    stop, stop_without_memory, take_file, take_pair, too_short_files, writes,
+    FirstFault, examine, fail_in, files_in_order, folder_values, init, load, print_dump,
+    segment_files, stop, take_file, take_pair, too_short_files, writes,
 };
 use snap_file_commands::{CommandFault, act, act_pair, finish};
-use snap_order::{DumpSource, FileOrder, MigrateOptions, Order, ServeOptions, Status};
+use snap_order::{
+    DumpOptions, DumpSource, FileOrder, MigrateOptions, Order, ServeOptions, Status, fail, fail_of,
+    say, stop_without_memory,
+};
 use snap_script::play;
 use snap_serve::Runtime;
 use snap_slot::FILE_LEN;
 use std::env;
+use std::fmt::InlineText;
 use std::io::{BufWriter, ErrorKind};
 use std::os::fd::AsFd;
 use std::process::ExitCode;
 use std::sync::Wait;
-use watch_command::watch;
 
 fn main(rt: HostRuntime) -> ExitCode {
     let status = match words_of(&rt) {
@@ -163,6 +161,21 @@ fn run_migration<'a>(rt: &'a HostRuntime, order: &MigrateOptions<'a>) -> Result<
             .report(rt.alloc(), order, causes, &mut rt.stderr())
             .status
     })
+}
+
+/// Prints a dump, or nothing if it fails. It has every update that was acknowledged before its time, since that is
+/// taken before the values are requested.
+fn dump(rt: &HostRuntime, order: &DumpOptions<'_>) -> Result<Status, Status>
+    requires { IsDumpable order.now }
+{
+    let now = Timestamp::now(rt).map_err(|error| fail_of(rt, "the clock", &error))?;
+    // In RFC 3339 format, in UTC and cut to seconds.
+    let time = InlineText::<32>::of(format_args!("{now:.0}"));
+    let values = match order.holder {
+        DumpSource::Server { address } => fetch(rt, address, order)?,
+        DumpSource::Folder { folder } => folder_values(rt, folder)?,
+    };
+    print_dump(rt, time.as_str(), &values)
 }
 
 /// Serves the order's files. `threads` is the runtime again, for what may block, start threads and open sockets.

@@ -12,12 +12,11 @@ use snap_args::is_everywhere;
 use snap_board::MAX_CONNECTIONS;
 use snap_devices::{FileDisk, FileFault, Lock};
 use snap_file_commands::system::{
-    FirstFault, fail, fail_at_file, fail_twice, files_in_order, first_faults, open_telling,
-    or_stop, say, stop_without_memory,
+    FirstFault, fail_at_file, fail_twice, files_in_order, first_faults, open_telling,
 };
 use snap_log::{Destination, Lines, write_lines};
 use snap_metrics::{Metrics, time_all};
-use snap_order::{Exit, ServeOptions, Status};
+use snap_order::{Exit, ServeOptions, Status, fail, or_stop, say, stop_without_memory};
 use snap_serve::{Environment, Network, Runtime, host, log_note};
 use snap_server::{NoGate, ServerEvent, ServerFault};
 use std::alloc::{AllocError, Global};

@@ -1,55 +1,12 @@
-//! Messages on standard error about why a command ends, above all about files and folders that can't be used.
-ghost use Rattle.std.specs.Prelude.{◌≡◌, IfOk, Ok};
-ghost use Rattle.snap_order.specs.declared.status.Status.TheVariants as status;
+//! Messages on standard error about files and folders that can't be used.
 
 use super::file_system::remedy_of;
 use super::folder_refusal::FolderReadFault;
 use crate::CommandFault;
 use snap_devices::FileFault;
-use snap_disk::Refusal;
-use snap_order::Status;
-use snap_stream::{complain, write_whole};
-use std::alloc::AllocError;
-use std::fmt::Display;
+use snap_order::{Status, fail_of, refuse, say, say_of, stop_without_memory};
+use snap_stream::write_whole;
 use std::io::{self, ErrorKind};
-
-/// Prints this text on standard error.
-pub fn say<T: Display>(rt: &HostRuntime, text: &T) {
-    let _ = complain(rt.alloc(), &mut rt.stderr(), text);
-}
-
-/// Prints this of the file, folder or address with this name.
-pub fn say_of<T: Display>(rt: &HostRuntime, name: &str, what: &T) {
-    say(rt, &format_args!("{name}: {what}"));
-}
-
-/// Prints why the command failed.
-pub fn fail<T: Display>(rt: &HostRuntime, why: &T) -> Status {
-    say(rt, why);
-    Status::Failed
-}
-
-/// Prints why the command is refused.
-pub fn refuse<T: Display>(rt: &HostRuntime, why: &T) -> Status {
-    say(rt, why);
-    Status::Refused
-}
-
-/// Prints why the command failed at the file, folder or address with this name.
-pub fn fail_of<T: Display>(rt: &HostRuntime, name: &str, why: &T) -> Status
-    ensures { result ≡ status.Failed }
-{
-    say_of(rt, name, why);
-    Status::Failed
-}
-
-/// Prints why the command is refused for the file or folder with this name.
-pub fn refuse_of<T: Display>(rt: &HostRuntime, name: &str, why: &T) -> Status
-    ensures { result ≡ status.Refused }
-{
-    say_of(rt, name, why);
-    Status::Refused
-}
 
 /// Prints why the file at this path couldn't be opened, with advice if there is any.
 pub fn fail_at(rt: &HostRuntime, file: &str, fault: &FileFault) -> Status {
@@ -117,16 +74,4 @@ pub fn stop(rt: &HostRuntime, failure: &CommandFault) -> Status {
 /// Writes these bytes to standard output. Prints the reason if that fails.
 pub fn print_whole(rt: &HostRuntime, bytes: &[u8]) -> Result<(), Status> {
     write_whole(&mut rt.stdout(), bytes).map_err(|error| stop(rt, &CommandFault::Output(error)))
-}
-
-/// The value, or the exit status after a message that memory ran out.
-pub fn or_stop<T>(rt: &HostRuntime, made: Result<T, AllocError>) -> Result<T, Status>
-    ensures { IfOk result (λ value. made ≡ Ok value) }
-{
-    made.map_err(|_| stop_without_memory(rt))
-}
-
-/// Prints that memory ran out.
-pub fn stop_without_memory(rt: &HostRuntime) -> Status {
-    stop(rt, &CommandFault::Refused(Refusal::NoMemory))
 }

@@ -1,14 +1,14 @@
 //! The command `doctor`: reports on the files of a folder and on their file system.
 ghost use Rattle.std.specs.Prelude.{◌≡◌, IfOk};
 
-use super::complaint::{stop, stop_without_memory};
+use super::complaint::stop;
 use super::file_system::{file_system_of, is_taken, keeps_locks, remedy_of, try_as_server};
 use super::folder::{contents_of, order_of, path_at, segment_files};
 use super::folder_refusal::FolderReadFault;
 use super::store_times::{MeasureFault, STORED_LEN, STORES, measure};
 use crate::{CommandFault, SegmentPlace};
 use snap_devices::FileFault;
-use snap_order::{DoctorOptions, Status};
+use snap_order::{DoctorOptions, Status, stop_without_memory};
 use std::fmt::Display;
 use std::io::{self, ErrorKind};
 

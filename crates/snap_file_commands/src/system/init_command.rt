@@ -2,7 +2,7 @@
 ghost use Rattle.std.specs.Prelude.{◌<◌, ◌≤◌};
 ghost use Rattle.snap_order.specs.{Limits.MAX_COUNT, Order.IsOneTo};
 
-use super::complaint::{fail_in, or_stop, refuse};
+use super::complaint::fail_in;
 use super::files::{FirstFault, take_file};
 use super::folder::{
     findings_of, index_of_name, make_folder, path_at, segment_files, segment_path,
@@ -11,7 +11,7 @@ use super::folder_refusal::FolderReadFault;
 use crate::{finish, found, is_further, sign_of_loss};
 use snap_devices::FileFault;
 use snap_disk::Disk;
-use snap_order::{FileOrder, InitOptions, Status};
+use snap_order::{FileOrder, InitOptions, Status, or_stop, refuse};
 use snap_segment::{Findings, Header, Slot};
 use std::alloc::{AllocError, Global};
 use std::path::Path;

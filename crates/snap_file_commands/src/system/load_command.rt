@@ -7,7 +7,7 @@ ghost use Rattle.snap_frame.specs.Limits.{IsNumber, IsShort};
 ghost use Rattle.snap_order.specs.{Limits.MAX_COUNT, Order.IsLoadable, Order.IsOneTo};
 ghost use Rattle.snap_file_commands.specs.Document.{AreServable, IsKeepable};
 
-use super::complaint::{fail_at, or_stop, print_whole, refuse_of, stop_without_memory};
+use super::complaint::{fail_at, print_whole};
 use super::files::{FirstFault, take_file};
 use super::folder::segment_path;
 use super::loading_folder::LoadingFolder;
@@ -16,7 +16,7 @@ use crate::{LoadedFile, finish};
 use snap_devices::FileFault;
 use snap_disk::Disk;
 use snap_frame::SegmentValue;
-use snap_order::{FileOrder, LoadOptions, Status};
+use snap_order::{FileOrder, LoadOptions, Status, or_stop, refuse_of, stop_without_memory};
 use snap_stream::read_up_to;
 use std::fs::File;
 use std::io::Read;

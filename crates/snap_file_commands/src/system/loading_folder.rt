@@ -1,13 +1,11 @@
 //! The folder in which `load` makes its files, before it is renamed.
 
-use super::complaint::{
-    fail_at, fail_at_folder, fail_of, or_stop, refuse, refuse_of, stop_without_memory,
-};
+use super::complaint::{fail_at, fail_at_folder};
 use super::file_system::{MODE, has_locked};
 use super::folder::{index_of_name, make_folder};
 use crate::MAX_COUNT;
 use snap_devices::{FileFault, sync_folder_of};
-use snap_order::Status;
+use snap_order::{Status, fail_of, or_stop, refuse, refuse_of, stop_without_memory};
 use std::fs::{self, DirEntry, File};
 use std::io::{self, ErrorKind};
 use std::os::unix::fs::{MetadataExt, fchown};

@@ -1,12 +1,11 @@
 //! Calls a server over TCP or a Unix socket.
 ghost use Rattle.snap_order.specs.Order.{IsCallable, IsDumpable};
 
-use crate::time_limit::{Course, TimeLimit};
-use crate::tries::Tries;
-use snap_client_commands::ask;
-use snap_file_commands::system::say_of;
+use super::time_limit::{Course, TimeLimit};
+use super::tries::Tries;
+use crate::call;
 use snap_frame::SegmentValue;
-use snap_order::{CallOptions, DumpOptions, Status, socket_path};
+use snap_order::{CallOptions, DumpOptions, Status, say_of, socket_path};
 use std::io::{self, ErrorKind};
 use std::net::{Net, TcpStream, ToSocketAddrs};
 use std::os::fd::OwnedFd;
@@ -25,7 +24,7 @@ pub fn call(rt: &HostRuntime, order: &CallOptions<'_>) -> Status
     let course = Course::new();
     let mut tries = Tries::new(rt, order.address, order.wait, order.timeout, &course);
     let mut connect = || tries.next();
-    let ended = ask(
+    let ended = call::ask(
         rt.alloc(),
         order,
         &mut connect,
@@ -55,7 +54,7 @@ pub fn fetch(
         Some(_) => None,
         None => Some(order.tries),
     };
-    match snap_client_commands::fetch(rt.alloc(), address, most, &mut connect, &mut rt.stderr()) {
+    match call::fetch(rt.alloc(), address, most, &mut connect, &mut rt.stderr()) {
         Ok(values) => Ok(values),
         Err(ended) => {
             tries.say_why(ended.status);

@@ -2,18 +2,16 @@
 ghost use Rattle.std.specs.Prelude.{◌<◌, IfSome};
 ghost use Rattle.snap_order.specs.Order.{IsWatchable};
 
-use crate::call_command::{is_worth_a_try, link_within};
-use crate::time_limit::{Course, TimeLimit};
+use super::call_command::{is_worth_a_try, link_within};
+use super::time_limit::{Course, TimeLimit};
+use crate::watch::{
+    Panel, Row, Track, WatchFault, changes, drawing, followed, look, set_of,
+};
 use libc::net::{POLLERR, POLLHUP, poll};
 use libc::types::pollfd;
 use snap_client::{Client, ClientFault};
-use snap_client_commands::watch::{
-    Panel, Row, Track, WatchFault, changes, drawing, followed, look, set_of,
-};
-use snap_file_commands::CommandFault;
-use snap_file_commands::system::{fail_of, or_stop, refuse, say_of, stop, stop_without_memory};
 use snap_frame::SegmentSet;
-use snap_order::{Status, WatchOptions};
+use snap_order::{Status, WatchOptions, fail_of, or_stop, refuse, say_of, stop_without_memory};
 use snap_stream::write_whole;
 use std::alloc::Global;
 use std::cell::Cell;
@@ -254,7 +252,7 @@ fn are_colours_wanted(rt: &HostRuntime) -> bool {
 fn print(rt: &HostRuntime, text: &[u8]) -> Result<(), Status> {
     write_whole(&mut rt.stdout(), text).map_err(|error| match error.kind() {
         ErrorKind::BrokenPipe => Status::Failed,
-        _ => stop(rt, &CommandFault::Output(error)),
+        _ => fail_of(rt, "standard output", &error),
     })
 }
 

@@ -1,35 +1,22 @@
-//! The command `dump`: prints all values of a server or a folder as one document.
+//! The command `dump`: the values of a folder, and the document of values from wherever they are.
 ghost use Rattle.std.specs.Prelude.{◌≡◌, ◌<◌, ◌≤◌, length};
-ghost use Rattle.snap_order.specs.{Limits.MAX_COUNT, Order.IsDumpable};
+ghost use Rattle.snap_order.specs.Limits.{MAX_COUNT};
 
-use crate::call_command::fetch;
-use jiff::Timestamp;
+use super::complaint::{fail_at, fail_in, print_whole};
+use super::files::{FirstFault, first_faults, open_telling};
+use super::folder::{files_in_order, segment_files};
+use super::folder_refusal::FolderReadFault;
+use crate::dump::{DumpFault, document, read};
+use crate::{CommandFault, held_value};
 use snap_devices::{FileDisk, FileFault, Lock};
 use snap_disk::Disk;
-use snap_file_commands::dump::{DumpFault, document, read};
-use snap_file_commands::system::{
-    FirstFault, FolderReadFault, fail_at, fail_in, fail_of, files_in_order, first_faults,
-    open_telling, or_stop, print_whole, segment_files, stop_without_memory,
-};
-use snap_file_commands::{CommandFault, held_value};
 use snap_frame::SegmentValue;
-use snap_order::{DumpOptions, DumpSource, FileOrder, Status};
-use std::fmt::InlineText;
+use snap_order::{FileOrder, Status, fail_of, or_stop, stop_without_memory};
 
-/// Prints a dump, or nothing if it fails. It has every update that was acknowledged before its time, since that is
-/// taken before the values are requested.
-pub fn dump(rt: &HostRuntime, order: &DumpOptions<'_>) -> Result<Status, Status>
-    requires { IsDumpable order.now }
-{
-    let now = Timestamp::now(rt).map_err(|error| fail_of(rt, "the clock", &error))?;
-    // In RFC 3339 format, in UTC and cut to seconds.
-    let time = InlineText::<32>::of(format_args!("{now:.0}"));
-    let values = match order.holder {
-        DumpSource::Server { address } => fetch(rt, address, order)?,
-        DumpSource::Folder { folder } => folder_values(rt, folder)?,
-    };
-    let text = or_stop(rt, document(rt.alloc(), time.as_str(), &values))?;
-    // It is read back, so that a copy that no load would accept is noticed when it is made, not when it is needed.
+/// Prints the dump of these values at this time, or nothing if it fails. It is read back, so that a copy that no load
+/// would accept is noticed when it is made, not when it is needed.
+pub fn print_dump(rt: &HostRuntime, time: &str, values: &[SegmentValue]) -> Result<Status, Status> {
+    let text = or_stop(rt, document(rt.alloc(), time, values))?;
     match read(rt.alloc(), text.as_slice()) {
         Ok(_) => print_whole(rt, text.as_slice())?,
         Err(DumpFault::NoMemory) => return Err(stop_without_memory(rt)),
@@ -39,7 +26,7 @@ pub fn dump(rt: &HostRuntime, order: &DumpOptions<'_>) -> Result<Status, Status>
 }
 
 /// The values of a folder's files. All files stay locked until the last one is read, so the values are of one moment.
-fn folder_values(rt: &HostRuntime, folder: &str) -> Result<Vec<SegmentValue>, Status> {
+pub fn folder_values(rt: &HostRuntime, folder: &str) -> Result<Vec<SegmentValue>, Status> {
     let files = segment_files(rt, folder)?;
     match files_in_order(rt, folder, &files) {
         Ok(files) => {

@@ -1,10 +1,9 @@
 //! The tries of a call: when each begins, how long it may take, and why they failed.
 
-use crate::call_command::link_within;
-use crate::remedy::remedy_of;
-use crate::time_limit::{Course, LimitedStream, TimeLimit};
-use snap_file_commands::system::say_of;
-use snap_order::Status;
+use super::call_command::link_within;
+use super::remedy::remedy_of;
+use super::time_limit::{Course, LimitedStream, TimeLimit};
+use snap_order::{Status, say_of};
 use std::time::{Duration, Instant};
 use std::{io, thread};
 
