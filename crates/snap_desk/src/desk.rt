@@ -109,9 +109,8 @@ fn ask<R: Wait + Copy + Clock, M: Memory, D: Disk + Drop, H: UpdateObserver, J: 
         return Some(reply);
     }
     if may_store {
-        let stored = outbox.store(scanner, watch, segment, number, value.as_slice());
-        if stored.is_some() {
-            return stored;
+        if let Some(reply) = outbox.store(scanner, watch, segment, number, value.as_slice()) {
+            return Some(reply);
         }
     }
     let handed: Option<Sent<J>> = outbox.hand_over(segment, number, value, key);
