@@ -1,4 +1,4 @@
-//! The commands of a client on the system's sockets, clock and streams: [`call`] and [`watch`], and [`fetch`] for a dump.
+//! The commands of a client on the system's sockets, clock and streams: [`call`], [`watch`], and [`fetch`] for a dump.
 
 mod call_command;
 mod remedy;

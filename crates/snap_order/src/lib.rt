@@ -1,5 +1,5 @@
-//! The parsed command line of `snapd`, its exit statuses, the messages with which a command ends, and the advice about a
-//! file that was refused.
+//! The parsed command line of `snapd`, its exit statuses, the messages with which a command ends, and the advice about
+//! a file that was refused.
 //!
 //! It hands on the types that an order uses, the requests to a server and the limits of all layers.
 #![tactic(auto)]

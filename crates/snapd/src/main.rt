@@ -1,9 +1,9 @@
 //! The program `snapd`: runs the commands on the system's files, sockets, threads and streams.
 //!
 //! `snap_args` parses the arguments. The commands themselves are in `snap_file_commands` (files and folders),
-//! `snap_serve` (a server), `snap_client_commands` (a client) and `snap_script` (scripts). Those of a server and scripts
-//! are over any listener, reader and writer: this crate connects them to the system. A server's log goes to standard
-//! error (`snap_log`).
+//! `snap_serve` (a server), `snap_client_commands` (a client) and `snap_script` (scripts). Those of a server and of
+//! scripts are over any listener, reader and writer: this crate connects them to the system. A server's log goes to
+//! standard error (`snap_log`).
 #![tactic(auto)]
 
 ghost use Rattle.std.specs.Prelude.{◌≡◌, ◌<◌, ◌≤◌, length};
