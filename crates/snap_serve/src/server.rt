@@ -154,7 +154,6 @@ fn length_at<D: Disk>(devices: &Vec<D>, segment: usize) -> u64
 }
 
 /// Prints the report, listens and serves. Returns the number of connections served.
-#[tactic(auto, using(crate::proofs::Written::report_failed))]
 fn serve_opened<X, D, B, G, N, H, C, O, W>(
     rt: &X,
     alloc: Global,

@@ -1,9 +1,13 @@
 use Rattle.snap_frame.specs.declared.request.Request.TheVariants.{Update, Scan, Status, Part}
 use Rattle.snap_serve.specs.Serve.{addresses_of, site_at}
 use Rattle.snap_serve.proofs.Memories.{writers_of, scanners_of, serves_first}
-use Rattle.snap_serve.proofs.Written.{IsListening, ended_early, listen_failed, listening, served, served_failed}
+use Rattle.snap_serve.proofs.Written.{IsListening, ended_early, listen_failed, listening, report_failed, served}
+use Rattle.snap_serve.proofs.Written.{served_failed}
 use Rattle.snap_serve.proofs.server.serve_opened.Goals as goal
 use Rattle.snap_serve.proofs.server.serve_opened.Goals.{After-print_served}
+
+pub returns-in-Err : goal.returns-in-Err
+returns-in-Err g c = record { ends = report_failed _ _ _ _ _ c.in-Err.failure c.in-Err.ensures.failed }
 
 pub returns-in-Err-listen : goal.returns-in-Err-listen
 returns-in-Err-listen g c = record {
@@ -35,6 +39,13 @@ pub serve_memory-ended-requires-clause-memory : goal.serve_memory-ended-requires
 serve_memory-ended-requires-clause-memory g c = λ κs within. rw c.into_parts-writers.ensures.scanners
     (serves_first g.B.Listener.Listen.may_serve c.args.store.scanners.items c.requires.back.some_scanner
     c.requires.memory)
+
+pub serve_memory-ended-requires-clause-metrics : goal.serve_memory-ended-requires-clause-metrics
+serve_memory-ended-requires-clause-metrics g c = λ κs within. rw c.into_parts-writers.ensures.scanners
+    c.requires.metrics
+
+pub serve_memory-ended-requires-clause-note : goal.serve_memory-ended-requires-clause-note
+serve_memory-ended-requires-clause-note g c = λ κs within. c.requires.note
 
 -- it printed that it listens, and served
 listens : (g : _) (c : After-print_served g)
