@@ -169,26 +169,19 @@ where
     let Ok(services) = count_all(alloc, desks, metrics) else {
         return Err(RunFault::Server(ServerFault::NoMemory));
     };
-    match seen {
-        Some((service, observer)) => run_observed(
-            rt, alloc, listener, services, stores, service, observer, limits, gate, note, announce,
-            to,
-        ),
-        None => run(
-            rt, alloc, listener, services, stores, limits, gate, note, announce, to,
-        ),
-    }
+    run_observed(
+        rt, alloc, listener, services, stores, seen, limits, gate, note, announce, to,
+    )
 }
 
-/// Serves as [`run`] does, while the observer runs in a thread of its own, which ends once the server has ended.
+/// Serves as [`run`] does. If there is an observer, a thread of its own runs it, and ends once the server has ended.
 fn run_observed<X, L, S, B, M, O, G, N, T, A>(
     rt: &X,
     alloc: Global,
     listener: L,
     services: Vec<S>,
-    backgrounds: Vec<B>,
-    service: ReadOnlyService<M>,
-    observer: &O,
+    storers: Vec<B>,
+    seen: Option<(ReadOnlyService<M>, &O)>,
     limits: Limits,
     gate: &G,
     note: &N,
@@ -214,6 +207,11 @@ where
     ensures deaf { IfErr result (λ why. why ≡ RunFault.Server ServerFault.AcceptFailed → L.refuses listener) }
     ensures announced { Announced (A.announces announce.now) (A.fails announce.now) to.old result to.new }
 {
+    let Some((service, observer)) = seen else {
+        return run(
+            rt, alloc, listener, services, storers, limits, gate, note, announce, to,
+        );
+    };
     let (ended, _to) = thread::scope(
         thread::scope_env(),
         rt,
@@ -237,16 +235,7 @@ where
                 return (Err(RunFault::Server(ServerFault::NoThread)), to);
             }
             let ended = run(
-                rt,
-                alloc,
-                listener,
-                services,
-                backgrounds,
-                limits,
-                gate,
-                note,
-                announce,
-                to,
+                rt, alloc, listener, services, storers, limits, gate, note, announce, to,
             );
             observer.stop();
             (ended, to)

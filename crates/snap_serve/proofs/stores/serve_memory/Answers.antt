@@ -24,14 +24,8 @@ count_all-requires g c =
       | in-None w ↦ rw w.desks-is (let most = few.0 w.in-None.is in omega arith)
     ]
 
-pub returns-in-Some-seen-clause-accepted : goal.returns-in-Some-seen-clause-accepted
-returns-in-Some-seen-clause-accepted g c = rw c.new-listener.ensures at c.run_observed.ensures.accepted
+pub returns-clause-accepted : goal.returns-clause-accepted
+returns-clause-accepted g c = rw c.new-listener.ensures at c.run_observed.ensures.accepted
 
-pub returns-in-Some-seen-clause-deaf : goal.returns-in-Some-seen-clause-deaf
-returns-in-Some-seen-clause-deaf g c = rw c.new-listener.ensures at c.run_observed.ensures.deaf
-
-pub returns-in-None-seen-clause-accepted : goal.returns-in-None-seen-clause-accepted
-returns-in-None-seen-clause-accepted g c = rw c.new-listener.ensures at c.run.ensures.accepted
-
-pub returns-in-None-seen-clause-deaf : goal.returns-in-None-seen-clause-deaf
-returns-in-None-seen-clause-deaf g c = rw c.new-listener.ensures at c.run.ensures.deaf
+pub returns-clause-deaf : goal.returns-clause-deaf
+returns-clause-deaf g c = rw c.new-listener.ensures at c.run_observed.ensures.deaf
