@@ -223,8 +223,7 @@ fn with_command<'a>(
 
 /// The parser's form of an argument.
 fn arg_of<'a>(alloc: Global, word: &Word<'a>) -> Arg<'a>
-    ensures rule { rule_of result ≡ rule_in word.now }
-    ensures local { result.global ≡ false }
+    ensures { (rule_of result ≡ rule_in word.now) × (result.global ≡ false) }
 {
     let arg = Arg::new(alloc, word.name).help(word.help);
     let arg = match word.kind {

@@ -36,8 +36,7 @@ fn question(
         (word_of matches.now (codes "value")) (word_of matches.now (codes "after")) q) }
 {
     if words.len() == 2 && is(words[0], "put") {
-        let put = put(alloc, words[1], matches)?;
-        return Ok(CallRequest::Put(put));
+        return Ok(CallRequest::Put(put(alloc, words[1], matches)?));
     }
     if matches.get_str("value").is_some() || matches.get_str("after").is_some() {
         return Err(WordFault::Rule("--value and --after are for `put I` alone"));
@@ -60,8 +59,7 @@ fn plain_question(alloc: Global, words: &[&str]) -> Result<CallRequest, WordFaul
         return Ok(CallRequest::Health);
     }
     if words.len() == 2 && is(words[0], "part") {
-        let part = part(words[1])?;
-        return Ok(CallRequest::Request(part));
+        return Ok(CallRequest::Request(part(words[1])?));
     }
     if words.len() == 2 && is(words[0], "get") {
         let rule = "the segment to get is not a number from 0 to 15";
@@ -77,10 +75,7 @@ fn plain_question(alloc: Global, words: &[&str]) -> Result<CallRequest, WordFaul
 
 /// The rule that arguments break if they have the form of no request.
 fn form_rule(words: &[&str]) -> &'static str {
-    if words
-        .first()
-        .is_some_and(|name| is(*name, "put") || is(*name, "get"))
-    {
+    if matches!(words.first().copied(), Some("put" | "get")) {
         return "a put is `put I`, and a get `get I`, of one segment";
     }
     "the request is not `put I`, `get I`, `update I NUMBER HEX`, `scan`, `part MASK`, `status` or `health`"

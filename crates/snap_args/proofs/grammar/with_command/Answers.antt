@@ -10,9 +10,9 @@ loop-word-preserved c =
     let kept = c.loop-word.invariant in
     let arg = c.arg_of.ensures in
     record {
-      words = next_word _ _ c.args.words.now c.loop-word.word-index _ _ (omega arith) arg.rule (adds.shape arg.local)
+      words = next_word _ _ c.args.words.now c.loop-word.word-index _ _ (omega arith) arg.0 (adds.shape arg.1)
           ∙ kept.words;
-      local = rw (kept.local, arg.local) at adds.globals;
+      local = rw (kept.local, arg.1) at adds.globals;
       program = kept.program;
     }
 
