@@ -82,14 +82,10 @@ impl<S: Service + Drop, X: FactSource + Drop> Board<S, X> {
             Page::Style => Ok(PageAnswer::fixed(StatusCode::OK, ContentKind::Css, STYLE)),
             Page::Script => Ok(PageAnswer::fixed(StatusCode::OK, ContentKind::Script, SCRIPT)),
             Page::Live => Ok(PageAnswer::words(StatusCode::OK, WELL)),
-            Page::History => {
-                let text = self.surroundings.history().document(self.alloc)?;
-                PageAnswer::made(StatusCode::OK, ContentKind::Json, text)
-            }
+            Page::History => PageAnswer::json(self.surroundings.history().document(self.alloc)),
             Page::Scan => match self.service.answer(&snap_frame::Request::Scan, 0) {
                 Some(Reply::Snapshot(values)) => {
-                    let text = scan_document(self.alloc, &values)?;
-                    PageAnswer::made(StatusCode::OK, ContentKind::Json, text)
+                    PageAnswer::json(scan_document(self.alloc, &values))
                 }
                 reply => refuse(self.alloc, &reply),
             },
@@ -126,10 +122,7 @@ impl<S: Service + Drop, X: FactSource + Drop> Board<S, X> {
                 Ok(PageAnswer::words(StatusCode::SERVICE_UNAVAILABLE, words))
             }
             Page::Ready => Ok(PageAnswer::words(StatusCode::OK, WELL)),
-            Page::Status => {
-                let text = status_document(self.alloc, &statuses)?;
-                PageAnswer::made(StatusCode::OK, ContentKind::Json, text)
-            }
+            Page::Status => PageAnswer::json(status_document(self.alloc, &statuses)),
             Page::Metrics | Page::Stats => self.tell_metrics(page, &statuses),
             _ => unreachable!(),
         }
@@ -141,8 +134,7 @@ impl<S: Service + Drop, X: FactSource + Drop> Board<S, X> {
     {
         let facts = self.surroundings.facts(self.alloc, statuses)?;
         if let Page::Stats = page {
-            let text = figures_document(self.alloc, &facts)?;
-            return PageAnswer::made(StatusCode::OK, ContentKind::Json, text);
+            return PageAnswer::json(figures_document(self.alloc, &facts));
         }
         let text = metrics_text(self.alloc, &facts, &self.surroundings.usage())?;
         PageAnswer::made(StatusCode::OK, ContentKind::Metrics, text.into_bytes())

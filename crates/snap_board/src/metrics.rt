@@ -97,16 +97,20 @@ fn put_each(out: &mut MetricsText, name: &str, facts: &ServerFacts) {
 
 /// This number of one segment, if it is known.
 fn number(name: &str, facts: &ServerFacts, segment: usize) -> Option<Amount> {
-    let reading = facts.reading.segments.get(segment);
-    let status = facts.statuses.get(segment);
-    Some(match name {
-        "snapd_updates_total" => Amount(all(&reading?.stores), Whole),
-        "snapd_repeats_total" => Amount(reading?.repeats, Whole),
-        "snapd_segment_age_seconds" => Amount(facts.age(reading?)?, Millisecond),
-        "snapd_segment_number" => Amount(status?.number, Whole),
-        "snapd_segment_fenced" => Amount(u64::from(status?.is_fenced), Whole),
-        _ => return None,
-    })
+    if let Some(reading) = facts.reading.segments.get(segment) {
+        match name {
+            "snapd_updates_total" => return Some(Amount(all(&reading.stores), Whole)),
+            "snapd_repeats_total" => return Some(Amount(reading.repeats, Whole)),
+            "snapd_segment_age_seconds" => return Some(Amount(facts.age(reading)?, Millisecond)),
+            _ => {}
+        }
+    }
+    let status = facts.statuses.get(segment)?;
+    match name {
+        "snapd_segment_number" => Some(Amount(status.number, Whole)),
+        "snapd_segment_fenced" => Some(Amount(u64::from(status.is_fenced), Whole)),
+        _ => None,
+    }
 }
 
 /// The number of times in a histogram.

@@ -3,7 +3,7 @@ ghost use Rattle.std.specs.Prelude.{◌≡◌};
 ghost use Rattle.snap_board.specs.Paths.{page_of};
 
 /// A page of the server, named by its path.
-#[derive(Clone, Copy, PartialEq, Eq)]
+#[derive(Clone, Copy)]
 pub enum Page {
     /// `/`: the page for people.
     Home,

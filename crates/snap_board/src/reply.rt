@@ -1,5 +1,5 @@
 //! Answers, and the responses that carry them.
-ghost use Rattle.std.specs.Prelude.{◌≡◌, [], IfOk, OnOk};
+ghost use Rattle.std.specs.Prelude.{◌≡◌, [], IfOk, IsOkAnd, OnOk};
 ghost use Rattle.snap_board.specs.Pages.{HasContent};
 
 use bytes::Bytes;
@@ -65,6 +65,13 @@ impl PageAnswer {
         PageAnswer::fixed(status, ContentKind::Text, content)
     }
 
+    /// An answer with a document of JSON, if there was memory for that.
+    pub(crate) fn json(text: Result<Vec<u8>, AllocError>) -> Result<PageAnswer, AllocError>
+        ensures { IfOk result (λ a. (a.status ≡ 200) × IsOkAnd text (λ made. a.content ≡ made.items)) }
+    {
+        PageAnswer::made(StatusCode::OK, ContentKind::Json, text?)
+    }
+
     /// An answer with a text that was made for it.
     pub(crate) fn made(
         status: StatusCode,
@@ -99,8 +106,7 @@ fn add_headers(
     status: StatusCode,
     kind: ContentKind,
 ) -> Result<(), AllocError>
-    ensures status { response.new.status ≡ response.old.status }
-    ensures body { response.new.body ≡ response.old.body }
+    ensures { (response.new.status ≡ response.old.status) × (response.new.body ≡ response.old.body) }
 {
     let mut is_whole = add(response, header::CONTENT_TYPE, kind.value());
     let no_store = HeaderValue::from_static("no-store");
@@ -124,8 +130,7 @@ fn add_headers(
 
 /// Adds a header. Returns whether memory was enough.
 fn add(response: &mut Response, name: HeaderName, value: HeaderValue) -> bool
-    ensures status { response.new.status ≡ response.old.status }
-    ensures body { response.new.body ≡ response.old.body }
+    ensures { (response.new.status ≡ response.old.status) × (response.new.body ≡ response.old.body) }
 {
     response.add_header(name, value).is_ok()
 }
