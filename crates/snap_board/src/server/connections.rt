@@ -63,7 +63,7 @@ impl Connections {
 
     /// Closes a connection, if there is one.
     fn close(&mut self, key: usize) {
-        self.connections.try_remove(key);
+        drop(self.connections.try_remove(key));
     }
 
     /// Lets a connection take its steps, and drops it if it has ended.
