@@ -28,6 +28,7 @@ pub(crate) fn calling<'a>(
         question: question_of(alloc, matches)?,
     };
     if call.layout != OutputFormat::Lines && !call.question.lists_segments() {
+        drop(call);
         return Err(WordFault::Rule("--text and --json are for scan, part, status and health"));
     }
     Ok(call)
