@@ -216,7 +216,11 @@ fn with_command<'a>(
 {
     let mut command = Command::new(alloc, name).about(about).after_help(more);
     for word in words {
-        command = command.arg(arg_of(alloc, word))?;
+        let Ok(next) = command.arg(arg_of(alloc, word)) else {
+            drop(program);
+            return Err(AllocError);
+        };
+        command = next;
     }
     program?.subcommand(command)
 }

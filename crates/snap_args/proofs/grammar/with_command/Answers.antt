@@ -6,7 +6,7 @@ use Rattle.snap_args.proofs.grammar.with_command.Goals as goal
 
 pub loop-word-preserved : goal.loop-word-preserved
 loop-word-preserved c =
-    let adds = c.in_ok-command.ensures in
+    let adds = c.in-Ok.ensures in
     let kept = c.loop-word.invariant in
     let arg = c.arg_of.ensures in
     record {
