@@ -52,8 +52,8 @@ pub fn fail_twice(rt: &HostRuntime, first: &str, second: &str) -> Status {
 pub fn fail_in(rt: &HostRuntime, trouble: &FolderReadFault<'_>) -> Status {
     match trouble {
         FolderReadFault::Path { file, fault } => fail_at(rt, file, fault),
-        FolderReadFault::NoMemory(_) => stop_without_memory(rt),
-        why => refuse(rt, why),
+        FolderReadFault::Unformatted(why) | FolderReadFault::Other(why) => refuse(rt, why),
+        FolderReadFault::NoMemory => stop_without_memory(rt),
     }
 }
 

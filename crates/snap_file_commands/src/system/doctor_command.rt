@@ -113,9 +113,8 @@ fn report_segment(
     let Err(reason) = try_as_server(rt, file) else {
         return Ok(whole);
     };
-    tell(rt, file, &format_args!("you can't serve it: {reason}"), ())?;
-    report_remedy(rt, file, &reason)?;
-    Ok(FileState::Ill)
+    let why = format_args!("you can't serve it: {reason}");
+    report_remedy(rt, file, &why, Some(&reason), FileState::Ill)
 }
 
 /// Prints this of the file or folder with this name, and returns the value.
@@ -126,12 +125,22 @@ fn tell<T: Display, V: Copy>(rt: &HostRuntime, name: &str, what: &T, value: V) -
     Ok(value)
 }
 
-/// Prints the advice for this reason of the system, if there is any.
-fn report_remedy(rt: &HostRuntime, path: &str, reason: &io::Error) -> io::Result<()> {
-    match remedy_of(rt, path, reason, None) {
-        Some(remedy) => rt.println(&remedy),
-        None => Ok(()),
+/// Prints this of the file or folder at this path, with advice if the system gave this reason and there is any, and
+/// returns the value.
+fn report_remedy<T: Display, V: Copy>(
+    rt: &HostRuntime,
+    path: &str,
+    what: &T,
+    reason: Option<&io::Error>,
+    value: V,
+) -> io::Result<V> {
+    tell(rt, path, what, ())?;
+    if let Some(reason) = reason {
+        if let Some(remedy) = remedy_of(rt, path, reason, None) {
+            rt.println(&remedy)?;
+        }
     }
+    Ok(value)
 }
 
 /// Reports what is wrong with a file or the folder, and returns the value.
@@ -142,15 +151,18 @@ fn report_trouble<V: Copy>(
 ) -> io::Result<V> {
     match trouble {
         FolderReadFault::Path { file, fault } => {
-            tell(rt, file, fault, ())?;
-            if let FileFault::System(reason) = fault {
-                report_remedy(rt, file, reason)?;
-            }
+            let reason = match fault {
+                FileFault::System(reason) => Some(reason),
+                _ => None,
+            };
+            report_remedy(rt, file, fault, reason, value)
         }
-        FolderReadFault::NoMemory(_) => return Err(io::Error::from(ErrorKind::OutOfMemory)),
-        why => rt.println(why)?,
+        FolderReadFault::Unformatted(why) | FolderReadFault::Other(why) => {
+            rt.println(why)?;
+            Ok(value)
+        }
+        FolderReadFault::NoMemory => Err(io::Error::from(ErrorKind::OutOfMemory)),
     }
-    Ok(value)
 }
 
 /// Reports the type of the folder's file system, and whether locks work there. They are tried on a
@@ -185,11 +197,11 @@ fn report_stores(rt: &HostRuntime, folder: &str) -> io::Result<bool> {
         Ok(times) => times,
         Err(fault) => {
             let why = format_args!("nothing could be stored: {fault}");
-            tell(rt, folder, &why, ())?;
-            if let MeasureFault::System(reason) = &fault {
-                report_remedy(rt, folder, reason)?;
-            }
-            return Ok(false);
+            let reason = match &fault {
+                MeasureFault::System(reason) => Some(reason),
+                _ => None,
+            };
+            return report_remedy(rt, folder, &why, reason, false);
         }
     };
     let (median, late) = (median.as_micros(), late.as_micros());

@@ -1,5 +1,5 @@
 //! The command `dump`: the values of a folder, and the document of values from wherever they are.
-ghost use Rattle.std.specs.Prelude.{◌≡◌, ◌<◌, ◌≤◌, length};
+ghost use Rattle.std.specs.Prelude.{◌≡◌, ◌<◌, ◌≤◌, ◌-◌, ◌^◌, length};
 ghost use Rattle.snap_order.specs.Limits.{MAX_COUNT};
 
 use super::complaint::{fail_at, fail_in, print_whole};
@@ -70,10 +70,25 @@ fn read_file<'f>(
     requires below { index < count }
     requires few { count ≤ MAX_COUNT }
 {
-    let disk = match open_telling(rt, file, Lock::Shared, Some(told)) {
-        Ok(disk) => disk,
-        Err(fault) => return Err(fail_at_locked(rt, file, &fault)),
-    };
+    match open_telling(rt, file, Lock::Shared, Some(told)) {
+        Ok(disk) => value_of(rt, disk, file, index, count, told),
+        Err(fault) => Err(fail_at_locked(rt, file, &fault)),
+    }
+}
+
+/// The device with its value. It is that of the file at this path.
+fn value_of<D: Disk + Drop>(
+    rt: &HostRuntime,
+    disk: D,
+    file: &str,
+    index: u8,
+    count: u8,
+    told: &FirstFault,
+) -> Result<(D, SegmentValue), Status>
+    requires below { index < count }
+    requires few { count ≤ MAX_COUNT }
+    requires headroom { D.failure_count disk < 2 ^ 64 - 1 }
+{
     let len = disk.len();
     match held_value(rt.alloc(), index, count, disk) {
         (disk, Ok(value)) => Ok((disk, value)),

@@ -56,15 +56,15 @@ pub fn take_file<'a>(
 ) -> Result<FileDisk<'a, HostRuntime>, Status>
     ensures { IfOk result IsUncalled }
 {
-    let opened = match *order {
-        FileOrder::Format { .. } => FileDisk::create(rt, file),
-        FileOrder::Put { .. } => FileDisk::open(rt, file, Lock::Exclusive),
-        FileOrder::Get { .. } | FileOrder::Check { .. } | FileOrder::Slot { .. } => {
-            FileDisk::open(rt, file, Lock::Shared)
-        }
+    let lock = match *order {
+        FileOrder::Format { .. } => None,
+        FileOrder::Put { .. } => Some(Lock::Exclusive),
+        FileOrder::Get { .. } | FileOrder::Check { .. } | FileOrder::Slot { .. } => Some(
+            Lock::Shared,
+        ),
     };
-    match opened {
-        Ok(disk) => Ok(disk.telling(&told.0)),
+    match open_as(rt, file, lock, Some(told)) {
+        Ok(disk) => Ok(disk),
         Err(FileFault::WrongFile { len }) => {
             let refused = CommandFault::Refused(Refusal::WrongFile);
             let ended = refused.report_of(rt.alloc(), order, len, told, &mut rt.stderr());
@@ -86,7 +86,23 @@ pub fn open_telling<'a>(
 ) -> Result<FileDisk<'a, HostRuntime>, FileFault>
     ensures { IfOk result IsUncalled }
 {
-    let disk = FileDisk::open(rt, file, lock)?;
+    open_as(rt, file, Some(lock), told)
+}
+
+/// Opens the file at this path as a device with this lock, or makes it if there is none. Only here a file is opened,
+/// since each function that calls the file's own methods takes seconds to prove.
+pub fn open_as<'a>(
+    rt: &'a HostRuntime,
+    file: &'a str,
+    lock: Option<Lock>,
+    told: Option<&'a FirstFault>,
+) -> Result<FileDisk<'a, HostRuntime>, FileFault>
+    ensures { IfOk result IsUncalled }
+{
+    let disk = match lock {
+        Some(lock) => FileDisk::open(rt, file, lock)?,
+        None => FileDisk::create(rt, file)?,
+    };
     match told {
         Some(told) => Ok(disk.telling(&told.0)),
         None => Ok(disk),
@@ -111,12 +127,12 @@ pub fn take_pair<'a>(
 ) -> Result<(FileDisk<'a, HostRuntime>, FileDisk<'a, HostRuntime>), Status>
     ensures { IfOk result (λ pair. IsUncalled pair.0 × IsUncalled pair.1) }
 {
-    let old = match FileDisk::open(rt, old_path, Lock::Shared) {
-        Ok(old) => old.telling(&told_old.0),
+    let old = match open_as(rt, old_path, Some(Lock::Shared), Some(told_old)) {
+        Ok(old) => old,
         Err(fault) => return Err(fail_at(rt, old_path, &fault)),
     };
-    let fault = match FileDisk::create(rt, new_path) {
-        Ok(new) => return Ok((old, new.telling(&told_new.0))),
+    let fault = match open_as(rt, new_path, None, Some(told_new)) {
+        Ok(new) => return Ok((old, new)),
         Err(fault) => fault,
     };
     let (len, id) = (old.len(), old.id());

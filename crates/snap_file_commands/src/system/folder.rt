@@ -8,7 +8,7 @@ ghost use Rattle.snap_order.specs.Limits.{MAX_COUNT};
 
 use super::complaint::fail_at_folder;
 use super::files::{FirstFault, open_telling};
-use super::folder_refusal::FolderReadFault;
+use super::folder_refusal::{FolderReadFault, no_segment, other, unformatted};
 use crate::{FolderFault, SegmentPlace, file_name, is_segment_name, order_files};
 use snap_devices::{Lock, sync_folder_of};
 use snap_disk::{Disk, Refusal};
@@ -122,8 +122,8 @@ pub fn contents_of<'f>(
             let number = findings.answer.map(|found| found.number);
             Ok((SegmentPlace { index, count }, number))
         }
-        Header::Closed => Err(FolderReadFault::Unformatted { folder, file }),
-        Header::Wrong => Err(FolderReadFault::NoSegment { folder, file }),
+        Header::Closed => Err(unformatted(rt.alloc(), folder, file)),
+        Header::Wrong => Err(other(no_segment(rt.alloc(), folder, file))),
     }
 }
 
@@ -140,62 +140,79 @@ pub fn findings_of<'f>(
     };
     match check(&mut disk) {
         Ok(findings) => Ok(findings),
-        Err(Refusal::DeviceFailed) => match told.text(rt.alloc()) {
-            Some(reason) => Err(FolderReadFault::Failed { file, reason }),
-            None => Err(FolderReadFault::NoMemory(AllocError)),
-        },
-        Err(_) => Err(match disk.len() {
-            0 => FolderReadFault::Unformatted { folder, file },
-            OLD_FILE_LEN => FolderReadFault::OldFormat { folder, file },
-            _ => FolderReadFault::NoSegment { folder, file },
-        }),
+        Err(why) => Err(fault_at(rt.alloc(), folder, file, why, disk.len(), &told)),
     }
+}
+
+/// Why the file at this path couldn't be checked: it was refused so, and has `len` bytes.
+fn fault_at<'f>(
+    alloc: Global,
+    folder: &str,
+    file: &str,
+    why: Refusal,
+    len: u64,
+    told: &FirstFault,
+) -> FolderReadFault<'f> {
+    let message = match (why, len) {
+        (Refusal::DeviceFailed, _) => match told.text(alloc) {
+            Some(reason) => {
+                format!(in alloc; "{file}: {reason}: look after its disk, and start again")
+            }
+            None => Err(AllocError),
+        },
+        (_, 0) => return unformatted(alloc, folder, file),
+        (_, OLD_FILE_LEN) => format!(in alloc;
+            "{file}: it has the length of the old format: carry it over with snapd migrate {file} NEW, and move it \
+                out of {folder}"
+        ),
+        _ => no_segment(alloc, folder, file),
+    };
+    other(message)
 }
 
 /// The fault of the files, if their headers have these places.
 fn trouble_of<'f>(
     alloc: Global,
-    folder: &'f str,
-    files: &'f [String],
+    folder: &str,
+    files: &[String],
     places: &[SegmentPlace],
     fault: FolderFault,
 ) -> FolderReadFault<'f>
     requires { IsFaultOf places.now fault }
 {
-    match fault {
-        FolderFault::Empty => FolderReadFault::NoFiles { folder },
-        FolderFault::NoPlace { file } => FolderReadFault::NoSegment {
-            folder,
-            file: path_at(folder, files, file),
-        },
-        FolderFault::OtherCount { file } => FolderReadFault::OtherCount {
-            folder,
-            first: path_at(folder, files, 0),
-            first_count: place_at(places, 0).count,
-            file: path_at(folder, files, file),
-            count: place_at(places, file).count,
-        },
+    let message = match fault {
+        FolderFault::Empty => format!(in alloc;
+            "{folder}: it has no segment file: make them with snapd init {folder} --count N"
+        ),
+        FolderFault::NoPlace { file } => no_segment(alloc, folder, path_at(folder, files, file)),
+        FolderFault::OtherCount { file: at } => {
+            let (first, first_count) = (path_at(folder, files, 0), place_at(places, 0).count);
+            let (file, count) = (path_at(folder, files, at), place_at(places, at).count);
+            format!(in alloc;
+                "{file}: it is of {count} segments, and {first} of {first_count}: move the one that doesn't belong \
+                    here out of {folder}"
+            )
+        }
         FolderFault::Twice { first, second } => {
             let SegmentPlace { index, count } = place_at(places, second);
-            FolderReadFault::Twice {
-                folder,
-                first: path_at(folder, files, first),
-                file: path_at(folder, files, second),
-                index,
-                count,
-            }
+            let (first, file) = (
+                path_at(folder, files, first),
+                path_at(folder, files, second),
+            );
+            format!(in alloc;
+                "{file}: it is segment {index} of {count}, as {first} is: move one of them out of {folder}"
+            )
         }
         FolderFault::Missing { index, count } => match segment_path(alloc, folder, index) {
-            Ok(file) => FolderReadFault::Missing {
-                folder,
-                file,
-                index,
-                count,
-            },
-            Err(failure) => FolderReadFault::NoMemory(failure),
+            Ok(file) => format!(in alloc;
+                "{folder}: segment {index} of {count} is missing: bring its file back, or make a new and empty one \
+                    with snapd format {file} --index {index} --count {count}"
+            ),
+            Err(failure) => Err(failure),
         },
-        FolderFault::NoMemory => FolderReadFault::NoMemory(AllocError),
-    }
+        FolderFault::NoMemory => Err(AllocError),
+    };
+    other(message)
 }
 
 /// The path of one of the folder's files.

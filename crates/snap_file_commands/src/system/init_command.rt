@@ -7,11 +7,11 @@ use super::files::{FirstFault, take_file};
 use super::folder::{
     findings_of, index_of_name, make_folder, path_at, segment_files, segment_path,
 };
-use super::folder_refusal::FolderReadFault;
+use super::folder_refusal::{FolderReadFault, other};
 use crate::{finish, found, is_further, sign_of_loss};
 use snap_devices::FileFault;
 use snap_disk::Disk;
-use snap_order::{FileOrder, InitOptions, Status, or_stop, refuse};
+use snap_order::{FileOrder, InitOptions, Status, or_stop, refuse, stop_without_memory};
 use snap_segment::{Findings, Header, Slot};
 use std::alloc::{AllocError, Global};
 use std::path::Path;
@@ -25,78 +25,75 @@ pub fn init(rt: &HostRuntime, order: &InitOptions<'_>) -> Result<Status, Status>
     let folder = order.folder;
     make_folder(rt, folder)?;
     let files = segment_files(rt, folder)?;
-    let survey = match survey_of(rt, folder, order.count, &files) {
+    let (kept, numbers) = match survey_of(rt, folder, order.count, &files) {
         Ok(survey) => survey,
         Err(trouble) => return Err(fail_in(rt, &trouble)),
     };
-    let lacking = survey.kept.iter().filter(|file| file.is_none()).count();
-    match sign_of_loss(lacking, &survey.numbers) {
+    let lacking = kept.iter().filter(|file| file.is_none()).count();
+    match sign_of_loss(lacking, &numbers) {
         Some(at) if !order.is_missing_empty => {
-            let (lacking, count) = (survey.lacking.as_str(), order.count);
-            let (sign, number) = (path_at(folder, &files, at), survey.numbers[at]);
-            let why = format_args!(
-                "{lacking}: missing or never formatted, though {sign} holds number {number}: restore what is missing \
-                    from a backup, or make it new and empty with snapd init {folder} --count {count} --missing-empty"
-            );
-            Err(refuse(rt, &why))
+            let sign = path_at(folder, &files, at);
+            match message_of_loss(rt.alloc(), order, &kept, sign, numbers[at]) {
+                Ok(why) => Err(refuse(rt, &why)),
+                Err(_) => Err(stop_without_memory(rt)),
+            }
         }
-        _ => found_all(rt, order, &survey.kept),
+        _ => found_all(rt, order, &kept),
     }
 }
 
-/// The state of a folder's files before any is made.
-#[derive(Drop)]
-struct Survey<'f> {
-    /// The file of each segment in order, if it has one.
-    kept: Vec<Option<&'f str>>,
-    /// The paths of the missing files, which are to be made, with a comma between them.
-    lacking: String,
-    /// The greatest number in each file of the folder.
-    numbers: Vec<u64>,
-}
-
-/// Checks all files of the folder.
+/// Checks all files of the folder. Returns the file of each segment in order, if it has one, and the greatest number in
+/// each file of the folder.
 fn survey_of<'f>(
     rt: &HostRuntime,
     folder: &'f str,
     count: u8,
     files: &'f [String],
-) -> Result<Survey<'f>, FolderReadFault<'f>>
+) -> Result<(Vec<Option<&'f str>>, Vec<u64>), FolderReadFault<'f>>
     requires { count ≤ MAX_COUNT }
 {
-    for file in files {
-        let file = file.as_str();
-        let name = Path::new(file).file_name().unwrap_or("");
-        if is_further(rt.alloc(), name, count)? {
-            return Err(FolderReadFault::Further {
-                folder,
-                file,
-                count,
-            });
-        }
-    }
+    check_names(rt.alloc(), folder, count, files)?;
     let mut kept: Vec<Option<&'f str>> = vec![in rt.alloc(); None; usize::from(count)]?;
     let mut numbers = Vec::with_capacity(rt.alloc(), files.len())?;
     for file in files {
         numbers.push(look_at(rt, folder, count, file.as_str(), &mut kept)?)?;
     }
-    let lacking = lacking_files(rt.alloc(), folder, count, &kept)?;
-    Ok(Survey {
-        kept,
-        lacking,
-        numbers,
-    })
+    Ok((kept, numbers))
 }
 
-/// The paths of the files that are missing, with a comma between them.
-fn lacking_files(
+/// Checks that no file has the name of a segment `count` or above.
+fn check_names<'f>(
     alloc: Global,
     folder: &str,
     count: u8,
-    kept: &[Option<&str>],
-) -> Result<String, AllocError>
+    files: &[String],
+) -> Result<(), FolderReadFault<'f>>
     requires { count ≤ MAX_COUNT }
 {
+    for file in files {
+        let file = file.as_str();
+        let name = Path::new(file).file_name().unwrap_or("");
+        if is_further(alloc, name, count)? {
+            return Err(other(format!(in alloc;
+                "{file}: it is none of {count} segments: give the count that {folder} was made with, or move it out \
+                    of there"
+            )));
+        }
+    }
+    Ok(())
+}
+
+/// Which files are missing, though one holds this number, which is a sign that they were lost.
+fn message_of_loss(
+    alloc: Global,
+    order: &InitOptions<'_>,
+    kept: &[Option<&str>],
+    sign: &str,
+    number: u64,
+) -> Result<String, AllocError>
+    requires { order.now.count ≤ MAX_COUNT }
+{
+    let (folder, count) = (order.folder, order.count);
     let mut lacking = String::new(alloc);
     for index in 0..count {
         if file_in(kept, index).is_none() {
@@ -106,7 +103,10 @@ fn lacking_files(
             lacking.push_str(segment_path(alloc, folder, index)?.as_str())?;
         }
     }
-    Ok(lacking)
+    format!(in alloc;
+        "{lacking}: missing or never formatted, though {sign} holds number {number}: restore what is missing from a \
+            backup, or make it new and empty with snapd init {folder} --count {count} --missing-empty"
+    )
 }
 
 /// The file of this segment, if it has one.
@@ -131,15 +131,15 @@ fn look_at<'f>(
     let index = match findings_of(rt, folder, file) {
         Ok(findings) => {
             number = greatest_number(&findings);
-            segment_by(count, file, named, findings.header, number)?
+            segment_by(rt.alloc(), count, file, named, findings.header, number)?
         }
         Err(trouble) => match trouble {
-            FolderReadFault::Unformatted { .. } => None,
+            FolderReadFault::Unformatted(_) => None,
             FolderReadFault::Path {
                 fault: FileFault::InUse(_),
                 ..
             }
-            | FolderReadFault::NoMemory(_) => return Err(trouble),
+            | FolderReadFault::NoMemory => return Err(trouble),
             // Any other fault is reported later, in its turn.
             _ => named,
         },
@@ -156,19 +156,19 @@ fn look_at<'f>(
 /// The segment whose file it is: by its name, or by its header if it hasn't the name of a segment. `None` if it was
 /// never formatted, so that it is made.
 fn segment_by<'f>(
+    alloc: Global,
     wanted: u8,
-    file: &'f str,
+    file: &str,
     named: Option<u8>,
     header: Header,
     number: u64,
 ) -> Result<Option<u8>, FolderReadFault<'f>> {
     match header {
         Header::Open { count, .. } if count != wanted => {
-            Err(FolderReadFault::AnotherCount {
-                file,
-                count,
-                wanted,
-            })
+            Err(other(format!(in alloc;
+                "{file}: it is of {count} segments, and --count is {wanted}: give --count {count}, or move it out of \
+                    there; a folder of more is made of a dump, by snapd load"
+            )))
         }
         Header::Open { index, .. } if named.is_none() => Ok(Some(index)),
         Header::Closed if number == 0 => Ok(None),

@@ -1,8 +1,8 @@
 //! Measures how long a store takes in a folder.
-ghost use Rattle.snap_devices.specs.FileDisk.{IsUncalled};
+ghost use Rattle.std.specs.Prelude.{◌<◌, ◌-◌, ◌^◌};
 
-use super::files::FirstFault;
-use snap_devices::{FileDisk, FileFault};
+use super::files::{FirstFault, open_as};
+use snap_devices::FileFault;
 use snap_disk::Disk;
 use snap_segment::{Segment, format};
 use snap_slot::FILE_LEN;
@@ -51,8 +51,8 @@ pub fn measure(rt: &HostRuntime, folder: &str) -> Result<(Duration, Duration), M
     let own = own_path(rt, folder)?;
     let path = own.as_str();
     let told = FirstFault::new();
-    let disk = match FileDisk::create(rt, path) {
-        Ok(disk) => disk.telling(&told.0),
+    let disk = match open_as(rt, path, None, Some(&told)) {
+        Ok(disk) => disk,
         Err(fault) => {
             let _ = fs::remove_file(rt, path);
             return Err(MeasureFault::File(fault));
@@ -103,15 +103,12 @@ fn remove_left(rt: &HostRuntime, path: &str) {
 }
 
 /// Formats the file, and stores the values in it. Returns the file, which is still locked, with the times.
-fn store_all<'p>(
-    rt: &'p HostRuntime,
-    mut disk: FileDisk<'p, HostRuntime>,
+fn store_all<D: Disk>(
+    rt: &HostRuntime,
+    mut disk: D,
     told: &FirstFault,
-) -> (
-    FileDisk<'p, HostRuntime>,
-    Result<(Duration, Duration), MeasureFault>,
-)
-    requires { IsUncalled disk }
+) -> (D, Result<(Duration, Duration), MeasureFault>)
+    requires { D.failure_count disk < 2 ^ 64 - 1 }
 {
     if format(&mut disk, 0, 1).is_err() {
         return (disk, Err(MeasureFault::Store(told.text(rt.alloc()))));
