@@ -8,34 +8,49 @@ use snap_order::{Exit, FileOrder, Status};
 use snap_slot::SlotFault;
 use snap_stream::{SystemReason, complain, complain_of_refusal, complain_twice};
 use std::alloc::{AllocError, Global};
+use std::fmt::{self, Display, Formatter};
 use std::io::{self, Write};
-use thiserror::Error;
 
-/// Why a command ended early. Its text is what standard error gets after `snapd: `.
-#[derive(Debug, Drop, Error)]
+/// Why a command ended early.
+#[derive(Drop)]
 pub enum CommandFault {
     /// A refusal by number.
-    #[error("refused {0}")]
     Refused(Refusal),
     /// Standard input failed.
-    #[error("standard input: {0}")]
     Input(io::Error),
     /// Standard output failed.
-    #[error("standard output: {0}")]
     Output(io::Error),
     /// The value is stored, and only the line that says so failed.
-    #[error("stored {number}, but standard output: {error}")]
     Unsaid {
         number: u64,
         error: io::Error,
     },
     /// The slot that was asked for holds no value.
-    #[error("{file}: slot {slot} holds no value, bad {flaw}: try another slot")]
     NoValue {
         file: String,
         slot: u8,
         flaw: SlotFault,
     },
+}
+
+/// What standard error gets after `snapd: `.
+impl Display for CommandFault {
+    fn fmt<W: fmt::Write>(&self, f: &mut Formatter<W>) -> fmt::Result {
+        match self {
+            CommandFault::Refused(why) => write!(f, "refused {why}"),
+            CommandFault::Input(error) => write!(f, "standard input: {error}"),
+            CommandFault::Output(error) => write!(f, "standard output: {error}"),
+            CommandFault::Unsaid { number, error } => {
+                write!(f, "stored {number}, but standard output: {error}")
+            }
+            CommandFault::NoValue { file, slot, flaw } => {
+                write!(
+                    f,
+                    "{file}: slot {slot} holds no value, bad {flaw}: try another slot"
+                )
+            }
+        }
+    }
 }
 
 impl From<Refusal> for CommandFault {

@@ -63,17 +63,16 @@ fn read_value(alloc: Global, reader: &mut Reader<'_>) -> Result<SegmentValue, Du
 
 /// The bytes of a value: its text, or base64.
 fn read_bytes(alloc: Global, reader: &mut Reader<'_>) -> Result<Vec<u8>, DumpFault> {
-    match (reader.next(), reader.next()) {
-        (Some(Token::Key("text")), Some(Token::String(text))) => {
-            Ok(Vec::from_slice(alloc, text.as_bytes())?)
-        }
-        (Some(Token::Key("base64")), Some(Token::String(text))) => {
-            match STANDARD.decode(alloc, text.as_bytes()) {
-                Ok(bytes) => Ok(bytes),
-                Err(DecodeAllocError::OutOfMemory) => Err(DumpFault::NoMemory),
-                Err(_) => Err(DumpFault::Foreign),
-            }
-        }
+    let (Some(Token::Key(form)), Some(Token::String(text))) = (reader.next(), reader.next()) else {
+        return Err(DumpFault::Foreign);
+    };
+    match form {
+        "text" => Ok(Vec::from_slice(alloc, text.as_bytes())?),
+        "base64" => match STANDARD.decode(alloc, text.as_bytes()) {
+            Ok(bytes) => Ok(bytes),
+            Err(DecodeAllocError::OutOfMemory) => Err(DumpFault::NoMemory),
+            Err(_) => Err(DumpFault::Foreign),
+        },
         _ => Err(DumpFault::Foreign),
     }
 }

@@ -133,41 +133,28 @@ pub fn findings_of<'f>(
     folder: &'f str,
     file: &'f str,
 ) -> Result<Findings, FolderReadFault<'f>> {
-    let told = FirstFault::new();
+    let (alloc, told) = (rt.alloc(), FirstFault::new());
     let mut disk = match open_telling(rt, file, Lock::Shared, Some(&told)) {
         Ok(disk) => disk,
         Err(fault) => return Err(FolderReadFault::Path { file, fault }),
     };
     match check(&mut disk) {
         Ok(findings) => Ok(findings),
-        Err(why) => Err(fault_at(rt.alloc(), folder, file, why, disk.len(), &told)),
+        Err(why) => Err(other(match (why, disk.len()) {
+            (Refusal::DeviceFailed, _) => match told.text(alloc) {
+                Some(reason) => {
+                    format!(in alloc; "{file}: {reason}: look after its disk, and start again")
+                }
+                None => Err(AllocError),
+            },
+            (_, 0) => return Err(unformatted(alloc, folder, file)),
+            (_, OLD_FILE_LEN) => format!(in alloc;
+                "{file}: it has the length of the old format: carry it over with snapd migrate {file} NEW, and move \
+                    it out of {folder}"
+            ),
+            _ => no_segment(alloc, folder, file),
+        })),
     }
-}
-
-/// Why the file at this path couldn't be checked: it was refused so, and has `len` bytes.
-fn fault_at<'f>(
-    alloc: Global,
-    folder: &str,
-    file: &str,
-    why: Refusal,
-    len: u64,
-    told: &FirstFault,
-) -> FolderReadFault<'f> {
-    let message = match (why, len) {
-        (Refusal::DeviceFailed, _) => match told.text(alloc) {
-            Some(reason) => {
-                format!(in alloc; "{file}: {reason}: look after its disk, and start again")
-            }
-            None => Err(AllocError),
-        },
-        (_, 0) => return unformatted(alloc, folder, file),
-        (_, OLD_FILE_LEN) => format!(in alloc;
-            "{file}: it has the length of the old format: carry it over with snapd migrate {file} NEW, and move it \
-                out of {folder}"
-        ),
-        _ => no_segment(alloc, folder, file),
-    };
-    other(message)
 }
 
 /// The fault of the files, if their headers have these places.

@@ -4,8 +4,8 @@ use snap_devices::FileFault;
 use std::alloc::{AllocError, AllocFailed, Global};
 
 /// The reason why a folder's files can't be used: they can't be opened, or aren't the segments of one server, or not
-/// those that are to be made. Its message names a file or the folder, and says what to do. It is made with the fault:
-/// one `Display` of all messages takes longer to prove than all of these.
+/// those that are to be made. Its message names a file or the folder, and says what to do. It is made with the fault,
+/// since a `Display` of all messages takes longer to prove.
 #[derive(Drop)]
 pub enum FolderReadFault<'f> {
     /// The file at this path couldn't be opened.

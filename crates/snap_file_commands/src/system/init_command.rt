@@ -11,7 +11,7 @@ use super::folder_refusal::{FolderReadFault, other};
 use crate::{finish, found, is_further, sign_of_loss};
 use snap_devices::FileFault;
 use snap_disk::Disk;
-use snap_order::{FileOrder, InitOptions, Status, or_stop, refuse, stop_without_memory};
+use snap_order::{FileOrder, InitOptions, Status, or_stop, refuse};
 use snap_segment::{Findings, Header, Slot};
 use std::alloc::{AllocError, Global};
 use std::path::Path;
@@ -33,10 +33,8 @@ pub fn init(rt: &HostRuntime, order: &InitOptions<'_>) -> Result<Status, Status>
     match sign_of_loss(lacking, &numbers) {
         Some(at) if !order.is_missing_empty => {
             let sign = path_at(folder, &files, at);
-            match message_of_loss(rt.alloc(), order, &kept, sign, numbers[at]) {
-                Ok(why) => Err(refuse(rt, &why)),
-                Err(_) => Err(stop_without_memory(rt)),
-            }
+            let why = message_of_loss(rt.alloc(), order, &kept, sign, numbers[at]);
+            Err(refuse(rt, &or_stop(rt, why)?))
         }
         _ => found_all(rt, order, &kept),
     }
@@ -131,7 +129,19 @@ fn look_at<'f>(
     let index = match findings_of(rt, folder, file) {
         Ok(findings) => {
             number = greatest_number(&findings);
-            segment_by(rt.alloc(), count, file, named, findings.header, number)?
+            // By its name, or by its header if it hasn't the name of a segment.
+            match findings.header {
+                Header::Open { count: found, .. } if found != count => {
+                    return Err(other(format!(in rt.alloc();
+                        "{file}: it is of {found} segments, and --count is {count}: give --count {found}, or move it \
+                            out of there; a folder of more is made of a dump, by snapd load"
+                    )));
+                }
+                Header::Open { index, .. } if named.is_none() => Some(index),
+                // It was never formatted, so it is made.
+                Header::Closed if number == 0 => None,
+                _ => named,
+            }
         }
         Err(trouble) => match trouble {
             FolderReadFault::Unformatted(_) => None,
@@ -151,29 +161,6 @@ fn look_at<'f>(
         }
     }
     Ok(number)
-}
-
-/// The segment whose file it is: by its name, or by its header if it hasn't the name of a segment. `None` if it was
-/// never formatted, so that it is made.
-fn segment_by<'f>(
-    alloc: Global,
-    wanted: u8,
-    file: &str,
-    named: Option<u8>,
-    header: Header,
-    number: u64,
-) -> Result<Option<u8>, FolderReadFault<'f>> {
-    match header {
-        Header::Open { count, .. } if count != wanted => {
-            Err(other(format!(in alloc;
-                "{file}: it is of {count} segments, and --count is {wanted}: give --count {count}, or move it out of \
-                    there; a folder of more is made of a dump, by snapd load"
-            )))
-        }
-        Header::Open { index, .. } if named.is_none() => Ok(Some(index)),
-        Header::Closed if number == 0 => Ok(None),
-        _ => Ok(named),
-    }
 }
 
 /// The greatest number in a slot, or 0 if no slot has one.

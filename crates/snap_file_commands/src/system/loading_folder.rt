@@ -27,7 +27,13 @@ impl LoadingFolder {
     /// that of an interrupted load, and removes its files; if one of them isn't a load's, none is removed. If the
     /// wanted folder isn't empty, nothing is changed. Prints the reason if it fails.
     pub fn take(rt: &HostRuntime, wanted: &str) -> Result<LoadingFolder, Status> {
-        let folder = bare_path(rt, wanted)?;
+        let place = Path::new(wanted);
+        let Some(name) = place.file_name() else {
+            let why = "it has no name of its own: give the path that the new folder is to have";
+            return Err(refuse_of(rt, wanted, &why));
+        };
+        // Without a `/` or a `/.` after its name.
+        let folder = or_stop(rt, place.with_file_name(rt.alloc(), name))?.into_string();
         check_free(rt, folder.as_str())?;
         let path = or_stop(rt, format!(in rt.alloc(); "{folder}.loading"))?;
         let _lock = make_for(rt, folder.as_str(), path.as_str())?;
@@ -54,16 +60,6 @@ impl LoadingFolder {
         }
         Ok(())
     }
-}
-
-/// The path without a `/` or a `/.` after its name. Prints a message if it has no name.
-fn bare_path(rt: &HostRuntime, wanted: &str) -> Result<String, Status> {
-    let place = Path::new(wanted);
-    let Some(name) = place.file_name() else {
-        let why = "it has no name of its own: give the path that the new folder is to have";
-        return Err(refuse_of(rt, wanted, &why));
-    };
-    Ok(or_stop(rt, place.with_file_name(rt.alloc(), name))?.into_string())
 }
 
 /// Makes the folder at this path, which is to replace the wanted one. Returns its lock.
@@ -151,19 +147,29 @@ fn try_lock_folder(rt: &HostRuntime, path: &str) -> io::Result<Option<File>> {
 
 /// Removes the files of an interrupted load. If anything else is there, prints that and removes nothing.
 fn clear(rt: &HostRuntime, loading: &str) -> Result<(), Status> {
-    let entries = fs::read_dir(rt, loading).map_err(|reason| fail_at_folder(rt, loading, reason))?;
-    let mut paths = Vec::new(rt.alloc());
-    for entry in entries {
-        if paths.push(own_path(rt, loading, entry)?).is_err() {
-            return Err(stop_without_memory(rt));
-        }
-    }
-    for path in paths {
+    for path in left_paths(rt, loading)? {
         if let Err(reason) = fs::remove_file(rt, path.as_str()) {
             return Err(fail_at(rt, path.as_str(), &FileFault::System(reason)));
         }
     }
     Ok(())
+}
+
+/// The paths of what is in the folder. Prints a message if anything there isn't a load's.
+fn left_paths(rt: &HostRuntime, loading: &str) -> Result<Vec<String>, Status> {
+    let mut paths = Vec::new(rt.alloc());
+    match fs::read_dir(rt, loading) {
+        Ok(entries) => {
+            for entry in entries {
+                let path = own_path(rt, loading, entry)?;
+                if paths.push(path).is_err() {
+                    return Err(stop_without_memory(rt));
+                }
+            }
+            Ok(paths)
+        }
+        Err(reason) => Err(fail_at_folder(rt, loading, reason)),
+    }
 }
 
 /// The path of this entry of the folder, if it has a name that a load gives. Prints a message if it hasn't.
