@@ -7,7 +7,7 @@ use super::files::{FirstFault, first_faults, open_telling};
 use super::folder::{files_in_order, segment_files};
 use super::folder_refusal::FolderReadFault;
 use crate::dump::{DumpFault, document, read};
-use crate::{CommandFault, held_value};
+use crate::{CommandFault, finish, held_value};
 use snap_devices::{FileDisk, FileFault, Lock};
 use snap_disk::Disk;
 use snap_frame::SegmentValue;
@@ -94,9 +94,8 @@ fn value_of<D: Disk + Drop>(
         (disk, Ok(value)) => Ok((disk, value)),
         (_, Err(why)) => {
             let order = FileOrder::Get { file, index, count };
-            let refused = CommandFault::Refused(why);
-            let ended = refused.report_of(rt.alloc(), &order, len, told, &mut rt.stderr());
-            Err(ended.status)
+            let end = Err(CommandFault::Refused(why));
+            Err(finish(rt.alloc(), &order, len, end, told, &mut rt.stderr()).status)
         }
     }
 }

@@ -4,7 +4,7 @@ ghost use Rattle.snap_devices.specs.FileDisk.{IsUncalled};
 
 use super::complaint::{fail_at, fail_twice, fail_without};
 use super::file_system::limit_of;
-use crate::{CommandFault, MigrationFault, words_of_format};
+use crate::{CommandFault, MigrationFault, finish, words_of_format};
 use snap_devices::{CallFault, FileDisk, FileFault, Lock};
 use snap_disk::{Disk, Refusal};
 use snap_order::{FileOrder, MigrateOptions, Status};
@@ -58,17 +58,14 @@ pub fn take_file<'a>(
 {
     let lock = match *order {
         FileOrder::Format { .. } => None,
-        FileOrder::Put { .. } => Some(Lock::Exclusive),
-        FileOrder::Get { .. } | FileOrder::Check { .. } | FileOrder::Slot { .. } => Some(
-            Lock::Shared,
-        ),
+        _ if writes(order) => Some(Lock::Exclusive),
+        _ => Some(Lock::Shared),
     };
     match open_as(rt, file, lock, Some(told)) {
         Ok(disk) => Ok(disk),
         Err(FileFault::WrongFile { len }) => {
-            let refused = CommandFault::Refused(Refusal::WrongFile);
-            let ended = refused.report_of(rt.alloc(), order, len, told, &mut rt.stderr());
-            Err(ended.status)
+            let end = Err(CommandFault::Refused(Refusal::WrongFile));
+            Err(finish(rt.alloc(), order, len, end, told, &mut rt.stderr()).status)
         }
         Err(fault) => {
             let command = words_of_format(rt.alloc(), order);
@@ -89,8 +86,7 @@ pub fn open_telling<'a>(
     open_as(rt, file, Some(lock), told)
 }
 
-/// Opens the file at this path as a device with this lock, or makes it if there is none. Only here a file is opened,
-/// since each function that calls the file's own methods takes seconds to prove.
+/// Opens the file with this lock, or makes it if there is none. Each function with a call of `FileDisk` costs seconds.
 pub fn open_as<'a>(
     rt: &'a HostRuntime,
     file: &'a str,
@@ -145,8 +141,7 @@ pub fn take_pair<'a>(
     };
     let why = Refusal::WrongFile;
     let refused = MigrationFault::OfFile { which, why };
-    let causes = (told_old, told_new);
-    let ended = refused.report(rt.alloc(), order, causes, &mut rt.stderr());
+    let ended = refused.report(rt.alloc(), order, (told_old, told_new), &mut rt.stderr());
     Err(ended.status)
 }
 

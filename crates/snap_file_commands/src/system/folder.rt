@@ -85,7 +85,7 @@ pub fn files_in_order<'f>(
     let mut places = Vec::with_capacity(rt.alloc(), files.len())?;
     for file in files {
         let (place, _) = contents_of(rt, folder, file.as_str())?;
-        places.push(place)?;
+        places.push(place).map_err(|_| AllocError)?;
     }
     order_of(rt.alloc(), folder, files, &places)
 }
@@ -182,10 +182,8 @@ fn trouble_of<'f>(
         }
         FolderFault::Twice { first, second } => {
             let SegmentPlace { index, count } = place_at(places, second);
-            let (first, file) = (
-                path_at(folder, files, first),
-                path_at(folder, files, second),
-            );
+            let first = path_at(folder, files, first);
+            let file = path_at(folder, files, second);
             format!(in alloc;
                 "{file}: it is segment {index} of {count}, as {first} is: move one of them out of {folder}"
             )

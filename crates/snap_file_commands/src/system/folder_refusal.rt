@@ -1,11 +1,10 @@
 //! The reasons why a folder's files can't be used, with their messages.
 
 use snap_devices::FileFault;
-use std::alloc::{AllocError, AllocFailed, Global};
+use std::alloc::{AllocError, Global};
 
-/// The reason why a folder's files can't be used: they can't be opened, or aren't the segments of one server, or not
-/// those that are to be made. Its message names a file or the folder, and says what to do. It is made with the fault,
-/// since a `Display` of all messages takes longer to prove.
+/// The reason why a folder's files can't be used. Its message names a file or the folder, and says what to do; it is
+/// made with the fault, since a `Display` of all messages takes longer to prove.
 #[derive(Drop)]
 pub enum FolderReadFault<'f> {
     /// The file at this path couldn't be opened.
@@ -20,12 +19,6 @@ pub enum FolderReadFault<'f> {
 
 impl From<AllocError> for FolderReadFault<'_> {
     fn from(_error: AllocError) -> Self {
-        FolderReadFault::NoMemory
-    }
-}
-
-impl<T: Drop> From<AllocFailed<T>> for FolderReadFault<'_> {
-    fn from(_failed: AllocFailed<T>) -> Self {
         FolderReadFault::NoMemory
     }
 }

@@ -11,7 +11,7 @@ use super::folder_refusal::{FolderReadFault, other};
 use crate::{finish, found, is_further, sign_of_loss};
 use snap_devices::FileFault;
 use snap_disk::Disk;
-use snap_order::{FileOrder, InitOptions, Status, or_stop, refuse};
+use snap_order::{FileOrder, InitOptions, Status, or_stop, refuse, stop_without_memory};
 use snap_segment::{Findings, Header, Slot};
 use std::alloc::{AllocError, Global};
 use std::path::Path;
@@ -29,14 +29,10 @@ pub fn init(rt: &HostRuntime, order: &InitOptions<'_>) -> Result<Status, Status>
         Ok(survey) => survey,
         Err(trouble) => return Err(fail_in(rt, &trouble)),
     };
-    let lacking = kept.iter().filter(|file| file.is_none()).count();
-    match sign_of_loss(lacking, &numbers) {
-        Some(at) if !order.is_missing_empty => {
-            let sign = path_at(folder, &files, at);
-            let why = message_of_loss(rt.alloc(), order, &kept, sign, numbers[at]);
-            Err(refuse(rt, &or_stop(rt, why)?))
-        }
-        _ => found_all(rt, order, &kept),
+    match message_of_loss(rt.alloc(), order, &files, &kept, &numbers) {
+        Ok(None) => found_all(rt, order, &kept),
+        Ok(Some(why)) => Err(refuse(rt, &why)),
+        Err(_) => Err(stop_without_memory(rt)),
     }
 }
 
@@ -54,7 +50,8 @@ fn survey_of<'f>(
     let mut kept: Vec<Option<&'f str>> = vec![in rt.alloc(); None; usize::from(count)]?;
     let mut numbers = Vec::with_capacity(rt.alloc(), files.len())?;
     for file in files {
-        numbers.push(look_at(rt, folder, count, file.as_str(), &mut kept)?)?;
+        let number = look_at(rt, folder, count, file.as_str(), &mut kept)?;
+        numbers.push(number).map_err(|_| AllocError)?;
     }
     Ok((kept, numbers))
 }
@@ -69,8 +66,7 @@ fn check_names<'f>(
     requires { count ≤ MAX_COUNT }
 {
     for file in files {
-        let file = file.as_str();
-        let name = Path::new(file).file_name().unwrap_or("");
+        let name = Path::new(file.as_str()).file_name().unwrap_or("");
         if is_further(alloc, name, count)? {
             return Err(other(format!(in alloc;
                 "{file}: it is none of {count} segments: give the count that {folder} was made with, or move it out \
@@ -81,17 +77,23 @@ fn check_names<'f>(
     Ok(())
 }
 
-/// Which files are missing, though one holds this number, which is a sign that they were lost.
+/// Which files are missing, and which one shows that they were lost. `None` if none was, or a lost one is to be made.
 fn message_of_loss(
     alloc: Global,
     order: &InitOptions<'_>,
+    files: &[String],
     kept: &[Option<&str>],
-    sign: &str,
-    number: u64,
-) -> Result<String, AllocError>
+    numbers: &[u64],
+) -> Result<Option<String>, AllocError>
     requires { order.now.count ≤ MAX_COUNT }
 {
     let (folder, count) = (order.folder, order.count);
+    let lacking = kept.iter().filter(|file| file.is_none()).count();
+    let at = match sign_of_loss(lacking, numbers) {
+        Some(at) if !order.is_missing_empty => at,
+        _ => return Ok(None),
+    };
+    let (sign, number) = (path_at(folder, files, at), numbers[at]);
     let mut lacking = String::new(alloc);
     for index in 0..count {
         if file_in(kept, index).is_none() {
@@ -101,10 +103,10 @@ fn message_of_loss(
             lacking.push_str(segment_path(alloc, folder, index)?.as_str())?;
         }
     }
-    format!(in alloc;
+    Ok(Some(format!(in alloc;
         "{lacking}: missing or never formatted, though {sign} holds number {number}: restore what is missing from a \
             backup, or make it new and empty with snapd init {folder} --count {count} --missing-empty"
-    )
+    )?))
 }
 
 /// The file of this segment, if it has one.

@@ -157,19 +157,14 @@ fn clear(rt: &HostRuntime, loading: &str) -> Result<(), Status> {
 
 /// The paths of what is in the folder. Prints a message if anything there isn't a load's.
 fn left_paths(rt: &HostRuntime, loading: &str) -> Result<Vec<String>, Status> {
+    let entries = fs::read_dir(rt, loading).map_err(|reason| fail_at_folder(rt, loading, reason))?;
     let mut paths = Vec::new(rt.alloc());
-    match fs::read_dir(rt, loading) {
-        Ok(entries) => {
-            for entry in entries {
-                let path = own_path(rt, loading, entry)?;
-                if paths.push(path).is_err() {
-                    return Err(stop_without_memory(rt));
-                }
-            }
-            Ok(paths)
+    for entry in entries {
+        if paths.push(own_path(rt, loading, entry)?).is_err() {
+            return Err(stop_without_memory(rt));
         }
-        Err(reason) => Err(fail_at_folder(rt, loading, reason)),
     }
+    Ok(paths)
 }
 
 /// The path of this entry of the folder, if it has a name that a load gives. Prints a message if it hasn't.
