@@ -52,7 +52,8 @@ fn read_files<'f>(
     for index in 0..count {
         let at = usize::from(index);
         let (disk, value) = read_file(rt, files[at], index, count, &told[at])?;
-        if locked.push(disk).is_err() || values.push(value).is_err() {
+        let are_kept = locked.push(disk).is_ok() & values.push(value).is_ok();
+        if !are_kept {
             return Err(stop_without_memory(rt));
         }
     }

@@ -97,10 +97,9 @@ fn message_of_loss(
     let mut lacking = String::new(alloc);
     for index in 0..count {
         if file_in(kept, index).is_none() {
-            if !lacking.is_empty() {
-                lacking.push_str(", ")?;
-            }
-            lacking.push_str(segment_path(alloc, folder, index)?.as_str())?;
+            let comma = if lacking.is_empty() { "" } else { ", " };
+            let path = segment_path(alloc, folder, index)?;
+            write!(lacking, "{comma}{path}")?;
         }
     }
     Ok(Some(format!(in alloc;
