@@ -88,12 +88,6 @@ fn message_of_loss(
     requires { order.now.count ≤ MAX_COUNT }
 {
     let (folder, count) = (order.folder, order.count);
-    let lacking = kept.iter().filter(|file| file.is_none()).count();
-    let at = match sign_of_loss(lacking, numbers) {
-        Some(at) if !order.is_missing_empty => at,
-        _ => return Ok(None),
-    };
-    let (sign, number) = (path_at(folder, files, at), numbers[at]);
     let mut lacking = String::new(alloc);
     for index in 0..count {
         if file_in(kept, index).is_none() {
@@ -102,6 +96,12 @@ fn message_of_loss(
             write!(lacking, "{comma}{path}")?;
         }
     }
+    // Only whether a file is missing matters.
+    let at = match sign_of_loss(usize::from(!lacking.is_empty()), numbers) {
+        Some(at) if !order.is_missing_empty => at,
+        _ => return Ok(None),
+    };
+    let (sign, number) = (path_at(folder, files, at), numbers[at]);
     Ok(Some(format!(in alloc;
         "{lacking}: missing or never formatted, though {sign} holds number {number}: restore what is missing from a \
             backup, or make it new and empty with snapd init {folder} --count {count} --missing-empty"
