@@ -30,7 +30,10 @@ returns-clause-order c =
     let inv = c.loop-index.invariant in
     let seating = c.in_ok-seats.ensures.seats in
     let n : length order ≡ c.in_ok-count.count = omega (arith, inv.0) in
-    record { whole = grind (arith, common_steps); each = λ i below.
-    let inside : i < length seats = omega (arith, below, n, seating.size) in
-    let sits = slice_get-get_or seats i None inside ∙ ap Some (inv.2 i (omega (arith, below, inv.0))) in
-    rw n (seating.back i (get_or order i 0) sits).1 }
+    record {
+      whole = grind (arith, common_steps);
+      each = λ i below.
+          let inside : i < length seats = omega (arith, below, n, seating.size) in
+          let sits = slice_get-get_or seats i None inside ∙ ap Some (inv.2 i (omega (arith, below, inv.0))) in
+          rw n (seating.back i (get_or order i 0) sits).1;
+    }
