@@ -1,5 +1,4 @@
-use Rattle.std.proofs.Common.{arith}
-use Rattle.std.proofs.lemmas.{Grind.common_steps}
+use Rattle.std.proofs.{Common.arith, lemmas.Grind.common_steps}
 use Rattle.snap_file_commands.proofs.loads.load.Goals as goal
 
 pub returns-clause-ends : goal.returns-clause-ends

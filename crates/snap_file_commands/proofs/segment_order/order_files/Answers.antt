@@ -20,9 +20,6 @@ loop-index-preserved c = grind (arith, common_steps)
 pub returns-clause-some : goal.returns-clause-some
 returns-clause-some c = omega (arith, c.in_ok-count.ensures.some.0)
 
-pub returns-clause-few : goal.returns-clause-few
-returns-clause-few c = omega (arith, c.in_ok-count.ensures.few)
-
 pub returns-clause-order : goal.returns-clause-order
 returns-clause-order c =
     let order = c.loop-index.order.items in
