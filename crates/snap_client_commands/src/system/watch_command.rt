@@ -4,9 +4,7 @@ ghost use Rattle.snap_order.specs.Order.{IsWatchable};
 
 use super::call_command::{is_worth_a_try, link_within};
 use super::time_limit::{Course, TimeLimit};
-use crate::watch::{
-    Panel, Row, Track, WatchFault, changes, drawing, followed, look, set_of,
-};
+use crate::watch::{Panel, Row, Track, WatchFault, changes, drawing, followed, look, set_of};
 use libc::net::{POLLERR, POLLHUP, poll};
 use libc::types::pollfd;
 use snap_client::{Client, ClientFault};
