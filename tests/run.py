@@ -2,9 +2,9 @@
 
     python3 tests/run.py [--program bin/snapd] [--only WORD] [--seed N] [--jobs N]
 
-Each test gets a fresh folder. Two more run side by side than there are processors, since most of a test is waiting. One
-that can't run here (no root, no strace) says so in a line of its own and counts as neither passed nor failed. The last
-line is `N passed, M failed`; the status is 1 where one failed.
+Each test gets a fresh folder. As many run side by side as there are processors. A test that can't run here (no root, no
+strace) says so in a line of its own and counts as neither passed nor failed. The last line is `N passed, M failed`; the
+status is 1 where one failed.
 
 The tests know the file format and the commands (docs/FORMATS.md) and nothing of the code or its proof.
 """
@@ -138,7 +138,7 @@ def main():
     words.add_argument("--program", default=str(HERE.parent / "bin" / "snapd"))
     words.add_argument("--only", default="")
     words.add_argument("--seed", type=int, default=20261122)
-    words.add_argument("--jobs", type=int, default=len(os.sched_getaffinity(0)) + 2)
+    words.add_argument("--jobs", type=int, default=len(os.sched_getaffinity(0)))
     words.add_argument("--work", action="store_true", help=argparse.SUPPRESS)
     words = words.parse_args()
     if words.work:
