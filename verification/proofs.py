@@ -132,7 +132,8 @@ def main():
         left.pop(name, None)
         minutes = max(1, round(sum(left.values()) / rt.processors() / 60))
         rest = f", about {minutes} min left" if left else ""
-        print(f"[{every - len(left)} of {every}] {name} {said}{rest}", file=out, flush=True)
+        # (one write, since several threads tell)
+        print(f"[{every - len(left)} of {every}] {name} {said}{rest}\n", end="", file=out, flush=True)
 
     def proved(crate, flags, tests):
         began = time.monotonic()
@@ -148,7 +149,7 @@ def main():
 
     def begun(crate, flags, start=None):
         """Proves a crate, over which its edits are tried."""
-        print(f"{crate.name}: trying its must-fail edits", file=out, flush=True)
+        print(f"{crate.name}: trying its must-fail edits\n", end="", file=out, flush=True)
         work = TOP / "crates" / crate.name / "out" / "incremental"
         return seeded(crate, flags, str(work) if "--over" in anew and work.is_dir() else start)
 
