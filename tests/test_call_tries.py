@@ -229,8 +229,7 @@ def test_a_call_that_waits_tries_for_so_long(snapd, _):
         # More than `--tries` has at most.
         assert 8.9 < seconds < 25 and 10 < len(rests) < 50, (seconds, rests)
         assert all(it >= low * 0.95 for it, low in zip(rests, (0.1, 0.2, 0.4, 0.8))), rests
-        # (near the end each takes half of what is left)
-        assert max(rests) < 1.5 and min(rests[4:]) < 0.6, rests
+        assert max(rests) < 1.5 and min(rests) < 0.09, rests
 
 
 def test_a_wait_ends_with_the_time_of_the_call(snapd, _):
