@@ -5,7 +5,7 @@ use Rattle.clap.specs.Words.{Text}
 use Rattle.snap_order.specs.request.Request.TheVariants.{Update, Scan, Status, Part}
 use Rattle.snap_order.specs.{Limits.MAX_COUNT, Order.IsWithin, request.Request.Request}
 use Rattle.snap_order.specs.declared.order.CallRequest.{CallRequest}
-use Rattle.snap_stream.specs.Hex.{IsHex}
+use Rattle.snap_order.specs.Hex.{IsHex}
 use Rattle.snap_args.specs.{Numbers.IsNumberOf, Requests.IsQuestionOf, Requests.IsUpdateOf}
 use Rattle.snap_order.specs.declared.order.CallRequest.TheVariants as question
 

@@ -1,7 +1,7 @@
 -- Which arguments ask for which request.
 use Rattle.std.specs.Prelude.{◌≡◌, ◌<◌, ◌≤◌, ◌^◌, List, [], ◌∷◌, length, Option, Some, None, codes}
 use Rattle.clap.specs.Words.{Text}
-use Rattle.snap_stream.specs.Hex.{IsHex}
+use Rattle.snap_order.specs.Hex.{IsHex}
 use Rattle.snap_order.specs.Messages.{IsAskable, max_payload, payload}
 use Rattle.snap_order.specs.request.Request.TheVariants.{Update, Scan, Status, Part}
 use Rattle.snap_order.specs.{Order.IsWithin, Order.request_of, request.Request.Request, declared.order.Source.Source}

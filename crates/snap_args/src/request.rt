@@ -14,8 +14,9 @@ use crate::numbers::{LAST_SEGMENT, large_number_of, mask_of, number_in};
 use crate::words::is;
 use bytes::Bytes;
 use clap::ArgMatches;
-use snap_order::{CallRequest, MAX_UPDATE_VALUE, PutOptions, Request, SegmentSet, Source};
-use snap_stream::read_hex;
+use snap_order::{
+    CallRequest, MAX_UPDATE_VALUE, PutOptions, Request, SegmentSet, Source, read_hex,
+};
 use std::alloc::Global;
 
 /// Parses the request of a call, within the limits.

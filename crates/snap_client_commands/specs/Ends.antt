@@ -10,7 +10,7 @@ use Rattle.snap_order.specs.declared.order.CallRequest.TheVariants.{Get, Health}
 use Rattle.snap_order.specs.Order.{request_of}
 use Rattle.snap_order.specs.declared.order.{CallOptions.CallOptions, OutputFormat.OutputFormat, CallRequest.CallRequest}
 use Rattle.snap_order.specs.declared.status.{Status.Status, Exit.Exit}
-use Rattle.snap_stream.specs.Streams.{AppendsBeginning}
+use Rattle.snap_order.specs.Streams.{AppendsBeginning}
 use Rattle.snap_client_commands.specs.Text.{Shows, is_any_fenced, stored_line}
 use Rattle.snap_frame.specs.declared.reply.Reply.TheVariants as reply
 use Rattle.snap_order.specs.declared.status.Status.TheVariants as status

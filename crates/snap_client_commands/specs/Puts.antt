@@ -8,7 +8,7 @@ use Rattle.snap_order.specs.request.Request.TheVariants.{Status, Update}
 use Rattle.snap_order.specs.{Limits.MAX_VALUE_LEN, declared.order.Source.Source, declared.status.Exit.Exit}
 use Rattle.snap_order.specs.{declared.order.OutputFormat.OutputFormat, declared.order.OutputFormat.TheVariants.Lines}
 use Rattle.snap_order.specs.{declared.order.PutOptions.PutOptions, declared.order.CallRequest.CallRequest}
-use Rattle.snap_stream.specs.Streams.{Had}
+use Rattle.snap_order.specs.Streams.{Had}
 use Rattle.snap_client_commands.specs.Ends.{Asks, EndsAsked, HasFailed, IsRefused}
 use Rattle.snap_client_commands.specs.declared.put.NoValue.{NoValue}
 use Rattle.snap_client_commands.specs.declared.put.NoValue.TheVariants.{TooLong, Failed, NoMemory}

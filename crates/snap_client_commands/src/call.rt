@@ -12,8 +12,10 @@ use crate::print::{LineText, answer_of, is_any_fenced, stored_line};
 use crate::put::store;
 use snap_client::{ClientFault, call_again, call_while};
 use snap_frame::{NamedValue, Reply, SegmentValue};
-use snap_order::{CallOptions, CallRequest, Exit, OutputFormat, Request, SegmentSet, Status};
-use snap_stream::{Refusal, complain, complain_of_refusal, write_whole};
+use snap_order::{
+    CallOptions, CallRequest, Exit, OutputFormat, Refusal, Request, SegmentSet, Status, complain,
+    complain_of_refusal, write_whole,
+};
 use std::alloc::Global;
 use std::fmt::Display;
 use std::io::{Read, Write};

@@ -1,7 +1,7 @@
 //! The texts of the replies to reads.
 ghost use Rattle.std.specs.Prelude.{◌≡◌, ◌++◌, IfOk, OnOk, codes, flat_map};
 ghost use Rattle.std.specs.Fmt.InlineText.{inline_text};
-ghost use Rattle.snap_stream.specs.Hex.{hex_text};
+ghost use Rattle.snap_order.specs.Hex.{hex_text};
 ghost use Rattle.snap_json.specs.Each.{each_from};
 ghost use Rattle.snap_order.specs.declared.order.OutputFormat.TheVariants.{Lines};
 ghost use Rattle.snap_client_commands.specs.Ends.{IsRead};
@@ -12,8 +12,7 @@ use bytes::Bytes;
 use itoa::Buffer;
 use snap_frame::{NamedValue, Reply, SegmentStatus, SegmentValue};
 use snap_json::{health_document, part_document, quote, scan_document, status_document};
-use snap_order::{CallRequest, OutputFormat};
-use snap_stream::put_hex;
+use snap_order::{CallRequest, OutputFormat, put_hex};
 use std::alloc::{AllocError, Global};
 use std::fmt::InlineText;
 

@@ -17,9 +17,9 @@ use bytes::Bytes;
 use snap_client::ClientFault;
 use snap_frame::{Reply, SegmentStatus};
 use snap_order::{
-    CallOptions, CallRequest, Exit, MAX_VALUE_LEN, OutputFormat, PutOptions, Request, Source,
+    CallOptions, CallRequest, Exit, MAX_VALUE_LEN, OutputFormat, PutOptions, Refusal, Request,
+    Source, read_up_to,
 };
-use snap_stream::{Refusal, read_up_to};
 use std::alloc::Global;
 use std::io::{self, Read, Write};
 

@@ -5,7 +5,7 @@ use Rattle.snap_disk.specs.{Time.LeavesOnly, Laws.then, Laws.weaker, declared.re
 use Rattle.snap_slot.specs.Layout.{Head, Holds, IsFileOf}
 use Rattle.snap_slot.specs.{declared.layout.TheConstants.FILE_LEN, States.IsEither}
 use Rattle.snap_segment.specs.Segment.{SegmentState}
-use Rattle.snap_stream.specs.Streams.{Had}
+use Rattle.snap_order.specs.Streams.{Had}
 use Rattle.snap_file_commands.specs.Commands.{IsStored, PutLeaves, End, EndsStore, EndsPut}
 use Rattle.snap_file_commands.specs.declared.fault.CommandFault.TheVariants.{Refused, Input}
 use Rattle.snap_disk.specs.declared.disk.Disk as Disk

@@ -11,7 +11,7 @@ use Rattle.snap_slot.specs.{Slot.IsFlawed, declared.slot.SlotFault.SlotFault, St
 use Rattle.snap_slot.specs.{Findings.AreFindings, Findings.IsNoOpening, declared.findings.Findings.Findings}
 use Rattle.snap_history.specs.declared.limits.TheConstants.{MAX_VALUE_LEN, LAST_NUMBER}
 use Rattle.snap_segment.specs.Creation.{IsFresh, new_file}
-use Rattle.snap_stream.specs.Streams.{AppendsBeginning, Had}
+use Rattle.snap_order.specs.Streams.{AppendsBeginning, Had}
 use Rattle.snap_file_commands.specs.declared.fault.CommandFault.{CommandFault}
 use Rattle.snap_file_commands.specs.declared.fault.CommandFault.TheVariants.{Refused, Input, Output, Unsaid, NoValue}
 use Rattle.snap_order.specs.declared.order.FileOrder.TheVariants.{Format, Put, Get, Check, Slot}

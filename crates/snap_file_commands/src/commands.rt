@@ -19,9 +19,8 @@ use crate::slot_value::print_slot;
 use snap_disk::{Disk, Refusal};
 use snap_history::MAX_VALUE_LEN;
 use snap_json::findings_document;
-use snap_order::{FileOrder, Status};
+use snap_order::{FileOrder, Status, read_up_to, write_whole};
 use snap_segment::{Segment, check, format};
-use snap_stream::{read_up_to, write_whole};
 use std::alloc::Global;
 use std::io::{Read, Write};
 

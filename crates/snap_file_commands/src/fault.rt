@@ -4,9 +4,10 @@ ghost use Rattle.snap_file_commands.specs.Commands.{status_at, status_of};
 
 use crate::remedy::line_behind;
 use snap_disk::Refusal;
-use snap_order::{Exit, FileOrder, Status};
+use snap_order::{
+    Exit, FileOrder, Status, SystemReason, complain, complain_of_refusal, complain_twice,
+};
 use snap_slot::SlotFault;
-use snap_stream::{SystemReason, complain, complain_of_refusal, complain_twice};
 use std::alloc::{AllocError, Global};
 use std::fmt::{self, Display, Formatter};
 use std::io::{self, Write};

@@ -16,9 +16,8 @@ ghost use Rattle.snap_file_commands.specs.Foundation.{SaysBlank, refusal_of_form
 use crate::CommandFault;
 use crate::commands::format_file;
 use snap_disk::{Disk, Refusal};
-use snap_order::Status;
+use snap_order::{Status, write_whole};
 use snap_segment::{Header, Segment, Slot, check};
-use snap_stream::write_whole;
 use std::alloc::Global;
 use std::io::Write;
 

@@ -8,9 +8,8 @@ ghost use Rattle.snap_file_commands.specs.Effects.{AnyCrashLeaves, LeavesNoMore,
 
 use crate::CommandFault;
 use snap_disk::Disk;
-use snap_order::Status;
+use snap_order::{Status, write_whole};
 use snap_segment::create;
-use snap_stream::write_whole;
 use std::alloc::Global;
 use std::io::Write;
 

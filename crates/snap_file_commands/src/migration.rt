@@ -13,9 +13,8 @@ use crate::CommandFault;
 use crate::remedy::line_of_migration;
 use itoa::Buffer;
 use snap_disk::{Disk, Refusal};
-use snap_order::{Exit, MigrateOptions, Status};
+use snap_order::{Exit, MigrateOptions, Status, SystemReason, complain_twice, write_whole};
 use snap_segment::{Which, migrate};
-use snap_stream::{SystemReason, complain_twice, write_whole};
 use std::alloc::{AllocError, Global};
 use std::io::Write;
 

@@ -3,11 +3,11 @@
 
 use snap_disk::Refusal;
 use snap_order::{
-    FileOrder, MigrateOptions, empty_remedy, format_command, old_format_remedy, unformatted_remedy,
+    FileOrder, MigrateOptions, SystemReason, empty_remedy, format_command, old_format_remedy,
+    unformatted_remedy,
 };
 use snap_segment::{OLD_FILE_LEN, Which};
 use snap_slot::FILE_LEN;
-use snap_stream::SystemReason;
 use std::alloc::{AllocError, Global};
 
 /// The line after that of a refusal of the order's file, which has `len` bytes. It is empty if the

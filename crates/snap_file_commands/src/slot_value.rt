@@ -9,11 +9,10 @@ ghost use Rattle.snap_file_commands.specs.Effects.{LeavesNoMore};
 
 use crate::CommandFault;
 use snap_disk::{Disk, Refusal};
-use snap_order::Status;
+use snap_order::{Status, write_whole};
 use snap_slot::{
     BLOCK_LEN, FILE_LEN, OPEN_GATE, SLOT_COUNT, Slot, SlotFault, VALUE_AT, body_at, read_slot,
 };
-use snap_stream::write_whole;
 use std::alloc::Global;
 use std::io::Write;
 

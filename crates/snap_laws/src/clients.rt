@@ -7,11 +7,10 @@ ghost use Rattle.snap_laws.specs.Heard.{HeardLaw, HearsFrom, FirstHeard, bytes_o
 ghost use Rattle.snap_laws.specs.{Told.IsSendable, Worker.OfScannerLaw, Worker.WorkerLaw, Ever.EverLaw};
 
 use snap_client::{Client, ClientFault};
-use snap_desk::{Desk, UpdateObserver};
 use snap_disk::Disk;
 use snap_frame::{Reply, Request};
 use snap_metrics::CountingService;
-use snap_service::Memory;
+use snap_service::{Desk, Memory, UpdateObserver};
 use snap_session::Service;
 use std::alloc::Global;
 use std::io::{Read, Write};

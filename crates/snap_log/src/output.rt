@@ -3,7 +3,7 @@ use crate::line::line_of;
 use crate::lines::Waiting;
 use crate::stamp::{beginning, stamp};
 use log::Level;
-use snap_stream::write_whole;
+use snap_order::write_whole;
 use std::alloc::{AllocError, Global};
 use std::io::Write;
 use std::rt::Clock;

@@ -6,7 +6,7 @@ use crate::stamp::stamp_of;
 use crate::{Destination, Lines, write_lines};
 use jiff::Timestamp;
 use log::{Level, LevelFilter, debug, error, info, warn};
-use snap_stream::TestStream;
+use snap_order::TestStream;
 use std::test::Fail;
 
 /// A standard error that takes at most `passes` bytes.

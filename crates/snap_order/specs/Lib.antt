@@ -1,5 +1,9 @@
+pub mod Hex
 pub mod Limits
 pub mod Order
 pub mod Status
+pub mod Streams
+pub use Rattle.snap_disk.specs.Refusal
+pub use Rattle.snap_disk.specs.declared.refusal
 pub use Rattle.snap_frame.specs.Messages
 pub use Rattle.snap_frame.specs.declared.request

@@ -1,14 +1,21 @@
-//! The parsed command line of `snapd`, its exit statuses, the messages with which a command ends, and the advice about
-//! a file that was refused.
+//! What the commands of `snapd` share: the parsed command line, exit statuses, the messages with which a command ends,
+//! the advice about a file that was refused, whole reads and writes, and values as hexadecimal text.
 //!
 //! It hands on the types that an order uses, the requests to a server and the limits of all layers.
 #![tactic(auto)]
 
+mod complaint;
+mod hex_text;
 mod message;
 mod order;
 mod remedy;
 mod status;
+mod system_reason;
+mod test_stream;
+mod whole;
 
+pub use complaint::{complain, complain_of_refusal, complain_twice};
+pub use hex_text::{put_hex, read_hex};
 pub use message::{fail, fail_of, or_stop, refuse, refuse_of, say, say_of, stop_without_memory};
 pub use order::{
     CallOptions, CallRequest, DoctorOptions, DumpOptions, DumpSource, FileOrder, InitOptions,
@@ -18,7 +25,11 @@ pub use order::{
 };
 pub use remedy::{empty_remedy, format_command, old_format_remedy, unformatted_remedy};
 pub use snap_client::MAX_TRIES;
+pub use snap_disk::Refusal;
 pub use snap_frame::{MAX_UPDATE_VALUE, Request, SegmentSet};
 pub use snap_history::{MAX_COUNT, MAX_SCANNERS, MAX_VALUE_LEN};
 pub use snap_slot::{OLD_FILE_LEN, SLOT_COUNT};
 pub use status::{Exit, Status};
+pub use system_reason::{NoReason, SystemReason};
+pub use test_stream::TestStream;
+pub use whole::{read_up_to, write_whole};

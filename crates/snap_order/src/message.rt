@@ -2,8 +2,9 @@
 ghost use Rattle.std.specs.Prelude.{◌≡◌, IfOk, Ok};
 ghost use Rattle.snap_order.specs.declared.status.Status.TheVariants as status;
 
+use crate::complaint::{complain, complain_of_refusal};
 use crate::status::Status;
-use snap_stream::{Refusal, complain, complain_of_refusal};
+use snap_disk::Refusal;
 use std::alloc::AllocError;
 use std::fmt::Display;
 

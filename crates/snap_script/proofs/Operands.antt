@@ -5,7 +5,7 @@ use Rattle.std.{specs.Prelude.MatchOption, specs.Prelude.IfOk, proofs.Math.Nat.p
 use Rattle.hex.specs.Hex.{decode_of, decode_sized, decode_pairs}
 use Rattle.hex.proofs.HexLemmas.{decode_of-ok, decode_of-even}
 use Rattle.snap_disk.specs.declared.fill.Fill.{Fill, TheVariants.Keep, TheVariants.All, TheVariants.At}
-use Rattle.snap_stream.specs.Hex.{IsHex}
+use Rattle.snap_order.specs.Hex.{IsHex}
 use Rattle.snap_script.specs.Words.{Finds, parts_at, IsNumber, IsFill, IsFillAt}
 
 -- a number of at most 18 digits has room for one more

@@ -3,7 +3,7 @@ use Rattle.std.specs.Prelude.{◌≡◌, ℕ, ◌≤◌, List, [], ◌∷◌, le
 use Rattle.std.specs.{List.AllZip, declared.vec.Vec.Vec, declared.alloc.Global.Global}
 use Rattle.snap_disk.specs.declared.fill.Fill.{Fill}
 use Rattle.snap_history.specs.declared.limits.TheConstants.{MAX_COUNT}
-use Rattle.snap_stream.specs.Hex.{IsHex}
+use Rattle.snap_order.specs.Hex.{IsHex}
 use Rattle.snap_script.specs.Words.{words_of, IsNumber, IsFill, IsMask}
 use Rattle.snap_script.specs.declared.verb.Verb.{Verb}
 use Rattle.snap_world.specs.{set.SegmentSet.SegmentSet, declared.event.Actor.Actor, declared.event.Event.Event}

@@ -1,7 +1,7 @@
 -- The printed text.
 use Rattle.std.specs.Prelude.{ℕ, List, [], ◌∷◌, ◌++◌, flat_map, codes}
 use Rattle.std.specs.Fmt.{decimal}
-use Rattle.snap_stream.specs.Hex.{hex_text}
+use Rattle.snap_order.specs.Hex.{hex_text}
 use Rattle.snap_world.specs.declared.event.Kind.TheVariants.{Write, Sync, Read}
 use Rattle.snap_world.specs.declared.event.Reply.TheVariants.{Begun, Number, Called, DeviceFailed, Shown, Stored}
 use Rattle.snap_world.specs.declared.event.Reply.TheVariants.{ScanBegun, Memory, Part, Crashed, Restarting, NotNow}

@@ -2,7 +2,7 @@
 use Rattle.std.specs.Prelude.{◌≡◌, ℕ, ◌+◌, ◌*◌, ◌≤◌, ◌==◌, List, [], ◌∷◌, length, codes, Option, Some, None, Ok}
 use Rattle.std.specs.{List.slice_split, Str.Parse.IsNumeral, Str.Parse.digits_value}
 use Rattle.hex.specs.Hex.{decode_of}
-use Rattle.snap_stream.specs.Hex.{IsHex}
+use Rattle.snap_order.specs.Hex.{IsHex}
 use Rattle.snap_disk.specs.declared.fill.Fill.{Fill}
 use Rattle.snap_disk.specs.declared.fill.Fill.TheVariants.{Keep, All, At}
 use Rattle.snap_world.specs.set.SegmentSet.{SegmentSet}

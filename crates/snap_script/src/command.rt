@@ -3,8 +3,7 @@ ghost use Rattle.std.specs.Prelude.{◌≡◌};
 ghost use Rattle.snap_script.specs.Script.{Runs, status_of};
 
 use crate::{ScriptEnd, script};
-use snap_order::{Exit, Status};
-use snap_stream::{Refusal, complain, complain_of_refusal};
+use snap_order::{Exit, Refusal, Status, complain, complain_of_refusal};
 use std::alloc::Global;
 use std::io::{Read, Write};
 use std::sync::Wait;

@@ -7,7 +7,7 @@ ghost use Rattle.snap_script.specs.Line.{IsWorldLine, IsEventLine, IsActor, Take
 use crate::verb::Verb;
 use crate::words::{cut, fill, mask, number, one_part, two_parts};
 use snap_history::MAX_COUNT;
-use snap_stream::read_hex;
+use snap_order::read_hex;
 use snap_world::{Actor, Event};
 use std::alloc::{AllocError, Global};
 

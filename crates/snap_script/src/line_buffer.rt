@@ -1,13 +1,13 @@
 //! The next line of a script, whose bytes arrive one after the other.
 ghost use Rattle.std.specs.Prelude.{◌≡◌, ◌∷◌, ◌++◌, ℕ, List, [], Option, OnOk, IfErr};
 ghost use Rattle.std.specs.Io.KnownBytes.{Appends, IsAtEnd};
-ghost use Rattle.snap_stream.specs.Streams.{AppendsBeginning};
+ghost use Rattle.snap_order.specs.Streams.{AppendsBeginning};
 ghost use Rattle.snap_script.specs.LineBuffer.{HasDone, HasTaken, Halts};
 ghost use Rattle.snap_script.specs.Script.{Ends, IsLine};
 
 use crate::interpreter::{Interpreter, InterpreterFault};
 use crate::run::{MAX_LINE, ScriptEnd};
-use snap_stream::write_whole;
+use snap_order::write_whole;
 use std::alloc::Global;
 use std::io::{self, Write};
 

@@ -4,7 +4,7 @@ ghost use Rattle.std.specs.Fmt.{decimal};
 ghost use Rattle.snap_script.specs.Text.{entry_text, line_text, reply_text, value_text, world_text};
 
 use itoa::Buffer;
-use snap_stream::put_hex;
+use snap_order::put_hex;
 use snap_world::{Kind, PartEntry, Reply, Write};
 use std::alloc::AllocError;
 

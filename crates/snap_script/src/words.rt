@@ -2,13 +2,13 @@
 ghost use Rattle.std.specs.Prelude.{◌≡◌, ◌≢◌, ◌==◌, ◌+◌, ◌<◌, ◌∷◌, ◌↔◌, [], length, take, drop};
 ghost use Rattle.std.specs.Prelude.{List, ℕ, IsTrue, MatchOption, IfOk};
 ghost use Rattle.std.specs.List.{position_from};
-ghost use Rattle.snap_stream.specs.Hex.{IsHex};
+ghost use Rattle.snap_order.specs.Hex.{IsHex};
 ghost use Rattle.snap_script.specs.Words.{Finds, parts_at, IsNumber, IsFill, IsFillAt, IsMask};
 ghost use Rattle.hex.specs.Hex.{decode_of};
 ghost use Rattle.snap_disk.specs.declared.fill.Fill.{Fill};
 
 use snap_disk::Fill;
-use snap_stream::read_hex;
+use snap_order::read_hex;
 use snap_world::SegmentSet;
 use std::alloc::{AllocError, Global};
 

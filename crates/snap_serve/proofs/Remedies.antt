@@ -2,7 +2,7 @@
 use Rattle.std.proofs.Common.{◌≡◌, ◌++◌, ℕ, List, [], Bool, false, Option, Some, None, IfSome, IsNone, String, Global}
 use Rattle.std.proofs.Common.{string_bytes, refl}
 use Rattle.snap_disk.specs.declared.refusal.Refusal.{Refusal}
-use Rattle.snap_stream.specs.Streams.{SaysLines, refused_line}
+use Rattle.snap_order.specs.Streams.{SaysLines, refused_line}
 use Rattle.snap_serve.specs.{declared.fault.HostFault.TheVariants.Refused, Serve.IsRemedy, Serve.SaysFailure}
 
 pub remedied : {F : Type 0} (path : F → List ℕ) (files : List F) (segment : ℕ) (why : Refusal)

@@ -1,7 +1,7 @@
 -- The text that a server has printed, step by step.
 use Rattle.std.proofs.Common.{◌≡◌, ℕ, List, Option, Some, Ok, Err, inl, inr, ap}
 use Rattle.std.{specs.Io.KnownBytes.Appends, proofs.KnownBytes.Appends-trans, proofs.KnownBytes.Appends-kept}
-use Rattle.snap_stream.{specs.Streams.AppendsBeginning, proofs.Lines.beginning_behind}
+use Rattle.snap_order.{specs.Streams.AppendsBeginning, proofs.Lines.beginning_behind}
 use Rattle.snap_restart.specs.{Report.report_text, declared.report.Report.Report}
 use Rattle.snap_server.specs.{Announced.Announced, declared.listen.Endpoint.Endpoint}
 use Rattle.snap_server.specs.{declared.fault.RunFault.RunFault, declared.fault.ServerFault.ServerFault}

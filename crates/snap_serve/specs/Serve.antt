@@ -7,7 +7,7 @@ use Rattle.snap_restart.specs.Opened.{IsOpened, IsStopped, recovered}
 use Rattle.snap_restart.specs.Crash.{AreOpened, StayKept}
 use Rattle.snap_restart.specs.{Pairs.Pairs, Report.report_text, declared.report.Report.Report}
 use Rattle.snap_writer.specs.{Segment.SegmentState, Writer.WriterState}
-use Rattle.snap_stream.specs.Streams.{AppendsBeginning, Complains, NamesFile, SaysLines, refused_line}
+use Rattle.snap_order.specs.Streams.{AppendsBeginning, Complains, NamesFile, SaysLines, refused_line}
 use Rattle.snap_order.specs.declared.{order.ServeOptions.ServeOptions, status.Exit.Exit, status.Status.Status}
 use Rattle.snap_server.specs.{Deals.GivesSoMany, Endpoints.endpoint_text, declared.listen.Endpoint.Endpoint}
 use Rattle.snap_server.specs.{declared.listen.Accepted.Accepted, declared.listen.AcceptFault.AcceptFault}

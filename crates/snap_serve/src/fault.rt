@@ -1,16 +1,16 @@
 //! Why a server ended early, and what is printed then.
 ghost use Rattle.std.specs.Prelude.{◌≡◌, IfSome, string_bytes};
 ghost use Rattle.snap_serve.specs.Serve.{IsRemedy, SaysFailure, status_of};
-ghost use Rattle.snap_stream.specs.Streams.{file_line};
+ghost use Rattle.snap_order.specs.Streams.{file_line};
 
 use crate::bind::ListenFault;
 use snap_disk::Refusal;
 use snap_order::{
-    Exit, OLD_FILE_LEN, ServeOptions, Status, empty_remedy, format_command, old_format_remedy,
-    socket_path, unformatted_remedy,
+    Exit, OLD_FILE_LEN, ServeOptions, Status, SystemReason, complain, complain_of_refusal,
+    complain_twice, empty_remedy, format_command, old_format_remedy, socket_path,
+    unformatted_remedy,
 };
 use snap_server::{BindFault, ServerFault};
-use snap_stream::{SystemReason, complain, complain_of_refusal, complain_twice};
 use std::alloc::{AllocError, Global};
 use std::io::{self, Write};
 

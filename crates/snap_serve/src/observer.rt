@@ -1,7 +1,7 @@
 //! The observers of a running server.
 
-use snap_desk::NoUpdateObserver;
 use snap_server::RunFault;
+use snap_service::NoUpdateObserver;
 use snap_session::Service;
 use std::rt::Clock;
 use std::sync::Wait;

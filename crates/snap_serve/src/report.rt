@@ -1,15 +1,15 @@
 //! The lines that a server prints.
 ghost use Rattle.std.specs.Prelude.{◌≡◌, OnOk, IfOk, IfErr, string_bytes};
 ghost use Rattle.std.specs.Io.KnownBytes.{Appends};
-ghost use Rattle.snap_stream.specs.Streams.{AppendsBeginning};
+ghost use Rattle.snap_order.specs.Streams.{AppendsBeginning};
 ghost use Rattle.snap_restart.specs.Report.{report_text};
 ghost use Rattle.snap_serve.specs.Serve.{PrintFails, listening_text, served_line};
 
 use crate::fault::HostFault;
 use crate::observer::ServerObserver;
+use snap_order::write_whole;
 use snap_restart::Report;
 use snap_server::{Announce, Endpoint};
-use snap_stream::write_whole;
 use std::alloc::{AllocError, Global};
 use std::io::{self, Write};
 

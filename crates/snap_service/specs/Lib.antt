@@ -5,3 +5,8 @@ pub mod Updated
 pub mod Answers
 pub mod Counted
 pub use Rattle.snap_writer.specs.Writer
+pub mod Job
+pub mod Came
+pub mod Storer
+pub mod Handover
+pub mod Tells

@@ -2,9 +2,9 @@
 use crate::frames::{EMPTY, FENCED, HI, Pair, REPEAT, SCAN, STORED_0, halves};
 use crate::stores::{new_files, open};
 use crossbeam_channel::{Sender, unbounded};
-use snap_desk::{Desk, NoUpdateObserver, Outcome, Storer};
 use snap_devices::MemDisk;
 use snap_memory::Scanner;
+use snap_service::{Desk, NoUpdateObserver, Outcome, Storer};
 use snap_service::Memory;
 use snap_session::{Completion, Session, WaitingFor};
 use snap_writer::Writer;

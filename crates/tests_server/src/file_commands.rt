@@ -2,9 +2,8 @@
 use snap_devices::MemDisk;
 use snap_disk::Disk;
 use snap_file_commands::{act, finish};
-use snap_order::{FileOrder, Status};
+use snap_order::{FileOrder, NoReason, Status, TestStream};
 use snap_slot::FILE_LEN;
-use snap_stream::{NoReason, TestStream};
 use std::process::Abort;
 use std::test::Fail;
 

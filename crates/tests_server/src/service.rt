@@ -6,10 +6,10 @@ use crate::frames::{
 use crate::stores::{failing, new_files, open};
 use snap_devices::MemDisk;
 use snap_memory::Scanner;
+use snap_order::TestStream;
 use snap_restart::Store;
 use snap_service::{Memory, Node, Shared};
 use snap_session::{End, serve};
-use snap_stream::TestStream;
 use snap_writer::Writer;
 use std::alloc::{AllocError, Global};
 use std::marker::Brand;

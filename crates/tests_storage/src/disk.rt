@@ -1,4 +1,4 @@
-//! The tests of `snap_disk` and `snap_stream`.
+//! The tests of `snap_disk` and of streams (`snap_order`).
 mod disks;
 mod files;
 mod streams;

@@ -1,4 +1,4 @@
-//! The tests of files and of what they keep: devices and streams (`snap_disk`, `snap_devices`, `snap_stream`), the
+//! The tests of files and of what they keep: devices and streams (`snap_disk`, `snap_devices`, `snap_order`), the
 //! format of a slot and the calls of a store (`snap_slot`, `snap_persist`), segments (`snap_segment`), writers
 //! (`snap_writer`) and a server's files (`snap_restart`).
 #![tactic(auto)]

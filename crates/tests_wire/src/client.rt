@@ -6,7 +6,7 @@ use crate::streams::{Host, joined, sink, source};
 use bytes::Bytes;
 use snap_client::{Client, ClientFault};
 use snap_frame::{Reply, SegmentSet};
-use snap_stream::TestStream;
+use snap_order::TestStream;
 use std::alloc::{AllocError, Global};
 use std::test::Fail;
 use words::{Answer, WORDS, in_words};

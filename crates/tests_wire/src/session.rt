@@ -4,8 +4,8 @@ mod peers;
 
 use crate::streams::{joined, sink, source};
 use peers::{Counter, Later, Peer};
+use snap_order::TestStream;
 use snap_session::{End, Polled, serve};
-use snap_stream::TestStream;
 use std::alloc::Global;
 use std::sync::Wait;
 use std::test::Fail;

@@ -1,5 +1,5 @@
 //! Streams that tests read and write, and bytes for them.
-use snap_stream::TestStream;
+use snap_order::TestStream;
 use std::alloc::{AllocError, Global};
 use std::process::Abort;
 

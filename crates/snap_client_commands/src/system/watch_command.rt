@@ -9,8 +9,9 @@ use libc::net::{POLLERR, POLLHUP, poll};
 use libc::types::pollfd;
 use snap_client::{Client, ClientFault};
 use snap_frame::SegmentSet;
-use snap_order::{Status, WatchOptions, fail_of, or_stop, refuse, say_of, stop_without_memory};
-use snap_stream::write_whole;
+use snap_order::{
+    Status, WatchOptions, fail_of, or_stop, refuse, say_of, stop_without_memory, write_whole,
+};
 use std::alloc::Global;
 use std::cell::Cell;
 use std::env::{self, VarError};

@@ -5,7 +5,7 @@ ghost use Rattle.snap_frame.specs.Sets.{Names};
 use bytes::Bytes;
 use snap_client::{Client, ClientFault};
 use snap_frame::{Reply, SegmentSet, SegmentStatus};
-use snap_stream::Refusal;
+use snap_order::Refusal;
 use std::alloc::{AllocError, Global};
 use std::io::{Read, Write};
 

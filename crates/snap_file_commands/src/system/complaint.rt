@@ -4,8 +4,7 @@ use super::file_system::remedy_of;
 use super::folder_refusal::FolderReadFault;
 use crate::CommandFault;
 use snap_devices::FileFault;
-use snap_order::{Status, fail_of, refuse, say, say_of, stop_without_memory};
-use snap_stream::write_whole;
+use snap_order::{Status, fail_of, refuse, say, say_of, stop_without_memory, write_whole};
 use std::io::{self, ErrorKind};
 
 /// Prints why the file at this path couldn't be opened, with advice if there is any.

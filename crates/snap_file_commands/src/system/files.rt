@@ -7,10 +7,9 @@ use super::file_system::limit_of;
 use crate::{CommandFault, MigrationFault, finish, words_of_format};
 use snap_devices::{CallFault, FileDisk, FileFault, Lock};
 use snap_disk::{Disk, Refusal};
-use snap_order::{FileOrder, MigrateOptions, Status};
+use snap_order::{FileOrder, MigrateOptions, Status, SystemReason};
 use snap_segment::{OLD_FILE_LEN, Which};
 use snap_slot::FILE_LEN;
-use snap_stream::SystemReason;
 use std::alloc::{AllocError, Global};
 use std::sync::OnceLock;
 

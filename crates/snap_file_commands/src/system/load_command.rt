@@ -16,8 +16,9 @@ use crate::{LoadedFile, finish};
 use snap_devices::FileFault;
 use snap_disk::Disk;
 use snap_frame::SegmentValue;
-use snap_order::{FileOrder, LoadOptions, Status, or_stop, refuse_of, stop_without_memory};
-use snap_stream::read_up_to;
+use snap_order::{
+    FileOrder, LoadOptions, Status, or_stop, read_up_to, refuse_of, stop_without_memory,
+};
 use std::fs::File;
 use std::io::Read;
 

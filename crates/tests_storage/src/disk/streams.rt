@@ -1,6 +1,6 @@
 //! Streams that move two bytes a call.
 use crate::checks::are;
-use snap_stream::{TestStream, complain, read_up_to, write_whole};
+use snap_order::{TestStream, complain, read_up_to, write_whole};
 use std::test::Fail;
 
 /// A stream that moves two bytes a call, and never fails.

@@ -4,7 +4,7 @@ use crate::streams::{sink, source};
 use snap_disk::Refusal;
 use snap_frame::{Reply, Request};
 use snap_session::{Polled, Service, Session, proceed};
-use snap_stream::TestStream;
+use snap_order::TestStream;
 use std::alloc::{AllocError, Global};
 use std::io;
 use std::io::{Read, Write};

@@ -1,5 +1,5 @@
 use Rattle.std.proofs.Common.{◌≢◌, ◌≤◌, List, ℕ, length, rules}
-use Rattle.snap_stream.specs.Hex.{IsHex}
+use Rattle.snap_order.specs.Hex.{IsHex}
 use Rattle.snap_order.specs.Messages.{max_payload, payload}
 use Rattle.snap_order.specs.request.Request.{Request}
 use Rattle.snap_args.proofs.Requests.{no_number, no_segment, no_value}

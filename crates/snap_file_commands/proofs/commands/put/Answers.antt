@@ -1,6 +1,6 @@
 use Rattle.std.proofs.{Common.rules, Common.take, Common.ap, Common.◌∙◌, Common.Err, Common.inl, KnownBytes.Keeps-refl}
 use Rattle.snap_disk.specs.Laws.{started, weaker}
-use Rattle.snap_stream.proofs.Known.{had}
+use Rattle.snap_order.proofs.Known.{had}
 use Rattle.snap_file_commands.proofs.{Refused.put_keeps, Refused.refused_open, Stored.held, Stored.put_leaves}
 use Rattle.snap_file_commands.{proofs.Stored.store_ends_put, specs.declared.fault.CommandFault.TheVariants.Refused}
 use Rattle.snap_file_commands.proofs.commands.put.Goals as goal

@@ -1,5 +1,0 @@
-use Rattle.std.proofs.Common.{◌≡◌, length}
-use Rattle.snap_desk.proofs.desk.Desk.into_read_only.Given as goal
-
-abbrev pub invariant-loop-handle : goal.invariant-loop-handle
-invariant-loop-handle g l = length l.standings.items ≡ l.handle-index

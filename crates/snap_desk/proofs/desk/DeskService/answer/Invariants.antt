@@ -1,5 +1,0 @@
-use Rattle.snap_desk.specs.Job.{job_of}
-use Rattle.snap_desk.proofs.desk.DeskService.answer.Given as goal
-
-abbrev pub ghosts-ask : goal.ghosts-ask
-ghosts-ask g a = record { job = job_of a.outbox.now.worker a.key a.segment a.number a.value.now }
