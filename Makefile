@@ -5,40 +5,40 @@
 
 # The program without its proofs, as bin/snapd.
 demo:
-	@sh verification/needs.sh rt python3
+	@sh packaging/needs.sh rt python3
 	@python3 verification/quick.py --demo
 
 build:
-	@sh verification/needs.sh rt python3
+	@sh packaging/needs.sh rt python3
 	@python3 verification/quick.py
 
 # Every proof of the program, from nothing or from this machine's archive of such runs (with FRESH=1 from nothing), the
 # program by two compilers, the edits that must-fail.lock lacks, and the end-to-end tests on the proved program. It
 # writes proofs.lock.
 prove:
-	@sh verification/needs.sh rt python3 gcc
+	@sh packaging/needs.sh rt python3 gcc
 	@python3 verification/test.py --prove $(if $(FRESH),--fresh)
 
 # Every test; proofs and edits where the locks lack them, and a sample of the others.
 # With PROVE=all every crate is proved.
 test:
-	@sh verification/needs.sh rt python3 gcc
+	@sh packaging/needs.sh rt python3 gcc
 	@python3 verification/test.py $(if $(filter all,$(PROVE)),--all) $(if $(FRESH),--fresh)
 
 # Tries the edits that must-fail.lock doesn't have as they are now, with CRATES="NAME .." those of these crates, and
 # records them. With EVERY=1 also those that it has.
 edits:
-	@sh verification/needs.sh rt python3
+	@sh packaging/needs.sh rt python3
 	@python3 verification/test.py --edits $(if $(EVERY),--all) $(CRATES)
 
 # Lays the libraries that this machine has proved before where `rt check` looks, so that it begins at once in any crate.
 libraries:
-	@sh verification/needs.sh rt python3
+	@sh packaging/needs.sh rt python3
 	@python3 verification/test.py --lay
 
 # The program that the end-to-end tests run beside snapd, without its proofs, and these tests alone, on bin/snapd.
 programs:
-	@sh verification/needs.sh rt python3
+	@sh packaging/needs.sh rt python3
 	@python3 verification/quick.py try_parts
 
 tests: programs
@@ -46,7 +46,7 @@ tests: programs
 
 # What is timed has no checks in it, so it is proved.
 bench:
-	@sh verification/needs.sh rt python3 gcc
+	@sh packaging/needs.sh rt python3 gcc
 	python3 verification/test.py --prove snapd try_bench
 	python3 bench/run.py
 	python3 bench/server.py
@@ -55,7 +55,7 @@ bench:
 
 # Draws docs/figures/*.svg from the figures beside them.
 figures:
-	@sh verification/needs.sh python3
+	@sh packaging/needs.sh python3
 	@python3 bench/plots.py
 
 # The client in C as libraries, and the one in Python as a wheel and an sdist. A change of a call or of the layout of
@@ -66,7 +66,7 @@ SONAME = libsnapd.so.0
 
 .PHONY: clients c-client install-clients
 clients: c-client
-	@sh verification/needs.sh python3
+	@sh packaging/needs.sh python3
 	python3 clients/python/build_wheel.py '$(CLIENTS)'
 
 c-client:
@@ -124,11 +124,11 @@ uninstall:
 # A package for Debian, and a tarball with a digest of each file and what it was made of, both in out/, of bin/snapd and
 # the client in C.
 deb:
-	@sh verification/needs.sh rt python3 gcc dpkg-deb
+	@sh packaging/needs.sh rt python3 gcc dpkg-deb
 	@python3 packaging/deb.py
 
 dist:
-	@sh verification/needs.sh rt python3 gcc
+	@sh packaging/needs.sh rt python3 gcc
 	@python3 packaging/dist.py
 
 # Fails hosts under a server whose files have three copies, 50 times in each of four ways, for half an hour. It wants

@@ -106,7 +106,8 @@ def prove_all(words, lanes):
     record.write(TOP)
     readme.write_text(re.sub(rf"^`{LOCK}: .*`$", f"`{record.told()}`", readme.read_text(), flags=re.M))
     print(record.told(), edits.told(), sep="\n", flush=True)
-    return [*parts, run_tests("run.py", "--program", place("snapd"))]
+    # (a proved program leaves processors idle where each has a test)
+    return [*parts, run_tests("run.py", "--program", place("snapd"), "--jobs", str(kit.load().processors() + 2))]
 
 
 def try_edits(words):
