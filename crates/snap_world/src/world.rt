@@ -109,10 +109,7 @@ impl World {
         }
         for i in 0..events.len() {
             match self.step(&events[i]) {
-                Ok(reply) => match replies.push(reply) {
-                    Ok(()) => {}
-                    Err(_) => return Err(Stopped { done: i + 1 }),
-                },
+                Ok(reply) => replies.push_reserved(reply),
                 Err(_) => return Err(Stopped { done: i }),
             }
         }

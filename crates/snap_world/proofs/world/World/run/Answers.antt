@@ -1,4 +1,5 @@
 use Rattle.std.proofs.Common.{rules, inr, length, refl, [], ◌∷◌, ◌++◌, take, sym, subst}
+use Rattle.snap_world.proofs.Fills.{any_crash_of, any_fault_of, crash_inside_any_write_of}
 use Rattle.snap_world.proofs.Runs.{IsRun-append, IsRun-grows, IsRun-same, take-event}
 use Rattle.std.proofs.{lemmas.Option.slice_get_read}
 use Rattle.snap_world.specs.{Surface.IsRun, Surface.phases_of, NodePhases.NeedsMemory}
@@ -30,3 +31,21 @@ returns-in-Err-clause-memory c =
       slice_get_read events (length events) c.loop-i.i event refl c.loop-i-test.true c.index-events-i.is,
       subst (λ w. NeedsMemory (phases_of w) event) (sym c.in-Err.ensures.err) c.in-Err.ensures.memory,
     )
+
+pub returns-in-Err-clause-any_crash : goal.returns-in-Err-clause-any_crash
+returns-in-Err-clause-any_crash c = any_crash_of c.step.new.self
+
+pub returns-in-Err-clause-crash_inside_any_write : goal.returns-in-Err-clause-crash_inside_any_write
+returns-in-Err-clause-crash_inside_any_write c = crash_inside_any_write_of c.step.new.self
+
+pub returns-in-Err-clause-any_fault : goal.returns-in-Err-clause-any_fault
+returns-in-Err-clause-any_fault c = any_fault_of c.step.new.self
+
+pub returns-clause-any_crash : goal.returns-clause-any_crash
+returns-clause-any_crash c = any_crash_of c.loop-i.self
+
+pub returns-clause-crash_inside_any_write : goal.returns-clause-crash_inside_any_write
+returns-clause-crash_inside_any_write c = crash_inside_any_write_of c.loop-i.self
+
+pub returns-clause-any_fault : goal.returns-clause-any_fault
+returns-clause-any_fault c = any_fault_of c.loop-i.self
