@@ -33,7 +33,7 @@ def written_out(text):
 def is_module(name, part, path):
     crate, words = TOP / "crates" / name, path.split(".")
     if not crate.exists():
-        return (kit.path().parent.parent / "rlibs" / f"{name}.rlib").exists()
+        return pathlib.Path(kit.load().rtlib.KIT, "rlibs", f"{name}.rlib").exists()
     files, handed_on = modules(crate)
     above = [".".join(words[:at]) for at in range(1, len(words) + 1)]
     return not handed_on.isdisjoint(words) or any(f"{it}.{path}" in files for path in above for it in (part, "src"))

@@ -1,12 +1,10 @@
 """What an edit's refusal rests on, as a digest: the edit, the function that it changes, and the contracts and
 definitions that this function names.
 
-Whether an edit has to be refused, a contract says: the function's clauses, what these mean, and what the functions that
-it calls promise. So a digest takes the edit, the function's own text, and each definition of `specs/`, each type, and
-each function's head with its clauses that the text names, with what these name in turn, and the kit's logic. No bodies
-of other functions count, and no proofs: a wrong body stays wrong however the right one is proved. Nor do line breaks,
-the file or crate where a text lies, and whether a type is `Debug`. A name counts by the file's imports; a method by its
-name, wherever a crate below has one.
+So it takes the edit, the function's text, each definition of `specs/`, each type, and each function's head with its
+clauses that the text names, what these name in turn, and the kit's logic. A wrong body stays wrong whatever the bodies
+of other functions and the proofs are. Nor do line breaks count, the file or crate where a text lies, and whether a type
+is `Debug`. A name counts by the file's imports; a method by its name, wherever a crate below has one.
 """
 
 import functools
@@ -28,7 +26,6 @@ USE = re.compile(r"^ *(?:pub )?(?:ghost )?use [^;{}\n]*(?:\{[^{}]*\})?[^;{}\n]*;
 DEBUG = re.compile(r"^ *#\[derive\(Debug\)\]\n|(?<=derive\()Debug, |(?<=, )Debug, |, Debug(?=\)\])", re.M)
 WORDS = re.compile(r"[^\s(){}\[\],;.:&|<>\"]+")
 CALLED = re.compile(r"(?:\.|::)(\w+)(?=\(|::)")
-HERE = ("crate", "super", "self")
 # A definition, a type, or a function's head with its clauses, in a file of a crate.
 Piece = namedtuple("Piece", "crate path text")
 
@@ -40,11 +37,6 @@ def summed(*parts):
         part = part if isinstance(part, bytes) else part.encode()
         total.update(len(part).to_bytes(8, "big") + part)
     return total.hexdigest()
-
-
-def one_line(text):
-    """A text without its line breaks and indentation, which mean nothing."""
-    return " ".join(text.split())
 
 
 def words_of(text):
@@ -73,7 +65,7 @@ class Digests:
                 full, _, alias = item.strip().partition(" as ")
                 name = re.split(r"\.|::", full)[-1]
                 for it in words_of(f"{name} {alias}"):
-                    self.imports[path, it].add((crate if of in HERE else of, name))
+                    self.imports[path, it].add((crate if of in ("crate", "super", "self") else of, name))
         self.aliases[path] = [(of, re.compile(rf"\b{name}\.(\w+)")) for of, name in ALIAS.findall(text)]
         for names, body in items_of(USE.sub("", text), path):
             piece = Piece(crate, path, body)
@@ -111,5 +103,6 @@ class Digests:
             if it not in seen:
                 seen.add(it)
                 left += self.meant(*it)
-        texts = sorted({one_line(it.text) for it in seen})
-        return summed(self.logic, path.name, one_line(path.read_text()), one_line(own), *texts)
+        # (line breaks and indentation mean nothing)
+        own = [" ".join(it.split()) for it in (path.read_text(), own)]
+        return summed(self.logic, path.name, *own, *sorted({" ".join(it.text.split()) for it in seen}))

@@ -31,14 +31,10 @@ def logic():
     return identity().partition(" ")[2] or identity()
 
 
-def path():
-    return pathlib.Path(shutil.which("rt")).resolve()
-
-
 @functools.lru_cache(maxsize=None)
 def load():
     """The command `rt` as a module. Ends the program where it lacks one of its parts."""
-    loader = importlib.machinery.SourceFileLoader("rt_of_the_kit", str(path()))
+    loader = importlib.machinery.SourceFileLoader("rt_of_the_kit", str(pathlib.Path(shutil.which("rt")).resolve()))
     rt = importlib.util.module_from_spec(importlib.util.spec_from_loader("rt_of_the_kit", loader))
     loader.exec_module(rt)
     try:

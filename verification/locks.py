@@ -1,10 +1,5 @@
-"""The two locks, by which it is known what was proved and what was refused. A line is only a claim of its author.
-
-The digest (SHA-256) in a line of `proofs.lock` is of all that a crate's proof rests on: each file of its src/, specs/
-and proofs/ without comments, its line of crates.txt, HANDLES, the kit's logic, and the digests of the crates below.
-Anyone can check it by `make prove`, which writes it, and `make test` checks a sample. A line of `must-fail.lock` has
-the digest of what an edit's refusal rests on (digests.py); every run that tries an edit writes it.
-"""
+"""The two locks, by which it is known what was proved and what was refused (docs/PROMISES.md has what their digests are
+of, and which command writes and which one checks them). A line is only a claim of its author."""
 
 import datetime
 import functools

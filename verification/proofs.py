@@ -7,9 +7,8 @@ times, with the longest chain first; and that what was proved before is taken fr
 with --anew none, and never what came of an edit. With --over the tries of a crate's edits begin with what `rt check`
 left of it in the checkout, if it did. The kit's own lines are in LOG.
 
-The archive is what this machine has proved, as `rt ci` keeps it, but in a folder of ours and whatever comments say:
-each crate under the sum of all that its proof has read, the kit, HANDLES, the crate's line of crates.txt, its files
-without their comments, and the built libraries below it. Whoever can write to it can forge a proof.
+The archive is as `rt ci` keeps it, but in a folder of ours, and with comments left out of each crate's sum. Whoever can
+write to it can forge a proof.
 """
 
 import hashlib
@@ -87,8 +86,7 @@ def judged(names, told, status, log):
 
 def prove(names, edits, chosen, anew=(), programs=()):
     """Proves these crates with all below them, and takes these programs; tries the chosen edits, and records what was
-    refused. Returns the seconds that each proof took, and what came of the proofs and of the edits: how much passed,
-    how much failed, and what is said of that."""
+    refused. Returns the seconds that each proof took, and what came of the proofs and of the edits."""
     names, began = with_below(crates_of(TOP), {*names, *(it[0] for it in chosen)}), time.monotonic()
     LOG.parent.mkdir(exist_ok=True)
     # (a run that ends before it has written a line is not told by those of an earlier one)

@@ -2,9 +2,7 @@
 
     python3 verification/test.py [--prove | --edits | --lay] [--all] [--fresh] [--seed N] [NAME ..]
 
-With --all, and with --prove, the end-to-end tests run on the proved program, which is left at bin/snapd. If every proof
-passed, --prove writes proofs.lock and README's line; with names it proves these programs alone. --edits tries the
-must-fail edits that must-fail.lock lacks, with --all every one, of all crates or of these. --lay gives `rt check` the
+With names --prove proves these programs alone, and --edits tries the edits of these crates. --lay gives `rt check` the
 libraries that this machine has proved: in a fresh checkout it would prove each one below its crate first.
 
 What comes of a part is how much passed, how much failed, and what is said of that. The last line, `N passed, M failed`,
@@ -74,8 +72,7 @@ def prove_some(words):
         new = []
     missing = {*(proved if words.fresh else lacking(TOP))} - owed
     # (the program's proof takes all processors)
-    names = [it for it in proved if it != "snapd"]
-    names, chosen = drawn(names, edits.known(), crates, SECONDS, missing, words.seed, SAMPLE)
+    names, chosen = drawn({*proved} - {"snapd"}, edits.known(), crates, SECONDS, missing, words.seed, SAMPLE)
     print(f"sample: {', '.join(names) or 'no crate'}, with {len(chosen)} edits (seed {words.seed})", flush=True)
     anew = ["--anew"] if words.fresh else [it for it in names if [edit[0] for edit in chosen].count(it) < 2]
     return [(0, len(said), said), *prove({*owed, *names}, edits, [*new, *chosen], anew, ["snapd"] * words.all)[1]]
@@ -132,7 +129,6 @@ def main():
     if words.lay:
         print("these libraries weren't proved here:", ", ".join(lacking(TOP, is_laid=True)) or "none")
         return 0
-    # (side by side where memory allows)
     lanes = 2 if kit.load().free() > BOTH else 1
     every = prove_all if words.prove else test_all
     parts = try_edits(words) if words.edits else every(words, lanes)
