@@ -123,6 +123,7 @@ def test_a_user_who_may_not(snapd, _):
         with AtSocket(snapd, *fresh(snapd, 1), address=address):
             snapd("call", address, "scan").gave(0, "segment 0 number 0 value -\n")
             program("call", address, "scan", **nobody).gave(1, errors=told(address, errno.EACCES, RIGHT))
+            program("watch", address, **nobody).failed_with(1, f"{address}: {os.strerror(errno.EACCES)} ", RIGHT)
     with AtSocket(snapd, *fresh(snapd, 1), address="unix:open.sock", more=["--socket-mode", "0666"]):
         program("call", "unix:open.sock", "scan", **nobody).gave(0, "segment 0 number 0 value -\n")
 

@@ -19,6 +19,7 @@ VERSION = re.search(r'VERSION: &str = "([0-9.]+)"', GRAMMAR.read_text())[1].enco
 # The second lines of commands, after that of a refusal.
 DAMAGED = "F: its slots give no answer: see snapd check F"
 FORMATTED = "F: it is formatted already: see snapd check F"
+TOO_LONG = "F: a value has at most 4080 bytes: nothing was stored"
 
 
 def unformatted(place="--index 0 --count 1", file="F"):
@@ -80,7 +81,7 @@ def test_longest_value_and_one_more(snapd, _):
     snapd("put", "F", stdin=b"v" * 4_080).gave(0, "stored 1\n")
     data = file.read_bytes()
     for length in (4_081, 4_096, 1_000_000):
-        snapd("put", "F", stdin=b"v" * length).refused(3, "TooLong")
+        snapd("put", "F", stdin=b"v" * length).refused(3, "TooLong", TOO_LONG)
         assert file.read_bytes() == data
     snapd("get", "F", "--index", 1, "--count", 2).refused(14, "WrongFile", of_another(1, 2))
     snapd("put", "F", "--count", 2).refused(14, "WrongFile", of_another(0, 2))
@@ -138,7 +139,7 @@ def test_wrong_lengths(snapd, _):
         more = layout.advice("F") if length == layout.OLD.length else of_length(length)
         for command in ("format", "put", "get", "check"):
             snapd(command, "F").refused(14, "WrongFile", more)
-        snapd("put", "F", stdin=b"v" * 4_081).refused(3, "TooLong")
+        snapd("put", "F", stdin=b"v" * 4_081).refused(3, "TooLong", TOO_LONG)
         assert snapd.file().read_bytes() == data
 
 

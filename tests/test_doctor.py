@@ -81,16 +81,13 @@ def test_what_is_wrong_with_a_file_comes_with_its_remedy(snapd, _):
     cut, torn = bytearray(whole), bytearray(whole)
     cut[layout.HEADER_GATE] = 0
     torn[layout.gate_at(5 % 3)] = 0
-    never = (
-        "it was never formatted, or its header is gone: "
-        "go on with the init or format that was cut off, or move it out of D"
-    )
+    go_on = "go on with the init or format that was cut off, or move it out of D"
     foreign = (
         "it is no segment file: bring a copy back if it was one, else move it out of D, "
         "or give it a name that doesn't end in .seg"
     )
     old = (
-        f"it has the length of the old format: carry it over with snapd migrate D/{name_of(1)} NEW, "
+        f"it has the length of the old format: carry it over with snapd migrate D/{name_of(1)} NEW --index I --count N, "
         "and move it out of D"
     )
     none = (
@@ -98,8 +95,8 @@ def test_what_is_wrong_with_a_file_comes_with_its_remedy(snapd, _):
         f"or save what a slot holds by snapd check D/{name_of(1)} --slot S --value"
     )
     for data, line in (
-        (bytes(cut), never),
-        (b"", never),
+        (bytes(cut), f"it was never formatted, or its header is gone: keep a copy first, then {go_on}"),
+        (b"", f"it was never formatted, or its header is gone: {go_on}"),
         (b"x" * 100, foreign),
         (bytes(layout.OLD.length), old),
         (bytes(torn), none),
@@ -118,7 +115,7 @@ def test_one_bad_file_in_each_place(snapd, _):
     fresh = files_in(place)
     told = [at(index, 3, 0) for index in range(3)]
     never = (
-        "it was never formatted, or its header is gone: "
+        "it was never formatted, or its header is gone: keep a copy first, then "
         "go on with the init or format that was cut off, or move it out of D"
     )
     foreign = (

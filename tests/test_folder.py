@@ -166,7 +166,7 @@ def test_init_refuses_what_is_no_file_of_its_own(snapd, _):
     name = f"D/{name_of(1)}"
     taken = ("refused 12 AlreadyFormatted", FORMATTED.replace("F", name, 1).replace("check F", f"check {name}"))
     wrong = "refused 14 WrongFile"
-    old = f"{name}: it has the length of the old format: carry it over with snapd migrate {name} NEW"
+    old = f"{name}: it has the length of the old format: carry it over with snapd migrate {name} NEW --index I --count N"
     for data, lines in (
         (layout.holding((0, b""), index=2, count=3), taken),
         (bytes(mark), taken),
@@ -430,19 +430,19 @@ def test_files_that_are_no_segments(snapd, _):
         f"{name}: it is no segment file: bring a copy back if it was one, else move it out of D, "
         "or give it a name that doesn't end in .seg"
     )
-    cut = (
-        f"{name}: it was never formatted, or its header is gone: "
-        "go on with the init or format that was cut off, or move it out of D"
-    )
+    go_on = "go on with the init or format that was cut off, or move it out of D"
+    empty = f"{name}: it was never formatted, or its header is gone: {go_on}"
+    # Its slots may hold a value, which a format erases.
+    cut = f"{name}: it was never formatted, or its header is gone: keep a copy first, then {go_on}"
     old = (
-        f"{name}: it has the length of the old format: carry it over with snapd migrate {name} NEW, "
+        f"{name}: it has the length of the old format: carry it over with snapd migrate {name} NEW --index I --count N, "
         "and move it out of D"
     )
     for data, line in (
         (b"hi", no_segment),
         (bytes(layout.LENGTH + 1), no_segment),
         (bytes(header), no_segment),
-        (b"", cut),
+        (b"", empty),
         (bytes(layout.LENGTH), cut),
         (layout.OLD.holding((1, b"hi")), old),
     ):

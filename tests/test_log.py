@@ -200,7 +200,8 @@ def lost(name, segment, number, why):
     """What is logged of an update that could not be stored."""
     return (
         f"{name}: segment {segment}: update {number} failed: "
-        f"a restart shows whether it is stored, and the segment is fenced until then: {why}"
+        "a restart shows whether it is stored, and the segment is fenced until then: "
+        f"save what is served before that, by snapd dump ADDR: {why}"
     )
 
 

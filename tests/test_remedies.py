@@ -30,7 +30,7 @@ ROWS = [
      "F: it has no byte: a format that was cut off: go on with snapd format F --index I --count N"),
     ({"F": "short"}, "check F --json", "14 WrongFile", "F: it has 28671 bytes, and a segment file has 28672"),
     ({"F": "old"}, "check F --json", "14 WrongFile",
-     "F: it has the length of the old format: carry it over with snapd migrate F NEW"),
+     "F: it has the length of the old format: carry it over with snapd migrate F NEW --index I --count N"),
     # The files of a migration whose place isn't the first.
     ({"OLD": "short", "F": "unformatted"}, MIGRATE, "14 WrongFile",
      f"OLD: {AS_OLD}it isn't the file of segment 1 of 2 with the 20480 bytes of the old format"),
@@ -54,7 +54,7 @@ ROWS = [
     ({"F": "first", "G": "empty"}, SERVE, "14 WrongFile",
      "G: it has no byte: a format that was cut off: go on with snapd format G --index 1 --count 2"),
     ({"F": "first", "G": "old"}, SERVE, "14 WrongFile",
-     "G: it has the length of the old format: carry it over with snapd migrate G NEW"),
+     "G: it has the length of the old format: carry it over with snapd migrate G NEW --index I --count N"),
     ({"F": "first", "G": "first"}, SERVE, "14 WrongFile", "G: it isn't the file of segment 1 of 2: see snapd check G"),
     ({"F": "first", "G": "short"}, SERVE, "14 WrongFile", "G: it isn't the file of segment 1 of 2: see snapd check G"),
 ]

@@ -412,6 +412,8 @@ def test_none_is_bound_where_one_cannot_be(snapd, _):
             more = [word for it in words[1:] for word in ("--listen", it)]
             refused(snapd("serve", words[0], *files, *more), there, busy)
             assert not any(os.path.lexists(snapd.folder / name) for name in "ab")
+    no_port = "invalid port value: give HOST:PORT with a port from 0 to 65535"
+    refused(snapd("serve", "127.0.0.1:99999", *files), "127.0.0.1:99999", no_port)
     refused(snapd("serve", "unix:a", *files, "--listen", "unix:a"), "unix:a", ALIVE)
     assert not os.path.lexists(snapd.folder / "a")
     with socket.create_server(("127.0.0.1", port)):

@@ -161,10 +161,10 @@ def test_addresses_that_lack_a_part(snapd, _):
 def test_no_server_at_the_start(snapd, _):
     port = free_port()
     snapd("watch", f"127.0.0.1:{port}").gave(
-        1, errors=f"snapd: 127.0.0.1:{port}: no connection to the server could be made: start snapd serve there\n"
+        1, errors=f"snapd: 127.0.0.1:{port}: Connection refused (os error 111): start snapd serve there\n"
     )
     snapd("watch", "unix:none").gave(
-        1, errors="snapd: unix:none: no connection to the server could be made: start snapd serve there\n"
+        1, errors="snapd: unix:none: No such file or directory (os error 2): start snapd serve there\n"
     )
 
 

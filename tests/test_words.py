@@ -128,9 +128,9 @@ def test_wrong_words_of_a_dump_and_a_load(snapd, _):
     are_refused(
         snapd,
         ("dump D --tries 11", not_in("the number of tries 11 is", 1, 10)),
-        ("dump D --timeout 0", not_in("the seconds of the timeout are", 1, 86_400)),
+        ("dump D --timeout 0", not_in("the seconds of --timeout are", 1, 86_400)),
         ("dump D --tries 0", not_in("the number of tries 0 is", 1, 10)),
-        ("dump A:1 --wait=86401", not_in("the seconds of the wait are", 1, 86_400)),
+        ("dump A:1 --wait=86401", not_in("the seconds of --wait are", 1, 86_400)),
         ("load D F --count 17", not_in("the count 17 is", 1, 16)),
         ("load D F --count 0", not_in("the count 0 is", 1, 16)),
         ("load D F --count=-0", "the count is not a number from 0 to 255"),
@@ -166,7 +166,8 @@ def test_wrong_files_and_scanners_of_a_server(snapd, _):
 
 
 def test_wrong_limits_of_a_server(snapd, _):
-    clients, idle = not_in("the most clients are", 1, 1_000_000), not_in("the idle seconds are", 1, 31_536_000)
+    clients = not_in("the clients of --clients-max are", 1, 1_000_000)
+    idle = not_in("the seconds of --idle are", 1, 31_536_000)
     are_refused(
         snapd,
         ("serve A F --connections=-1", no_value("--connections <K>", -1)),
@@ -189,7 +190,7 @@ def test_wrong_limits_of_a_server(snapd, _):
 
 
 def test_wrong_levels_of_a_log(snapd, _):
-    no_level = "the log is not `error`, `warn`, `info` or `debug`"
+    no_level = "--log is not `error`, `warn`, `info` or `debug`"
     are_refused(
         snapd,
         ("serve A F --log=Info", no_level),
@@ -251,7 +252,8 @@ def test_wrong_updates(snapd, _):
 
 
 def test_wrong_puts_and_gets(snapd, _):
-    one, alone = "a put is `put I`, and a get `get I`, of one segment", "--value and --after are for `put I` alone"
+    one = "a put is `put I`, of standard input or with --value, and a get is `get I`"
+    alone = "--value and --after are for `put I` alone"
     no_get = "the segment to get is not a number from 0 to 15"
     are_refused(
         snapd,
@@ -298,7 +300,7 @@ def test_wrong_masks(snapd, _):
 
 
 def test_wrong_layouts_and_times_of_a_call(snapd, _):
-    wait, timeout = (not_in(f"the seconds of the {what} are", 1, 86_400) for what in ("wait", "timeout"))
+    wait, timeout = (not_in(f"the seconds of --{what} are", 1, 86_400) for what in ("wait", "timeout"))
     no_layout = "--text and --json are for scan, part, status and health"
     are_refused(
         snapd,
@@ -317,7 +319,7 @@ def test_wrong_layouts_and_times_of_a_call(snapd, _):
 
 def test_wrong_words_of_a_watch(snapd, _):
     no_segment = "a segment to show is not a number from 0 to 15"
-    no_time = not_in("the milliseconds between looks are", 1, 86_400_000)
+    no_time = not_in("the milliseconds of --every are", 1, 86_400_000)
     are_refused(
         snapd,
         ("watch", missing("watch <ADDR> [SEGMENT]...", "<ADDR>")),
@@ -679,7 +681,7 @@ HELP = [
     ("doctor", "  <DIR>  The path of the folder"),
     ("serve", "  [FILE]...  The files, in order of segment: 1 to 16"),
     ("serve", "from 0 in the order of the files and N is how many there are. All files are locked while it runs:"),
-    ("serve", "callers wait. A scanner answers one request after the other, so as many requests are answered at the"),
+    ("serve", "with --http 100, that it needs itself. Further callers wait. A scanner answers one request after the"),
     ("serve", "There is no login: anyone who can connect to ADDR may read and write all segments. Use unix:PATH,"),
     ("serve", "      --dir <DIR>           The folder of the files, in place of these"),
     ("serve", "      --clients-max <N>     The most connections that are open at once, 1 to 1000000"),
@@ -693,7 +695,8 @@ HELP = [
     ("call", "      --text               Print each value as text, if it is printable"),
     ("call", "      --json               Print the answer as JSON, on one line"),
     ("call", '"text" where it is UTF-8, and else under "base64".'),
-    ("call", "      --value <TEXT>       The value of a put, in place of standard input"),
+    ("call", "      --value <TEXT>       The value of a put, in place of standard input; --value=TEXT where it begins "
+             "with -"),
     ("call", "      --after <K>          Store number K + 1, without asking for the segment's number"),
     ("call", "  put I                store standard input as the next value of segment I; prints `stored K`"),
     ("call", "  get I                prints the value of segment I, byte for byte, and nothing else"),

@@ -22,8 +22,8 @@ pub(crate) fn calling<'a>(
     let call = CallOptions {
         address: text_of(matches, "address")?,
         tries: number_to(matches, "tries", "number of tries", usize::from(MAX_TRIES))?,
-        wait: limit_of(matches, "wait", "seconds of the wait", MAX_TIMEOUT)?,
-        timeout: limit_of(matches, "timeout", "seconds of the timeout", MAX_TIMEOUT)?,
+        wait: limit_of(matches, "wait", "seconds of --wait", MAX_TIMEOUT)?,
+        timeout: limit_of(matches, "timeout", "seconds of --timeout", MAX_TIMEOUT)?,
         layout: layout_of(matches)?,
         question: question_of(alloc, matches)?,
     };

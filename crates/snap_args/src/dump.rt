@@ -19,8 +19,8 @@ pub(crate) fn dumping<'a>(matches: &ArgMatches<'a>) -> Result<DumpOptions<'a>, W
     Ok(DumpOptions {
         holder: holder_of(text_of(matches, "holder")?),
         tries: number_to(matches, "tries", "number of tries", usize::from(MAX_TRIES))?,
-        wait: limit_of(matches, "wait", "seconds of the wait", MAX_TIMEOUT)?,
-        timeout: limit_of(matches, "timeout", "seconds of the timeout", MAX_TIMEOUT)?,
+        wait: limit_of(matches, "wait", "seconds of --wait", MAX_TIMEOUT)?,
+        timeout: limit_of(matches, "timeout", "seconds of --timeout", MAX_TIMEOUT)?,
     })
 }
 

@@ -129,7 +129,7 @@ static CALL_WORDS: [Word<'static>; 9] = words! {
     "tries" "T" Number("1"), TRIES_HELP;
     "wait" "SECONDS" LargeNumber, WAIT_HELP;
     "timeout" "SECONDS" LargeNumber, TIMEOUT_HELP;
-    "value" "TEXT" Text, "The value of a put, in place of standard input";
+    "value" "TEXT" Text, "The value of a put, in place of standard input; --value=TEXT where it begins with -";
     "after" "K" LargeNumber, "Store number K + 1, without asking for the segment's number";
     "text" "" Flag, "Print each value as text, if it is printable";
     "json" "" Flag, "Print the answer as JSON, on one line";
@@ -153,7 +153,7 @@ static LOAD_WORDS: [Word<'static>; 3] = words! {
     "folder" "DIR" Needed, "The path of the folder, which isn't there or is empty";
     "dump" "DUMP" Needed, "The path of the dump, or `-` for standard input";
     "count" "M" FreeNumber,
-        "How many segments there are to be, 1 to 16, and as many as the dump has at least";
+        "How many segments there are to be, 1 to 16, and at least as many as the dump has";
 };
 
 /// The program with all its commands and their arguments.

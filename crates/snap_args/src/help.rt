@@ -104,9 +104,10 @@ it got if ADDR has port 0. From then on it answers `snapd call` and other client
 standard error, with `--log debug` also how each connection ended. It runs until it is killed, or
 until K connections have ended; then it prints `served K`.
 
-At most N clients are connected, by default some fifty fewer than the process may open files. Further
-callers wait. A scanner answers one request after the other, so as many requests are answered at the
-same time as there are scanners. A store that waits for its disk blocks no scanner.
+At most N clients are connected: by default as many as the process may open files, less the 30 or so,
+with --http 100, that it needs itself. Further callers wait. A scanner answers one request after the
+other, so as many requests are answered at the same time as there are scanners. A store that waits
+for its disk blocks no scanner.
 
 There is no login: anyone who can connect to ADDR may read and write all segments. Use unix:PATH,
 127.0.0.1 or ::1, and a tunnel from elsewhere. An ADDR that means all addresses of the machine, as

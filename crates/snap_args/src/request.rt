@@ -77,7 +77,7 @@ fn plain_question(alloc: Global, words: &[&str]) -> Result<CallRequest, WordFaul
 /// The rule that arguments break if they have the form of no request.
 fn form_rule(words: &[&str]) -> &'static str {
     if matches!(words.first().copied(), Some("put" | "get")) {
-        return "a put is `put I`, and a get `get I`, of one segment";
+        return "a put is `put I`, of standard input or with --value, and a get is `get I`";
     }
     "the request is not `put I`, `get I`, `update I NUMBER HEX`, `scan`, `part MASK`, `status` or `health`"
 }

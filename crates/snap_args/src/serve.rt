@@ -58,8 +58,13 @@ fn service_of<'a>(
         socket_mode: mode_of(matches)?,
         scanners: number_to(matches, "scanners", "number of scanners", MAX_SCANNERS)?,
         connections: large_number_of(matches, "connections", u64::MAX, rule)?,
-        clients: limit_of(matches, "clients-max", "most clients", MAX_CLIENTS)?,
-        idle: limit_of(matches, "idle", "idle seconds", MAX_IDLE)?,
+        clients: limit_of(
+            matches,
+            "clients-max",
+            "clients of --clients-max",
+            MAX_CLIENTS,
+        )?,
+        idle: limit_of(matches, "idle", "seconds of --idle", MAX_IDLE)?,
         log: level_of(matches)?,
         http: matches.get_str("http"),
     })
@@ -94,6 +99,6 @@ fn level_of(matches: &ArgMatches<'_>) -> Result<Level, WordFault>
         "warn" => Ok(Level::Warn),
         "info" => Ok(Level::Info),
         "debug" => Ok(Level::Debug),
-        _ => Err(WordFault::Rule("the log is not `error`, `warn`, `info` or `debug`")),
+        _ => Err(WordFault::Rule("--log is not `error`, `warn`, `info` or `debug`")),
     }
 }

@@ -21,7 +21,7 @@ pub(crate) fn watching<'a>(
     Ok(WatchOptions {
         address: text_of(matches, "address")?,
         segments: segments_of(alloc, matches.get_strs("segments").unwrap_or(&[]))?,
-        every: limit_of(matches, "every", "milliseconds between looks", MAX_EVERY)?,
+        every: limit_of(matches, "every", "milliseconds of --every", MAX_EVERY)?,
         is_json: is_given(matches, "json"),
     })
 }

@@ -99,9 +99,9 @@ fn checking<'a>(matches: &ArgMatches<'a>) -> Result<FileOrder<'a>, WordFault>
     let file = text_of(matches, "file")?;
     let is_json = is_given(matches, "json");
     let is_value = is_given(matches, "value");
-    match matches.get_str("slot") {
-        None if !is_value => Ok(FileOrder::Check { file, is_json }),
-        Some(word) if is_value && !is_json => {
+    match (matches.get_str("slot"), is_value, is_json) {
+        (None, false, _) => Ok(FileOrder::Check { file, is_json }),
+        (Some(word), true, false) => {
             let rule = "the slot is not a number from 0 to 2";
             let slot = number_in(word, SLOT_COUNT - 1, rule)? as u8;
             Ok(FileOrder::Slot { file, slot })

@@ -7,7 +7,7 @@ use std::fmt::{self, Display};
 const METRICS: &str = "\
 snapd_info gauge The version of the program.
 snapd_uptime_seconds gauge How long the server has run.
-snapd_resident_memory_bytes gauge Memory of the process that lies in the machine's.
+snapd_resident_memory_bytes gauge Memory of the machine that the process takes.
 snapd_connections_total counter Connections that were accepted.
 snapd_connections_open gauge Connections that are open.
 snapd_requests_total counter Requests that were answered, also with a refusal.
@@ -28,7 +28,7 @@ snapd_connections_max gauge Connections that may be open.
 snapd_log_lost_lines_total counter Lines of the log that were lost.
 process_start_time_seconds gauge When the process was started, since 1970.
 process_cpu_seconds_total counter Time of processors that the process took.
-process_resident_memory_bytes gauge Memory of the process that lies in the machine's.
+process_resident_memory_bytes gauge Memory of the machine that the process takes.
 process_virtual_memory_bytes gauge Addresses of memory that the process has.
 process_open_fds gauge Descriptors that are open.
 process_max_fds gauge Descriptors that may be open.

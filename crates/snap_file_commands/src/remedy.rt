@@ -2,6 +2,7 @@
 //! do. Advice that a server prints too is in `snap_order`.
 
 use snap_disk::Refusal;
+use snap_history::MAX_VALUE_LEN;
 use snap_order::{
     FileOrder, MigrateOptions, SystemReason, empty_remedy, format_command, old_format_remedy,
     unformatted_remedy,
@@ -31,6 +32,9 @@ pub(crate) fn line_behind<C: SystemReason>(
             format!(in alloc; "its slots give no answer: see snapd check {file}")
         }
         Refusal::AlreadyFormatted => of_formatted(alloc, file),
+        Refusal::TooLong => {
+            format!(in alloc; "a value has at most {MAX_VALUE_LEN} bytes: nothing was stored")
+        }
         _ => return Some(String::new(alloc)),
     };
     let text = text.ok()?;

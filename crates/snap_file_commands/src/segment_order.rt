@@ -7,7 +7,7 @@ use snap_history::MAX_COUNT;
 use std::alloc::{AllocError, Global};
 
 /// The place of a file's segment among those of one server, by its header.
-#[derive(Clone, Copy, PartialEq, Eq)]
+#[derive(Clone, Copy)]
 pub struct SegmentPlace {
     /// Which segment: below `count` in a header that is right.
     pub index: u8,
@@ -16,7 +16,7 @@ pub struct SegmentPlace {
 }
 
 /// Why the files of a folder are not the segments of one server. A file is named by its index in the list of files.
-#[derive(Clone, Copy, PartialEq, Eq)]
+#[derive(Clone, Copy)]
 pub enum FolderFault {
     /// There is no file.
     Empty,

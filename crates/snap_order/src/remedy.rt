@@ -28,6 +28,6 @@ pub fn unformatted_remedy(alloc: Global, command: &str) -> Result<String, AllocE
 /// Advice for a file that has the length of the old format.
 pub fn old_format_remedy(alloc: Global, file: &str) -> Result<String, AllocError> {
     format!(in alloc;
-        "it has the length of the old format: carry it over with snapd migrate {file} NEW"
+        "it has the length of the old format: carry it over with snapd migrate {file} NEW --index I --count N"
     )
 }

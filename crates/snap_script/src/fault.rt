@@ -5,7 +5,7 @@ use crate::words::cut;
 use thiserror::Error;
 
 /// Why a line can't be read. It prints as what was expected there.
-#[derive(Clone, Copy, Debug, Drop, PartialEq, Eq, Error)]
+#[derive(Clone, Copy, Debug, Drop, Error)]
 pub enum LineFault {
     /// The first line that isn't empty has to be `world N S`, and isn't.
     #[error("the first line has to be `world N S`, with N and S from 1 to 16")]

@@ -12,7 +12,7 @@ use snap_order::{
 };
 use snap_server::{BindFault, ServerFault};
 use std::alloc::{AllocError, Global};
-use std::io::{self, Write};
+use std::io::{self, ErrorKind, Write};
 
 /// Why a server ended early.
 #[derive(Drop)]
@@ -86,9 +86,7 @@ fn address_at<'a>(order: &ServeOptions<'a>, place: usize) -> &'a str {
 /// The advice after an address that couldn't be bound.
 fn advice_on(address: &str, why: &BindFault) -> &'static str {
     match why {
-        BindFault::System(_) if socket_path(address).is_none() => {
-            "give an address of this machine whose port is free"
-        }
+        BindFault::System(reason) if socket_path(address).is_none() => port_advice(reason),
         BindFault::System(_) => "give a path in a folder where this user may make files",
         BindFault::Taken => "end it, or give another path",
         BindFault::Foreign => {
@@ -98,6 +96,15 @@ fn advice_on(address: &str, why: &BindFault) -> &'static str {
         BindFault::Locked => "give a path in a folder of this server's own",
         BindFault::Masked => "start it under umask 0, or give a path in a folder of its own",
         BindFault::NoMemory => "give this process more memory",
+    }
+}
+
+/// The advice after a host and port that couldn't be bound for this reason.
+pub fn port_advice(reason: &io::Error) -> &'static str {
+    match reason.kind() {
+        ErrorKind::PermissionDenied => "give a port from 1024 on, or let this user listen below it",
+        ErrorKind::InvalidInput => "give HOST:PORT with a port from 0 to 65535",
+        _ => "give an address of this machine whose port is free",
     }
 }
 

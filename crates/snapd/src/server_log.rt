@@ -28,7 +28,7 @@ impl<X: Wait + Clock> ServerLog<'_, X> {
     fn log_unstored<T: Display>(&self, file: &str, segment: usize, number: u64, why: &T) {
         error!(self.log; target: "store",
             "{file}: segment {segment}: update {number} failed: a restart shows whether it is stored, and the segment \
-                is fenced until then: {why}"
+                is fenced until then: save what is served before that, by snapd dump ADDR: {why}"
         );
     }
 }

@@ -164,7 +164,7 @@ const METRICS: &str = "\
     # HELP snapd_uptime_seconds How long the server has run.\n\
     # TYPE snapd_uptime_seconds gauge\n\
     snapd_uptime_seconds 61.002\n\
-    # HELP snapd_resident_memory_bytes Memory of the process that lies in the machine's.\n\
+    # HELP snapd_resident_memory_bytes Memory of the machine that the process takes.\n\
     # TYPE snapd_resident_memory_bytes gauge\n\
     snapd_resident_memory_bytes 4096\n\
     # HELP snapd_connections_total Connections that were accepted.\n\
@@ -268,7 +268,7 @@ const LATER_METRICS: &str = "\
     # HELP process_cpu_seconds_total Time of processors that the process took.\n\
     # TYPE process_cpu_seconds_total counter\n\
     process_cpu_seconds_total 1.000000003\n\
-    # HELP process_resident_memory_bytes Memory of the process that lies in the machine's.\n\
+    # HELP process_resident_memory_bytes Memory of the machine that the process takes.\n\
     # TYPE process_resident_memory_bytes gauge\n\
     process_resident_memory_bytes 4096\n\
     # HELP process_open_fds Descriptors that are open.\n\

@@ -12,7 +12,7 @@ fn a_place_that_is_none_is_a_fault(rt: HostRuntime) {
         ];
         let ordered = order_files(rt.alloc(), &places);
         assert!(rt;
-            ordered.is_err_and(|why| why == FolderFault::NoPlace { file: 1 }),
+            matches!(ordered, Err(FolderFault::NoPlace { file: 1 })),
             "{index}"
         );
     }

@@ -3,6 +3,7 @@ ghost use Rattle.std.specs.Prelude.{◌<◌, IfSome};
 ghost use Rattle.snap_order.specs.Order.{IsWatchable};
 
 use super::call_command::{is_worth_a_try, link_within};
+use super::remedy::remedy_of;
 use super::time_limit::{Course, TimeLimit};
 use crate::watch::{Panel, Row, Track, WatchFault, changes, drawing, followed, look, set_of};
 use libc::net::{POLLERR, POLLHUP, poll};
@@ -15,7 +16,7 @@ use snap_order::{
 use std::alloc::Global;
 use std::cell::Cell;
 use std::env::{self, VarError};
-use std::io::{ErrorKind, IsTerminal};
+use std::io::{self, ErrorKind, IsTerminal};
 use std::net::TcpStream;
 use std::sync::Wait;
 use std::thread;
@@ -52,12 +53,20 @@ pub fn watch<X: Wait>(
         if is_unread() {
             return Err(Status::Failed);
         }
-        let is_late = Cell::new(false);
-        let rows = rows_now(rt, address, watched, &mut link, &screen.shown, &is_late);
+        let (is_late, mut unmade) = (Cell::new(false), None);
+        let rows = rows_now(
+            rt,
+            address,
+            watched,
+            &mut link,
+            &screen.shown,
+            &is_late,
+            &mut unmade,
+        );
         screen.now = millis_since(rt, began).unwrap_or(0);
         match rows {
             Ok(rows) => screen.show(rt, rows)?,
-            Err(trouble) => screen.bear(rt, trouble, is_late.get())?,
+            Err(trouble) => screen.bear(rt, trouble, is_late.get(), unmade.as_ref())?,
         }
         thread::sleep(rt, pause);
     }
@@ -79,8 +88,9 @@ fn millis_since(rt: &HostRuntime, began: Option<Instant>) -> Option<u64> {
     u64::try_from(began?.elapsed(rt).ok()?.as_millis()).ok()
 }
 
-/// The current rows of the server, by one poll within its time. Sets `is_late` if that was over. If the connection
-/// fails it polls once more on a new one, and requests all values, since another server may answer.
+/// The current rows of the server, by one poll within its time. Sets `is_late` if that was over, and `unmade` to the
+/// reason why no connection was made. If the connection fails it polls once more on a new one, and requests all values,
+/// since another server may answer.
 fn rows_now(
     rt: &HostRuntime,
     address: &str,
@@ -88,6 +98,7 @@ fn rows_now(
     link: &mut Option<TcpStream>,
     shown: &[Row],
     is_late: &Cell<bool>,
+    unmade: &mut Option<io::Error>,
 ) -> Result<Vec<Row>, WatchFault>
     requires some { IfSome watched (λ set. 0 < set.bits) }
 {
@@ -108,7 +119,10 @@ fn rows_now(
     }
     match link_within(rt, address, &limit) {
         Ok(open) => rows_by(rt.alloc(), open, watched, link, &[], limit),
-        Err(_) => Err(WatchFault::Lost(ClientFault::ConnectFailed)),
+        Err(reason) => {
+            *unmade = Some(reason);
+            Err(WatchFault::Lost(ClientFault::ConnectFailed))
+        }
     }
 }
 
@@ -199,7 +213,13 @@ impl<'a> Screen<'a> {
 
     /// Handles a failed poll. If the server has answered before, it shows why the server is lost: a board at each poll,
     /// and else once. An error is the exit status.
-    fn bear(&mut self, rt: &HostRuntime, trouble: WatchFault, is_late: bool) -> Result<(), Status> {
+    fn bear(
+        &mut self,
+        rt: &HostRuntime,
+        trouble: WatchFault,
+        is_late: bool,
+        unmade: Option<&io::Error>,
+    ) -> Result<(), Status> {
         let fault = match trouble {
             WatchFault::Refused { why, detail } => {
                 let (code, name) = (why.code(), why.name());
@@ -209,7 +229,7 @@ impl<'a> Screen<'a> {
             WatchFault::Lost(fault) => fault,
         };
         if self.contact == Contact::None {
-            return Err(fail_at_first(rt, self.address, fault, is_late));
+            return Err(fail_at_first(rt, self.address, fault, is_late, unmade));
         }
         let loss = loss_of(fault, is_late);
         let was_held = self.contact == Contact::Held;
@@ -255,10 +275,23 @@ fn print(rt: &HostRuntime, text: &[u8]) -> Result<(), Status> {
     })
 }
 
-/// Prints why there was no first answer, with advice.
-fn fail_at_first(rt: &HostRuntime, address: &str, fault: ClientFault, is_late: bool) -> Status {
+/// Prints why there was no first answer, with advice: `unmade` is the reason why no connection was made.
+fn fail_at_first(
+    rt: &HostRuntime,
+    address: &str,
+    fault: ClientFault,
+    is_late: bool,
+    unmade: Option<&io::Error>,
+) -> Status {
     if is_late {
         return fail_of(rt, address, &format_args!("{LATE}: see what serves there"));
+    }
+    if let Some(reason) = unmade {
+        let remedy = match reason.kind() {
+            ErrorKind::ConnectionRefused | ErrorKind::NotFound => "start snapd serve there",
+            _ => remedy_of(address, reason).unwrap_or("see what serves there"),
+        };
+        return fail_of(rt, address, &format_args!("{reason}: {remedy}"));
     }
     let remedy = match fault {
         ClientFault::BadReply => "check the address",

@@ -10,7 +10,7 @@ use std::alloc::{AllocError, Global};
 use std::io::{Read, Write};
 
 /// One segment on a board.
-#[derive(PartialEq, Eq, Drop)]
+#[derive(Drop)]
 pub struct Row {
     /// The segment's index.
     pub segment: usize,
@@ -40,7 +40,7 @@ pub fn set_of(segments: &[u8]) -> Option<SegmentSet>
 }
 
 /// The reason why a poll returned no rows.
-#[derive(Clone, Copy, PartialEq, Eq)]
+#[derive(Clone, Copy)]
 pub enum WatchFault {
     /// The server refused a request.
     Refused { why: Refusal, detail: u64 },

@@ -7,14 +7,14 @@ use std::alloc::{AllocError, Global};
 const SPAN: u64 = 5_000;
 
 /// A number that was seen, and when, in milliseconds since the watch began.
-#[derive(Clone, Copy, PartialEq, Eq)]
+#[derive(Clone, Copy)]
 struct SeenNumber {
     at: u64,
     number: u64,
 }
 
 /// The history of one segment's number, as far as its age and rate need it.
-#[derive(Clone, Copy, PartialEq, Eq)]
+#[derive(Clone, Copy)]
 pub struct Track {
     segment: usize,
     /// When the number was last seen to change. `None` if it never was.

@@ -5,7 +5,7 @@ use std::alloc::AllocError;
 use thiserror::Error;
 
 /// The reason why a text isn't a valid dump. Its message says what to do.
-#[derive(Clone, Copy, Debug, PartialEq, Eq, Error)]
+#[derive(Clone, Copy, Debug, Error)]
 pub enum DumpFault {
     /// It doesn't begin like a dump.
     #[error("it is no dump: give what snapd dump printed")]

@@ -121,7 +121,7 @@ pub fn contents_of<'f>(
             let number = findings.answer.map(|found| found.number);
             Ok((SegmentPlace { index, count }, number))
         }
-        Header::Closed => Err(unformatted(rt.alloc(), folder, file)),
+        Header::Closed => Err(unformatted(rt.alloc(), folder, file, false)),
         Header::Wrong => Err(other(no_segment(rt.alloc(), folder, file))),
     }
 }
@@ -146,10 +146,10 @@ pub fn findings_of<'f>(
                 }
                 None => Err(AllocError),
             },
-            (_, 0) => return Err(unformatted(alloc, folder, file)),
+            (_, 0) => return Err(unformatted(alloc, folder, file, true)),
             (_, OLD_FILE_LEN) => format!(in alloc;
-                "{file}: it has the length of the old format: carry it over with snapd migrate {file} NEW, and move \
-                    it out of {folder}"
+                "{file}: it has the length of the old format: carry it over with snapd migrate {file} NEW --index I \
+                    --count N, and move it out of {folder}"
             ),
             _ => no_segment(alloc, folder, file),
         })),

@@ -31,11 +31,21 @@ pub fn other<'f>(message: Result<String, AllocError>) -> FolderReadFault<'f> {
     }
 }
 
-/// A file has no header, or is empty.
-pub fn unformatted<'f>(alloc: Global, folder: &str, file: &str) -> FolderReadFault<'f> {
+/// A file has no header, or is empty. The slots of one that isn't empty may still hold values.
+pub fn unformatted<'f>(
+    alloc: Global,
+    folder: &str,
+    file: &str,
+    is_empty: bool,
+) -> FolderReadFault<'f> {
+    let first = if is_empty {
+        ""
+    } else {
+        "keep a copy first, then "
+    };
     let message = format!(in alloc;
-        "{file}: it was never formatted, or its header is gone: go on with the init or format that was cut off, or \
-            move it out of {folder}"
+        "{file}: it was never formatted, or its header is gone: {first}go on with the init or format that was cut \
+            off, or move it out of {folder}"
     );
     match message {
         Ok(message) => FolderReadFault::Unformatted(message),
