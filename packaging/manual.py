@@ -27,7 +27,7 @@ DEFAULT = re.compile(r" \[default: .*\]$")
 WORD = "[a-z]+(?: [A-Z]+)*"
 WORDS = re.compile(rf": ((?:{WORD}, )*{WORD} or {WORD})$")
 # What help calls values that are paths.
-FILES, FOLDERS = ("FILE", "OLD", "NEW"), ("DIR",)
+FILES, FOLDERS = ("FILE", "OLD", "NEW", "DUMP"), ("DIR", "ADDR|DIR")
 
 
 @dataclass(frozen=True)
@@ -74,9 +74,12 @@ class Command:
     usage: str
     arguments: list
     text: str
+    # Those of the program's options that it has too.
+    common: list
 
     @property
     def options(self):
+        """Those of its own."""
         return [it for it in self.arguments if it.names]
 
     @property
@@ -87,7 +90,7 @@ class Command:
 
 @dataclass(frozen=True)
 class Program:
-    """The program as its help has it. Each command has the program's options too."""
+    """The program as its help has it. Each command but `help` has the program's options too."""
 
     version: str
     about: str
@@ -115,16 +118,17 @@ def read_help(program, *words):
 
 
 def command_of(program, name, common):
-    """This command, without the options that it has in common with all."""
+    """This command. Its rows of these options are the program's."""
     about, usage, rows, options, text = read_help(program, name, "--help")
-    return Command(name, about, usage, [Argument.of(*it) for it in [*rows, *options] if it not in common], text)
+    own = [Argument.of(*it) for it in [*rows, *options] if it not in common]
+    return Command(name, about, usage, own, text, [Argument(*it) for it in common])
 
 
 def help_command(names):
     """The command for help, of which the program's parser has words of its own."""
     argument = Argument("[COMMAND]", "The command to print the help of", tuple(names))
     about, text = "Print the help of the program or of a command", "Example:\n  snapd help serve"
-    return Command("help", about, "snapd help [COMMAND]", [argument], text)
+    return Command("help", about, "snapd help [COMMAND]", [argument], text, [])
 
 
 def read_program(program):
@@ -141,9 +145,15 @@ def read_program(program):
 
 # What the page has besides the program's help: how what is installed beside the program serves a folder.
 SERVICE = """\
-The package snapd\-board and `make install` bring a unit of systemd, a user and a group, all called
-snapd-board, and the folder /var/lib/snapd-board. Nothing is started. As root, once for a board that
-is called sim here:
+The package snapd-board brings a unit of systemd, a user and a group, all called snapd-board, and the
+folder /var/lib/snapd-board. After `make install` run these, which make the user, the group and the
+folder, and tell systemd of the unit:
+
+  systemd-sysusers
+  systemd-tmpfiles --create
+  systemctl daemon-reload
+
+Nothing is started. As root, once for a board that is called sim here:
 
   systemctl enable snapd-board@sim
   install -d -o snapd-board -g snapd-board -m 700 /var/lib/snapd-board/sim
@@ -163,10 +173,12 @@ empty disk that was mounted there by mistake isn't served: without files it ends
 well. `systemctl stop` ends it at once, and loses nothing. After an upgrade of the program restart it.
 Removing the package stops all boards, and keeps their folders and the user."""
 PATHS = """\
-  /var/lib/snapd-board/NAME                      the files of the board NAME
-  /usr/lib/systemd/system/snapd-board@.service   the unit, with its own comments
-  /usr/share/doc/snapd-board/docs/RECIPES.md     backups, upgrades, what to do on each message
-  /usr/share/doc/snapd-board/packaging           files for Prometheus, Grafana and Kubernetes"""
+  /var/lib/snapd-board/NAME                        the files of the board NAME
+  PREFIX/lib/systemd/system/snapd-board@.service   the unit, with its own comments
+  PREFIX/share/doc/snapd-board/docs/RECIPES.md     backups, upgrades, what to do on each message
+  PREFIX/share/doc/snapd-board/packaging           files for Prometheus, Grafana and Kubernetes
+
+PREFIX is /usr for the package, and /usr/local for a `make install` that names no other."""
 
 ROFF = str.maketrans({"\\": r"\e", "-": r"\-", "'": r"\(aq", "`": r"\(ga", '"': r"\(dq", "^": r"\(ha", "~": r"\(ti"})
 
@@ -203,7 +215,8 @@ def page(program):
     lines += [heading("SH", "NAME"), rf"snapd \- {program.about.translate(ROFF)}"]
     lines += [heading("SH", "SYNOPSIS"), ".B snapd", "COMMAND [OPTIONS] ..."]
     lines += [heading("SH", "DESCRIPTION"), *block(program.text)]
-    lines += [heading("SH", "OPTIONS"), ".PP", line("The program and each command take:"), *terms(program.options)]
+    lines += [heading("SH", "OPTIONS"), ".PP", line("The program and each command but help take:")]
+    lines += terms(program.options)
     lines += [heading("SH", "COMMANDS"), *(it for command in program.commands for it in section(command))]
     for name, text in (("EXIT STATUS", program.statuses), ("A SERVICE OF THE SYSTEM", SERVICE), ("FILES", PATHS)):
         lines += [heading("SH", name), *block(text)]
@@ -273,15 +286,14 @@ def bash_place(place, argument):
 
 def bash(program):
     """What bash reads to complete the program's words."""
-    common = [it.names[-1] for it in program.options]
     valued = [(command.name, it) for command in program.commands for it in command.options if it.value]
-    options = [(it.name, " ".join([*(of.names[-1] for of in it.options), *common])) for it in program.commands]
+    options = [(it.name, " ".join(of.names[-1] for of in [*it.options, *it.common])) for it in program.commands]
     places = [(it.name, bash_place(at, word), word) for it in program.commands for at, word in enumerate(it.places)]
     return BASH % {
-        "names": " ".join([*(it.name for it in program.commands), *common]),
+        "names": " ".join([*(it.name for it in program.commands), *(it.names[-1] for it in program.options)]),
         "valued": "|".join(it.names[-1] for _, it in valued),
         "values": "".join(f"        {name}:{it.names[-1]}) {bash_offer(it)}return ;;\n" for name, it in valued),
-        "options": "".join(f"            {name}) _snapd_offer -W '{its}' ;;\n" for name, its in options),
+        "options": "".join(f"            {name}) _snapd_offer -W '{its}' ;;\n" for name, its in options if its),
         "places": "".join(f"        {name}:{place}) {bash_offer(it)};;\n" for name, place, it in places),
     }
 
@@ -332,21 +344,21 @@ def zsh_place(place, argument):
         yield f"'*{zsh_value(argument, ())}'"
 
 
-def zsh_command(command, common):
+def zsh_command(command):
     """What completes the words of the command."""
     options = [zsh_option(it) for it in command.options]
     places = [row for at, it in enumerate(command.places) for row in zsh_place(at + 1, it)]
-    rows = "".join(f"                {it} \\\n" for it in [*options, *places])
-    return f"        {command.name})\n            _arguments \\\n{rows}                {common} ;;\n"
+    common = " ".join(f"{{{','.join(it.names)}}}'[{it.meaning}]'" for it in command.common)
+    rows = "".join(f" \\\n                {it}" for it in [*options, *places, common] if it)
+    return f"        {command.name})\n            _arguments{rows} ;;\n"
 
 
 def zsh(program):
     """What zsh finds in its `fpath` to complete the program's words."""
     named = [(it.name, it.about) for it in program.commands] + [(it.names[-1], it.meaning) for it in program.options]
-    common = " ".join(f"{{{','.join(it.names)}}}'[{it.meaning}]'" for it in program.options)
     return ZSH % {
         "names": "".join(f"            '{name}:{about.translate(ZSH_QUOTED)}'\n" for name, about in named),
-        "commands": "".join(zsh_command(it, common) for it in program.commands),
+        "commands": "".join(map(zsh_command, program.commands)),
     }
 
 
@@ -394,7 +406,7 @@ def fish_command(command):
 
 def fish(program):
     """What fish reads to complete the program's words."""
-    common = "".join(f"complete -c snapd{fish_argument(it)}\n" for it in program.options)
+    common = "".join(f"complete -c snapd -n 'not __snapd_is help'{fish_argument(it)}\n" for it in program.options)
     named = [f"complete -c snapd -n __snapd_none -a {it.name}{fish_meaning(it.about)}\n" for it in program.commands]
     return FISH + common + "".join([*named, *map(fish_command, program.commands)])
 

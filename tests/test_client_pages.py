@@ -13,8 +13,9 @@ from serving import FRESH, Server, segments
 from waiting import PATIENCE
 
 PAGES = {it: (TOP / "clients" / it / "README.md").read_text() for it in ("python", "c")}
-# What each of them prints on a fresh segment and one that has come to number 1, and leaves in the first.
-WANTED = {"python": [("1 False\n1 False\n", (1, b"step 17")), ("", (1, b"1")), ("b'step 17' 1\n", (1, b"step 17"))],
+# What each of them prints, one after the other on a fresh segment and one that has come to number 2, and leaves in the
+# first.
+WANTED = {"python": [("1 False\n2 False\n", (1, b"17")), ("", (2, b"18")), ("b'17' 3\n", (3, b"17"))],
           "c": [("step 17\n", (1, b"step 17"))]}
 
 
@@ -28,11 +29,12 @@ def listings(language):
 def served(snapd, is_real):
     """The address of a server with two segments, and a function that returns the first one's number and value."""
     if is_real:
-        with Server(snapd, *segments(snapd, FRESH, [*FRESH, (1, b"hi")])) as server:
+        with Server(snapd, *segments(snapd, FRESH, [(1, b"ho"), (2, b"hi")])) as server:
             yield server.address, lambda: server.scan()[0]
     else:
         model = oracle.Model(2)
-        model.segments[1].store(1, b"hi")
+        model.segments[1].store(1, b"ho")
+        model.segments[1].store(2, b"hi")
         with oracle.Server(model) as server:
             yield server.address, lambda: (model.segments[0].number, model.segments[0].value)
 
@@ -51,15 +53,15 @@ def compiled(snapd, source, address):
 
 
 def all_run(snapd, is_real):
-    for listing, (output, held) in zip(listings("python"), WANTED["python"]):
-        with served(snapd, is_real) as (address, first):
+    with served(snapd, is_real) as (address, first):
+        for listing, (output, held) in zip(listings("python"), WANTED["python"]):
             gives(
                 [sys.executable, "-W", "error", "-c", listing.replace("127.0.0.1:7070", address)], output,
                 env=ENVIRONMENT,
             )
             assert first() == held
-    for listing, (output, held) in zip(listings("c"), WANTED["c"]):
-        with served(snapd, is_real) as (address, first):
+    with served(snapd, is_real) as (address, first):
+        for listing, (output, held) in zip(listings("c"), WANTED["c"]):
             gives([compiled(snapd, listing, address)], output)
             assert first() == held
 

@@ -171,7 +171,10 @@ def test_bash_completes_commands_and_options(snapd, _):
         assert completed(snapd, command, "--") == " ".join(sorted(options(snapd, command))), command
     assert completed(snapd, "put", "F", "--i") == "--index"
     assert completed(snapd, "help", "") == " ".join(sorted(commands(snapd).keys() - {"help"}))
-    assert completed(snapd, "help", "--") == "--help --version"
+    # `help` has no option.
+    for option in options(snapd, "get"):
+        snapd("help", option).gave(2, errors=UNKNOWN.format(option))
+    assert completed(snapd, "help", "--") == ""
 
 
 def test_bash_completes_files(snapd, _):
@@ -179,11 +182,11 @@ def test_bash_completes_files(snapd, _):
     snapd.file("a folder").mkdir()
     for words in (
         ("format",), ("put",), ("get", "--index", "3"), ("check",), ("migrate",), ("migrate", "a.seg"),
-        ("serve", "127.0.0.1:7070"),
+        ("serve", "127.0.0.1:7070"), ("load", "board"),
     ):
         assert completed(snapd, *words, "a") == "a folder a.seg", words
     assert completed(snapd, "serve", "127.0.0.1", ":", "7070", "a.seg", "--scanners", "=", "3", "a.") == "a.seg"
-    for words in (("init",), ("serve", "ADDR", "--dir"), ("serve", "ADDR", "--dir", "=")):
+    for words in (("init",), ("dump",), ("load",), ("serve", "ADDR", "--dir"), ("serve", "ADDR", "--dir", "=")):
         assert completed(snapd, *words, "a") == "a folder", words
     for words in (
         ("format", "a.seg"), ("serve",), ("call",), ("watch",), ("watch", "127.0.0.1:7070"),

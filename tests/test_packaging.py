@@ -236,8 +236,12 @@ def steps(text):
 def test_the_manual_page_and_the_recipe_have_the_same_steps(snapd, _):
     """`packaging/boot_test.sh` runs those of the page; the files are made here as they say."""
     page = re.sub(r"^\\&", "", (PACKAGING / "snapd.1").read_text(), flags=re.M).replace(r"\-", "-")
+    recipes = (TOP / "docs" / "RECIPES.md").read_text()
     words = steps(page)
-    assert words == steps((TOP / "docs" / "RECIPES.md").read_text())
+    assert words == steps(recipes)
+    # What the package's own scripts do is told to who runs `make install`.
+    for command in ("systemd-sysusers", "systemd-tmpfiles --create", "systemctl daemon-reload"):
+        assert f"\n  {command}\n" in page and f"`{command}`" in " ".join(recipes.split()), command
     board = FOLDER.replace("%i", "sim")
     assert words.count(board) == 2 and f"-u {SERVICE['User'][0]} --" in " ".join(words)
     at = words.index("snapd")

@@ -12,6 +12,7 @@ import sys
 import threading
 import time
 
+import segment_file as layout
 from clients import Client, oracle
 from serving import Server, fresh, segments, stored, update
 from waiting import NO_END, PATIENCE, comes_to, gets_on, moment, wait_until
@@ -87,6 +88,55 @@ def killed(process):
     except ProcessLookupError:
         pass
     return process.communicate()[0]
+
+
+# ---- the job without a server ----
+
+def steps_of_job(snapd):
+    """What `job.sh` runs for each of its steps, and a function that returns the steps which were done."""
+    step, log = snapd.file("do_step"), snapd.file("steps")
+    step.write_text('#!/bin/sh\necho "$1" >> steps\n')
+    step.chmod(0o755)
+    return lambda: [int(it) for it in log.read_text().split()] if log.exists() else []
+
+
+def test_a_job_goes_on_after_kills(snapd, rng):
+    """Each step is done after the one before it; one in which the job was killed is done again."""
+    steps, lives = steps_of_job(snapd), 8
+    written_with(snapd, "job.sh", "-lt 100", f"-lt {NO_END}")
+    for _ in range(lives):
+        job = started(snapd, "sh", "job.sh")
+        try:
+            gets_on(lambda: len(steps()), rng.randrange(1, 6))
+            moment(rng)
+        finally:
+            killed(job)
+    last = steps()[-1] + 5
+    written_with(snapd, "job.sh", "-lt 100", f"-lt {last}")
+    status, _, errors = ended(snapd, "sh", "job.sh")
+    assert (status, errors) == (0, ""), (status, errors)
+    done = steps()
+    assert (done[0], done[-1]) == (1, last) and len(done) - last <= lives, done
+    assert all(after - before in (0, 1) for before, after in zip(done, done[1:])), done
+    snapd("get", "job.seg").gave(0, str(last))
+
+
+def test_a_job_leaves_a_damaged_file(snapd, _):
+    """One that lost its header and holds a value, one of which a format was cut off, and one that was cut: no step is
+    done, and each keeps its bytes."""
+    steps = steps_of_job(snapd)
+    written(snapd, "job.sh")
+    whole = layout.holding((16, b"16"), (17, b"17"))
+    bare = bytearray(whole)
+    bare[layout.HEADER_GATE] = 0
+    for data, number, said in (
+        (bytes(bare), 11, "snapd format job.seg"), (b"", 14, "snapd format job.seg"),
+        (whole[:-1], 14, f"{layout.LENGTH - 1} bytes"),
+    ):
+        snapd.file("job.seg").write_bytes(data)
+        status, output, errors = ended(snapd, "sh", "job.sh")
+        assert (status, output) == (3, "") and errors.startswith(f"snapd: refused {number} "), (status, output, errors)
+        assert said in errors and snapd.file("job.seg").read_bytes() == data and not steps(), errors
 
 
 # ---- a copy of everything ----
@@ -316,14 +366,15 @@ class Holders:
     """Three processes that wait for a lease, and the tokens that they and the ones before them have printed."""
 
     def __init__(self, snapd, address):
-        self.start = lambda: started(snapd, sys.executable, "lease.py", address, 0, LEASE, stderr=subprocess.DEVNULL)
+        self.words = snapd, sys.executable, "lease.py", address, 0, LEASE
+        self.errors = snapd.file("errors")
         self.standing, self.tokens, self.count = [], [], 0
 
     def stand_by(self):
-        """One that had no answer in time has ended, and another one comes."""
-        self.standing = [pair for pair in self.standing if pair[0].poll() is None]
+        """Another one comes for each that was killed."""
         while len(self.standing) < 3:
-            holder = self.start()
+            with open(self.errors, "ab") as errors:
+                holder = started(*self.words, stderr=errors)
             listener = threading.Thread(target=self.listen, args=(holder,), daemon=True)
             listener.start()
             self.standing.append((holder, listener))
@@ -343,9 +394,9 @@ class Holders:
         wait_until(have_come, "a token")
 
     def kill_the_last(self):
-        """Kills the one that had the lease last, where it hasn't ended. All that it printed is known then."""
+        """Kills the one that had the lease last. All that it printed is known then."""
         last = self.tokens[-1][1]
-        self.kill(next((pair for pair in self.standing if pair[0].pid == last), self.standing[0]))
+        self.kill(next(pair for pair in self.standing if pair[0].pid == last))
 
     def kill(self, pair):
         holder, listener = pair
@@ -382,8 +433,34 @@ def test_lease_has_one_holder_and_growing_tokens(snapd, rng):
         assert mine == sorted(mine), mine
     # The last holder that printed a token had never been killed before.
     assert len({pid for _, pid in holders.tokens}) >= TAKEOVERS, holders.tokens
-    # What a holder stored and could not print before it was killed is missing, and nothing else.
-    assert max(said) <= number and number - len(said) <= holders.count, (number, said)
+    # What a holder stored and could not print before it was killed is missing, or what had no answer in time: it says
+    # so. Nothing else is.
+    unanswered = holders.errors.read_text().splitlines()
+    assert all(it.startswith("lease.py: ") and "no answer after 2 tries" in it for it in unanswered), unanswered
+    assert max(said) <= number and number - len(said) <= holders.count + len(unanswered), (number, said)
+
+
+def test_lease_is_kept_over_a_restart_of_the_server(snapd, _):
+    """The holder says that it has no answer, and tries again until there is one."""
+    written(snapd, "lease.py")
+    files = fresh(snapd, 1)
+    server = Server(snapd, *files)
+    holder = started(snapd, sys.executable, "lease.py", server.address, 0, 2, stderr=subprocess.PIPE)
+    try:
+        assert holder.stdout.readline() == "token 1\n"
+        server.kill()
+        for _ in range(2):
+            said = holder.stderr.readline()
+            assert said.startswith(f"lease.py: {server.address}: no answer after 2 tries: "), said
+        server = Server(snapd, *files, address=server.address)
+        (number, _), = server.scan()
+        # Each token is greater than the one before, and this one is of an update after the restart.
+        while (line := holder.stdout.readline()) and int(line.split()[1]) <= number:
+            pass
+        assert line and holder.poll() is None, holder.stderr.read()
+    finally:
+        killed(holder)
+        server.kill()
 
 
 # What no lease is: bytes, texts, and what JSON says of other jobs.

@@ -94,10 +94,11 @@ def test_the_page_of_the_manual_names_what_is_installed(snapd, _):
     folder = snapd.file("staged").resolve()
     assert make("install", "PREFIX=/usr", f"DESTDIR={folder}", f"PROGRAM={snapd.path}", "CLIENTS=no/such") == (0, "")
     page = (PACKAGING / "snapd.1").read_text().replace(r"\-", "-")
-    board, *paths = re.findall(r"^\\&  (/\S+)  +\S", page.partition('.SH "FILES"')[2], re.M)
+    board, *paths = re.findall(r"^\\&  (\S*/\S+)  +\S", page.partition('.SH "FILES"')[2], re.M)
     assert board == FOLDER.replace("%i", "NAME") and len(paths) == 3, paths
     for path in paths:
-        assert (folder / path.lstrip("/")).exists(), path
+        prefix, _, below = path.partition("/")
+        assert prefix == "PREFIX" and (folder / "usr" / below).exists(), path
 
 
 def test_nothing_is_installed_before_it_is_built(snapd, _):

@@ -72,7 +72,6 @@ _snapd() {
             dump) _snapd_offer -W '--tries --wait --timeout --help --version' ;;
             load) _snapd_offer -W '--count --help --version' ;;
             script) _snapd_offer -W '--help --version' ;;
-            help) _snapd_offer -W '--help --version' ;;
         esac
         return
     fi
@@ -91,9 +90,9 @@ _snapd() {
         call:1) _snapd_offer -W 'put get update scan part status health'; ;;
         watch:0) ;;
         watch:*) ;;
-        dump:0) ;;
+        dump:0) _snapd_offer -d; ;;
         load:0) _snapd_offer -d; ;;
-        load:1) ;;
+        load:1) _snapd_offer -f; ;;
         help:0) _snapd_offer -W 'format put get check migrate init doctor serve call watch dump load script'; ;;
     esac
 }

@@ -7,8 +7,8 @@ function __snapd_is
     test (count $words) -ge 2; and test $words[2] = $argv[1]
 end
 complete -c snapd -f
-complete -c snapd -l help -d 'Print help'
-complete -c snapd -l version -d 'Print version'
+complete -c snapd -n 'not __snapd_is help' -l help -d 'Print help'
+complete -c snapd -n 'not __snapd_is help' -l version -d 'Print version'
 complete -c snapd -n __snapd_none -a format -d 'Make and format the file of one segment'
 complete -c snapd -n __snapd_none -a put -d 'Store standard input as the segment\'s next value'
 complete -c snapd -n __snapd_none -a get -d 'Print the segment\'s value, and nothing else'
@@ -59,15 +59,17 @@ complete -c snapd -n '__snapd_is call' -x -a 'put get update scan part status he
 complete -c snapd -n '__snapd_is call' -l tries -d 'The most connections that are made, 1 to 10' -x
 complete -c snapd -n '__snapd_is call' -l wait -d 'Try again for this many seconds if there is no answer, 1 to 86400' -x
 complete -c snapd -n '__snapd_is call' -l timeout -d 'End if there is no answer for this many seconds, 1 to 86400' -x
-complete -c snapd -n '__snapd_is call' -l value -d 'The value of a put, in place of standard input' -x
+complete -c snapd -n '__snapd_is call' -l value -d 'The value of a put, in place of standard input; --value=TEXT where it begins with -' -x
 complete -c snapd -n '__snapd_is call' -l after -d 'Store number K + 1, without asking for the segment\'s number' -x
 complete -c snapd -n '__snapd_is call' -l text -d 'Print each value as text, if it is printable'
 complete -c snapd -n '__snapd_is call' -l json -d 'Print the answer as JSON, on one line'
 complete -c snapd -n '__snapd_is watch' -l every -d 'Milliseconds between two polls, 1 to 86400000; else 1000' -x
 complete -c snapd -n '__snapd_is watch' -l json -d 'Print each change as a JSON object, on one line'
+complete -c snapd -n '__snapd_is dump' -x -a '(__fish_complete_directories)'
 complete -c snapd -n '__snapd_is dump' -l tries -d 'The most connections that are made, 1 to 10' -x
 complete -c snapd -n '__snapd_is dump' -l wait -d 'Try again for this many seconds if there is no answer, 1 to 86400' -x
 complete -c snapd -n '__snapd_is dump' -l timeout -d 'End if there is no answer for this many seconds, 1 to 86400' -x
 complete -c snapd -n '__snapd_is load' -x -a '(__fish_complete_directories)'
-complete -c snapd -n '__snapd_is load' -l count -d 'How many segments there are to be, 1 to 16, and as many as the dump has at least' -x
+complete -c snapd -n '__snapd_is load' -F
+complete -c snapd -n '__snapd_is load' -l count -d 'How many segments there are to be, 1 to 16, and at least as many as the dump has' -x
 complete -c snapd -n '__snapd_is help' -x -a 'format put get check migrate init doctor serve call watch dump load script'

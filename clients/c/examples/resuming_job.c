@@ -52,7 +52,7 @@ int main(int argc, char **argv)
         fprintf(stderr, "segment %u isn't this job's\n", segment);
         return 1;
     }
-    fprintf(stderr, "begins behind step %" PRIu64 "\n", step);
+    fprintf(stderr, "begins after step %" PRIu64 "\n", step);
     while (step < steps) {
         int length;
         step++;

@@ -18,7 +18,7 @@ def main() -> None:
     with Client(address) as client:
         mine = client.segment(segment)
         state = json.loads(mine.get() or b'{"step": 0, "sum": 0}')
-        print("begins behind step", state["step"], file=sys.stderr, flush=True)
+        print("begins after step", state["step"], file=sys.stderr, flush=True)
         while state["step"] < steps:
             step = state["step"] + 1
             state = {"step": step, "sum": state["sum"] + step * step}
