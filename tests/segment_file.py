@@ -120,7 +120,8 @@ answer_of, findings = NOW.answer_of, NOW.findings
 
 def advice(file):
     """The second line about a file of the old format's length, after that of its refusal."""
-    return f"{file}: it has the length of the old format: carry it over with snapd migrate {file} NEW --index I --count N"
+    command = f"snapd migrate {file} NEW --index I --count N"
+    return f"{file}: it has the length of the old format: carry it over with {command}"
 
 
 # The second lines of a command on the file F as segment 0 of 1, after that of a refusal.

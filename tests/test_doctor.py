@@ -87,8 +87,8 @@ def test_what_is_wrong_with_a_file_comes_with_its_remedy(snapd, _):
         "or give it a name that doesn't end in .seg"
     )
     old = (
-        f"it has the length of the old format: carry it over with snapd migrate D/{name_of(1)} NEW --index I --count N, "
-        "and move it out of D"
+        f"it has the length of the old format: carry it over with snapd migrate D/{name_of(1)} NEW --index I "
+        "--count N, and move it out of D"
     )
     none = (
         f"segment 1 of 2, but its slots give no answer: see snapd check D/{name_of(1)}, and bring a copy back, "

@@ -166,7 +166,7 @@ def test_init_refuses_what_is_no_file_of_its_own(snapd, _):
     name = f"D/{name_of(1)}"
     taken = ("refused 12 AlreadyFormatted", FORMATTED.replace("F", name, 1).replace("check F", f"check {name}"))
     wrong = "refused 14 WrongFile"
-    old = f"{name}: it has the length of the old format: carry it over with snapd migrate {name} NEW --index I --count N"
+    old = layout.advice(name)
     for data, lines in (
         (layout.holding((0, b""), index=2, count=3), taken),
         (bytes(mark), taken),
@@ -434,10 +434,7 @@ def test_files_that_are_no_segments(snapd, _):
     empty = f"{name}: it was never formatted, or its header is gone: {go_on}"
     # Its slots may hold a value, which a format erases.
     cut = f"{name}: it was never formatted, or its header is gone: keep a copy first, then {go_on}"
-    old = (
-        f"{name}: it has the length of the old format: carry it over with snapd migrate {name} NEW --index I --count N, "
-        "and move it out of D"
-    )
+    old = f"{layout.advice(name)}, and move it out of D"
     for data, line in (
         (b"hi", no_segment),
         (bytes(layout.LENGTH + 1), no_segment),

@@ -195,7 +195,7 @@ def test_a_bad_file_in_each_place(snapd, _):
             damaged[layout.gate_at(slot) + 1] = 1
         taken = ("refused 12 AlreadyFormatted", FORMATTED.replace("F", name, 1).replace("check F", f"check {name}"))
         more = unformatted(f"--index {index} --count {count}", name)
-        old = f"{name}: it has the length of the old format: carry it over with snapd migrate {name} NEW --index I --count N"
+        old = layout.advice(name)
         yield "another segment's", file_of((index + 1) % count, count, 7), taken
         yield "another mark", bytes(mark), taken
         yield "no answer", bytes(damaged), taken
