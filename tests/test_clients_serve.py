@@ -262,7 +262,7 @@ def test_readme_of_the_python_client_runs_on_the_server(snapd, _):
         run = subprocess.run([sys.executable, "-c", listing.replace("127.0.0.1:7070", server.address)],
                              capture_output=True, text=True, env=ENVIRONMENT)
         assert (run.returncode, run.stdout, run.stderr) == (0, "1 False\n", "")
-        assert server.scan() == [(1, b"step 17")]
+        assert server.scan() == [(1, b"17")]
 
 
 def test_head_of_the_c_client_runs_on_the_server(snapd, _):

@@ -79,7 +79,7 @@ class Job:
         step = snapd.folder / "do_step"
         step.write_text("#!/bin/sh\necho $1 >> done\n")
         step.chmod(0o755)
-        self.done, self.file = snapd.file("done"), snapd.file("job.seg")
+        self.done, self.file = snapd.file("done"), snapd.file("state") / "segment-00.seg"
         env = {**os.environ, "PATH": f"{pathlib.Path(snapd.path).parent}:{os.environ['PATH']}"}
         self.run = subprocess.Popen(["sh", "./job"], cwd=snapd.folder, env=env, start_new_session=True,
                                     stdin=subprocess.DEVNULL, stdout=subprocess.PIPE, stderr=subprocess.STDOUT)
@@ -123,4 +123,4 @@ def test_job_of_the_recipes_restarts_where_it_was(snapd, random):
     twice = [b for a, b in zip(steps, steps[1:]) if a == b]
     assert sorted(set(steps)) == list(range(1, 101)), steps
     assert steps == sorted(steps) and len(steps) == 100 + len(twice), steps
-    assert snapd("get", "job.seg").gave(0, "100")
+    assert snapd("get", "state/segment-00.seg").gave(0, "100")

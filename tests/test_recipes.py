@@ -92,6 +92,9 @@ def killed(process):
 
 # ---- the job without a server ----
 
+STATE = "state/segment-00.seg"
+
+
 def steps_of_job(snapd):
     """What `job.sh` runs for each of its steps, and a function that returns the steps which were done."""
     step, log = snapd.file("do_step"), snapd.file("steps")
@@ -118,25 +121,26 @@ def test_a_job_goes_on_after_kills(snapd, rng):
     done = steps()
     assert (done[0], done[-1]) == (1, last) and len(done) - last <= lives, done
     assert all(after - before in (0, 1) for before, after in zip(done, done[1:])), done
-    snapd("get", "job.seg").gave(0, str(last))
+    snapd("get", STATE).gave(0, str(last))
 
 
 def test_a_job_leaves_a_damaged_file(snapd, _):
-    """One that lost its header and holds a value, one of which a format was cut off, and one that was cut: no step is
+    """One that lost its header and holds a value, one that was cut, and one whose slots give no answer: no step is
     done, and each keeps its bytes."""
     steps = steps_of_job(snapd)
     written(snapd, "job.sh")
+    snapd("init", "state").gave(0, "formatted 0 of 1\n")
     whole = layout.holding((16, b"16"), (17, b"17"))
     bare = bytearray(whole)
     bare[layout.HEADER_GATE] = 0
     for data, number, said in (
-        (bytes(bare), 11, "snapd format job.seg"), (b"", 14, "snapd format job.seg"),
-        (whole[:-1], 14, f"{layout.LENGTH - 1} bytes"),
+        (bytes(bare), 11, "keep a copy first"), (whole[:-1], 14, f"{layout.LENGTH - 1} bytes"),
+        (layout.holding((4, b"4"), (6, b"6")), 12, f"see snapd check {STATE}"),
     ):
-        snapd.file("job.seg").write_bytes(data)
+        snapd.file(STATE).write_bytes(data)
         status, output, errors = ended(snapd, "sh", "job.sh")
         assert (status, output) == (3, "") and errors.startswith(f"snapd: refused {number} "), (status, output, errors)
-        assert said in errors and snapd.file("job.seg").read_bytes() == data and not steps(), errors
+        assert said in errors and snapd.file(STATE).read_bytes() == data and not steps(), errors
 
 
 # ---- a copy of everything ----

@@ -137,6 +137,8 @@ def test_addresses_that_the_system_does_not_take(snapd, _):
 
 def remedy(refusal, file, index, count, fault=""):
     """The second line about this file, of segment `index` of `count`, after that of the refusal."""
+    # (the place of a file of the old format isn't known, so these two are letters)
+    index, count = ("I", "N") if refusal == "14, 20,480 bytes" else (index, count)
     words = {"FILE": file, "I": str(index), "N": str(count), "CALL: REASON": fault}
     return f"{file}: " + re.sub(r"\b(FILE|CALL: REASON|I|N)\b", lambda it: words[it[0]], REMEDIES[refusal])
 

@@ -152,7 +152,7 @@ def test_refused_calls_make_none(snapd, _):
     on_file, on_streams = calls_of(snapd, "put", "F", stdin=b"v" * 9_000)
     assert on_file == OPENED + [("close",)], on_file
     assert on_streams[0] == ("read", 0, 4_081), on_streams
-    assert [call[:2] for call in on_streams[1:]] == [("write", 2)], on_streams
+    assert [call[:2] for call in on_streams[1:]] == [("write", 2), ("write", 2)], on_streams
     on_file, _ = calls_of(snapd, "format", "F")
     assert on_file == OPENED + LOOKED_AT + [("close",)], on_file
     for data in (b"x", bytes(layout.LENGTH - 1), bytes(layout.OLD.length), b""):
