@@ -168,4 +168,4 @@ def test_one_kind_of_file_is_shown(snapd, _):
             for file in re.findall(r" \"?([\w$-]+\.[a-z]+)\b", words):
                 assert file.endswith((".seg", ".new")), (name, file)
                 found += 1
-    assert found > 20
+    assert found > 15
