@@ -165,7 +165,8 @@ def test_one_kind_of_file_is_shown(snapd, _):
     command = re.compile(r"snapd (?:format|put|get|check|migrate|serve)((?: [^\s`|>&;]+)+)")
     for name, text in texts(snapd):
         for words in command.findall(text):
-            for file in re.findall(r" \"?([\w$-]+\.[a-z]+)\b", words):
+            # (no address, as 127.0.0.1 or localhost:0)
+            for file in re.findall(r" \"?([\w$/-]+\.[a-z]+)\b", words):
                 assert file.endswith((".seg", ".new")), (name, file)
                 found += 1
-    assert found > 15
+    assert found > 20

@@ -219,18 +219,21 @@ def test_each_request_of_a_put_has_its_own_tries(snapd, _):
 
 def test_a_call_that_waits_tries_for_so_long(snapd, _):
     """However many tries that takes, and a second apart at most; more often near the end of its time."""
+    # (a machine with other work may miss the last and shortest pause)
     for path in (None, snapd.file("at.sock")):
-        with Counter(hangs_up, path) as peer:
-            ran, seconds = took(snapd, "call", peer.address, "scan", "--wait", 9)
-            rests = peer.rests()
+        for _ in range(3):
+            with Counter(hangs_up, path) as peer:
+                ran, seconds = took(snapd, "call", peer.address, "scan", "--wait", 9)
+                rests = peer.rests()
+            if min(rests) < 0.09:
+                break
         lines = ran.failed_with(1).errors.splitlines()
         assert lines[0].startswith(f"snapd: {peer.address}: the connection ended before the reply: "), lines
         assert lines[1:] == [f"snapd: {peer.address}: there was no answer within 9 s (--wait)"], lines
         # More than `--tries` has at most.
         assert 8.9 < seconds < 25 and 10 < len(rests) < 50, (seconds, rests)
         assert all(it >= low * 0.95 for it, low in zip(rests, (0.1, 0.2, 0.4, 0.8))), rests
-        # (a machine with other work may miss the last and shortest)
-        assert max(rests) < 1.5 and min(rests[4:]) < 0.5, rests
+        assert max(rests) < 1.5 and min(rests) < 0.09, rests
 
 
 def test_a_wait_ends_with_the_time_of_the_call(snapd, _):

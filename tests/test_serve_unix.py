@@ -8,6 +8,7 @@ import itertools
 import os
 import pathlib
 import resource
+import shutil
 import signal
 import socket
 import stat
@@ -18,7 +19,7 @@ import time
 import serving
 from clients import BOTH, ask
 from preload import library
-from program import Skipped
+from program import Program, Skipped
 from serving import FRESH, LOOPBACK, SCAN, at_socket, entries_of, fresh, free_port, received, reply, segments, snapshot
 from test_load_folders import for_all
 from test_serve_memory import NO_THREAD
@@ -418,6 +419,22 @@ def test_none_is_bound_where_one_cannot_be(snapd, _):
     assert not os.path.lexists(snapd.folder / "a")
     with socket.create_server(("127.0.0.1", port)):
         pass
+
+
+def test_a_port_that_a_user_may_not_have(snapd, _):
+    """Neither for clients nor for HTTP, where the system keeps the low ports for root."""
+    low = pathlib.Path("/proc/sys/net/ipv4/ip_unprivileged_port_start")
+    if os.geteuid() != 0 or int(low.read_text()) < 2:
+        raise Skipped("it takes root to be another user, and low ports that this one may not have")
+    files, nobody = fresh(snapd, 1), {"user": 65_534, "group": 65_534, "extra_groups": []}
+    os.chmod(snapd.folder, 0o755)
+    os.chown(snapd.file(files[0]), 65_534, 65_534)
+    shutil.copy(snapd.path, snapd.file("program"))
+    program = Program(snapd.file("program"), snapd.folder)
+    why = "Permission denied (os error 13): give a port from 1024 on, or let this user listen below it"
+    refused(program("serve", "127.0.0.1:1", *files, **nobody), "127.0.0.1:1", why)
+    run = program("serve", "127.0.0.1:0", *files, "--http", "127.0.0.1:1", **nobody)
+    run.gave(1, errors=f"snapd: 127.0.0.1:1: can't listen there for HTTP: {why}\n")
 
 
 # Two sockets and two ports.
