@@ -1,7 +1,7 @@
 -- The premises of the law of a cut if two writers are at work.
-use Rattle.std.proofs.Common.{◌≡◌, ⊎_elim, ℕ, zero, suc, ◌+◌, inl, inr, List, [], ◌∷◌, ◌++◌, length, Option, Some}
-use Rattle.std.proofs.Common.{slice_get, refl, ap, sym, subst, ◌∙◌, arith, length-append}
-use Rattle.std.{specs.Option.option_to_list, proofs.lemmas.Option.same_Some}
+use Rattle.std.proofs.Common.{◌≡◌, ⊎_elim, ℕ, zero, suc, ◌+◌, inl, inr, List, [], ◌∷◌, length, Some}
+use Rattle.std.proofs.{Common.slice_get, Common.get_or, Common.refl, Common.ap, Common.sym, Common.subst, Common.◌∙◌}
+use Rattle.std.proofs.{Common.arith, lemmas.Option.same_Some}
 use Rattle.snap_history.specs.{History.Update, History.IsBeginning, Limits.IsNumber, Limits.IsShort}
 use Rattle.snap_history.{specs.declared.limits.TheConstants.LAST_NUMBER, proofs.Beginnings.beginning-self}
 use Rattle.snap_register.specs.{declared.plan.Plan.Plan, Rule.segments}
@@ -105,10 +105,12 @@ module _ {D : Type 0} (disk : Disk.Ghosts D) where
 
 -- ---- an opening meets these premises
 
-pub two_popped : {A : Type 0} (all mid rest : List A) (r s : Option A) (x y : A) → length all ≡ 2
-    → all ≡ mid ++ option_to_list r → r ≡ Some y → mid ≡ rest ++ option_to_list s → s ≡ Some x → all ≡ x ∷ y ∷ []
-two_popped all mid [] r s x y size one er two es = rw (one, er, two, es)
-two_popped all mid (z ∷ zs) r s x y size one er two es = grind (arith, length-append)
+pub two_seen : {A : Type 0} (items seen : List A) (x y : A) → seen ≡ items → length items ≡ 2
+    → x ≡ get_or seen 0 x → y ≡ get_or seen 1 y → items ≡ x ∷ y ∷ []
+two_seen (a ∷ b ∷ []) seen x y same size one two = rw (rw same at one, rw same at two) refl
+two_seen [] seen x y same size one two = grind arith
+two_seen (a ∷ []) seen x y same size one two = grind arith
+two_seen (a ∷ b ∷ z ∷ zs) seen x y same size one two = grind arith
 
 pub below_last : (k : ℕ) → IsNumber k → (k ≡ LAST_NUMBER → ⊥) → IsNumber (k + 1)
 below_last k low other = omega arith

@@ -123,16 +123,13 @@ pub fn open_two<D: Disk + Drop>(alloc: Global, devices: Vec<D>, value: &[u8], ot
     let Some(mut writers) = writers_of(alloc, devices) else {
         return;
     };
-    let Some(mut second) = writers.pop() else {
-        return;
-    };
-    let Some(mut first) = writers.pop() else {
+    let [first, second] = writers.as_mut_slice() else {
         return;
     };
     let one = first.number();
     let two = second.number();
     if one != LAST_NUMBER && two != LAST_NUMBER {
-        two_at_once(&mut first, &mut second, one + 1, value, two + 1, other);
+        two_at_once(first, second, one + 1, value, two + 1, other);
     }
 }
 
