@@ -94,7 +94,7 @@ fn place_of(rt: &HostRuntime, listener: TcpListener) -> io::Result<HttpPlace> {
 pub struct HttpView<'a, X: Wait + Clock> {
     pub log: &'a Lines<'a, X>,
     pub process: &'a Process<'a>,
-    pub place: HttpPlace,
+    pub place: &'a HttpPlace,
 }
 
 impl<X: Wait + Clock> Observer for HttpView<'_, X> {

@@ -95,7 +95,7 @@ pub fn serve<'x, X: Runtime>(
 {
     let place = open_http(system, order)?;
     let told = or_stop(system, first_faults(system.alloc(), order.files.len()))?;
-    serve_files(rt, system, order, folder, &told, place)
+    serve_files(rt, system, order, folder, &told, place.as_ref())
 }
 
 /// Opens the order's files, and serves them. `told` gets why a call on one fails.
@@ -105,7 +105,7 @@ fn serve_files<'x, X: Runtime>(
     order: &'x ServeOptions<'x>,
     folder: Option<&'x str>,
     told: &'x Vec<FirstFault>,
-    place: Option<HttpPlace>,
+    place: Option<&'x HttpPlace>,
 ) -> Result<Status, Status>
     requires { IsServable order.now }
 {
@@ -146,7 +146,7 @@ fn serve_counted<'x, X: Runtime>(
     folder: Option<&'x str>,
     devices: Vec<FileDisk<'_, HostRuntime>>,
     told: &Vec<FirstFault>,
-    place: Option<HttpPlace>,
+    place: Option<&'x HttpPlace>,
 ) -> Result<Exit, ServerFault>
     requires order { IsServable order.now }
     requires devices { length devices.items ≡ length order.now.files.items }
@@ -188,7 +188,7 @@ fn serve_logged<'x, X: Runtime>(
     devices: Vec<FileDisk<'_, HostRuntime>>,
     told: &Vec<FirstFault>,
     process: &'x Process<'x>,
-    place: Option<HttpPlace>,
+    place: Option<&'x HttpPlace>,
 ) -> Result<Exit, ServerFault>
     requires order { IsServable order.now }
     requires devices { length devices.items ≡ length order.now.files.items }
@@ -277,7 +277,7 @@ fn host_logged<'x, X: Runtime>(
     told: &'x Vec<FirstFault>,
     log: &'x Lines<'x, X>,
     process: &'x Process<'x>,
-    place: Option<HttpPlace>,
+    place: Option<&'x HttpPlace>,
 ) -> Result<Exit, ServerFault>
     requires order { IsServable order.now }
     requires devices { length devices.items ≡ length order.now.files.items }
