@@ -38,11 +38,7 @@ fn take_files<'f>(
     let mut devices = or_stop(rt, Vec::with_capacity(rt.alloc(), files.len()))?;
     'files: for file in files {
         match open_telling(rt, *file, Lock::Exclusive, told.get(devices.len())) {
-            Ok(disk) => {
-                if devices.push(disk).is_err() {
-                    return Err(stop_without_memory(rt));
-                }
-            }
+            Ok(disk) => devices.push_reserved(disk),
             Err(fault) => {
                 let twin = twin_of(files, &devices, &fault);
                 drop(devices);
@@ -95,22 +91,8 @@ pub fn serve<'x, X: Runtime>(
 {
     let place = open_http(system, order)?;
     let told = or_stop(system, first_faults(system.alloc(), order.files.len()))?;
-    serve_files(rt, system, order, folder, &told, place.as_ref())
-}
-
-/// Opens the order's files, and serves them. `told` gets why a call on one fails.
-fn serve_files<'x, X: Runtime>(
-    rt: &X,
-    system: &'x HostRuntime,
-    order: &'x ServeOptions<'x>,
-    folder: Option<&'x str>,
-    told: &'x Vec<FirstFault>,
-    place: Option<&'x HttpPlace>,
-) -> Result<Status, Status>
-    requires { IsServable order.now }
-{
-    let devices = take_files(system, &order.files, told)?;
-    match serve_counted(rt, system, order, folder, devices, told, place) {
+    let devices = take_files(system, &order.files, &told)?;
+    match serve_counted(rt, system, order, folder, devices, &told, place.as_ref()) {
         Ok(ended) => Ok(ended.status),
         Err(ServerFault::NoMemory) => Err(stop_without_memory(system)),
         Err(fault) => Err(fail(system, &fault)),
