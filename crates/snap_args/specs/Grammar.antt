@@ -16,32 +16,6 @@ words_rule name = record (word_rule name) { action = Some Append }
 abbrev pub free_words_rule : Text → Rule
 free_words_rule name = record (words_rule name) { required = false }
 
--- an option with a number from 0 to 255, and its default
-abbrev pub number_rule : Text → Text → Rule
-number_rule name default = record (new_rule name) {
-  long = Some name;
-  value_names = 1;
-  parser =
-      Some (parser.Signed (pos 0) (pos 255));
-  defaults = default ∷ [];
-}
-
--- an optional option with a number of 64 bits
-abbrev pub large_number_rule : Text → Rule
-large_number_rule name = record (new_rule name) {
-  long = Some name;
-  value_names = 1;
-  parser = Some (parser.Unsigned 0 18446744073709551615);
-}
-
--- an optional option with a number from 0 to 255
-abbrev pub free_number_rule : Text → Rule
-free_number_rule name = record (new_rule name) {
-  long = Some name;
-  value_names = 1;
-  parser = Some (parser.Signed (pos 0) (pos 255));
-}
-
 -- an optional option with a text
 abbrev pub text_rule : Text → Rule
 text_rule name = record (new_rule name) { long = Some name; value_names = 1 }
@@ -52,11 +26,19 @@ texts_rule name = record (text_rule name) { action = Some Append }
 
 -- an option with a text, and its default
 abbrev pub choice_rule : Text → Text → Rule
-choice_rule name default = record (new_rule name) {
-  long = Some name;
-  value_names = 1;
-  defaults = default ∷ [];
-}
+choice_rule name default = record (text_rule name) { defaults = default ∷ [] }
+
+-- an optional option with a number from 0 to 255
+abbrev pub free_number_rule : Text → Rule
+free_number_rule name = record (text_rule name) { parser = Some (parser.Signed (pos 0) (pos 255)) }
+
+-- an option with a number from 0 to 255, and its default
+abbrev pub number_rule : Text → Text → Rule
+number_rule name default = record (free_number_rule name) { defaults = default ∷ [] }
+
+-- an optional option with a number of 64 bits
+abbrev pub large_number_rule : Text → Rule
+large_number_rule name = record (text_rule name) { parser = Some (parser.Unsigned 0 18446744073709551615) }
 
 -- an option without a value
 abbrev pub flag_rule : Text → Rule

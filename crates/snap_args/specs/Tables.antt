@@ -1,10 +1,18 @@
 -- The grammar that the tables of arguments describe.
-use Rattle.std.specs.Prelude.{List, [], ◌∷◌}
-use Rattle.clap.specs.Words.{App, Rule, Text, new_app, with_rule}
+use Rattle.std.specs.Prelude.{List, Some, [], ◌∷◌}
+use Rattle.clap.specs.Words.{App, Rule, Text, new_app, new_rule, with_rule}
 use Rattle.snap_args.specs.Grammar.{choice_rule, flag_rule, free_number_rule, free_words_rule, large_number_rule}
 use Rattle.snap_args.specs.Grammar.{number_rule, text_rule, texts_rule, word_rule, words_rule}
 use Rattle.snap_args.specs.declared.grammar.{Word.Word, ArgumentKind.ArgumentKind}
 use Rattle.snap_args.specs.declared.grammar.ArgumentKind.TheVariants as kind
+
+-- the rule of an argument that is only shown as one of this kind and name
+abbrev pub shown_rule : ArgumentKind → Text → Rule
+shown_rule kind.Needed name = record (new_rule name) { value_names = 1 }
+shown_rule kind.NeededMany name = record (new_rule name) { value_names = 1 }
+shown_rule kind.Many name = record (new_rule name) { value_names = 1 }
+shown_rule kind.Flag name = record (new_rule name) { long = Some name }
+shown_rule kind name = text_rule name
 
 -- the rule of an argument of this kind and name
 abbrev pub rule_of_kind : ArgumentKind → Text → Rule

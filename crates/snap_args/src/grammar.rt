@@ -3,7 +3,7 @@ ghost use Rattle.std.specs.Prelude.{◌≡◌, IfOk, codes, false};
 ghost use Rattle.clap.specs.Words.{App, app_of, new_app, rule_of, with_subcommand};
 ghost use Rattle.snap_args.specs.Grammar.{called, checked, dumped, examined, filed, founded, grammar_of, loaded};
 ghost use Rattle.snap_args.specs.Grammar.{paired, placed, program_of, served, watched};
-ghost use Rattle.snap_args.specs.Tables.{app_with, command_with, rule_in};
+ghost use Rattle.snap_args.specs.Tables.{app_with, command_with, rule_in, shown_rule};
 
 use crate::help::{
     CALL_HELP, CHECK_HELP, DOCTOR_HELP, DUMP_HELP, FORMAT_HELP, GET_HELP, INIT_HELP, LOAD_HELP,
@@ -229,12 +229,7 @@ fn with_command<'a>(
 fn arg_of<'a>(alloc: Global, word: &Word<'a>) -> Arg<'a>
     ensures { (rule_of result ≡ rule_in word.now) × (result.global ≡ false) }
 {
-    let arg = Arg::new(alloc, word.name).help(word.help);
-    let arg = match word.kind {
-        Needed | NeededMany | Many => arg.value_name(word.shown),
-        Flag => arg.long(word.name),
-        _ => arg.long(word.name).value_name(word.shown),
-    };
+    let arg = shown(alloc, word);
     match word.kind {
         Needed => arg.required(true).action(ArgAction::Set),
         NeededMany => arg.required(true).action(ArgAction::Append),
@@ -245,5 +240,17 @@ fn arg_of<'a>(alloc: Global, word: &Word<'a>) -> Arg<'a>
         Number(default) => arg.default_value(default).value_parser(value_parser!(u8)),
         FreeNumber => arg.value_parser(value_parser!(u8)),
         LargeNumber => arg.value_parser(value_parser!(u64)),
+    }
+}
+
+/// An argument as the help shows it: by position or as an option, with its value.
+fn shown<'a>(alloc: Global, word: &Word<'a>) -> Arg<'a>
+    ensures { (rule_of result ≡ shown_rule word.now.kind word.now.name.now) × (result.global ≡ false) }
+{
+    let arg = Arg::new(alloc, word.name).help(word.help);
+    match word.kind {
+        Needed | NeededMany | Many => arg.value_name(word.shown),
+        Flag => arg.long(word.name),
+        _ => arg.long(word.name).value_name(word.shown),
     }
 }

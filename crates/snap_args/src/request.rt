@@ -24,25 +24,14 @@ pub(crate) fn question_of(alloc: Global, matches: &ArgMatches<'_>) -> Result<Cal
     ensures { Reads result (λ q. KeepsLimits q × IsQuestionOf (words_of matches.now (codes "request"))
         (word_of matches.now (codes "value")) (word_of matches.now (codes "after")) q) }
 {
-    question(alloc, matches.get_strs("request").unwrap_or(&[]), matches)
-}
-
-/// Parses these arguments as a request, with the options of a put.
-fn question(
-    alloc: Global,
-    words: &[&str],
-    matches: &ArgMatches<'_>,
-) -> Result<CallRequest, WordFault>
-    ensures { Reads result (λ q. KeepsLimits q × IsQuestionOf (map (λ w. w.now) words.now)
-        (word_of matches.now (codes "value")) (word_of matches.now (codes "after")) q) }
-{
+    let words = matches.get_strs("request").unwrap_or(&[]);
     if words.len() == 2 && is(words[0], "put") {
         return Ok(CallRequest::Put(put(alloc, words[1], matches)?));
     }
-    if matches.get_str("value").is_some() || matches.get_str("after").is_some() {
-        return Err(WordFault::Rule("--value and --after are for `put I` alone"));
+    match (matches.get_str("value"), matches.get_str("after")) {
+        (None, None) => plain_question(alloc, words),
+        _ => Err(WordFault::Rule("--value and --after are for `put I` alone")),
     }
-    plain_question(alloc, words)
 }
 
 /// Parses these arguments as a request other than a put, without its options.

@@ -19,27 +19,24 @@ pub(crate) fn serving<'a>(alloc: Global, matches: &ArgMatches<'a>) -> Result<Ord
         × IsServerOf (word_of matches.now) (words_of matches.now) order) }
 {
     let files = matches.get_strs("files").unwrap_or(&[]);
-    let number = files.len();
-    if let Some(folder) = matches.get_str("dir") {
-        if number > 0 {
-            return Err(WordFault::Rule("FILEs and --dir are given, and a server has either"));
-        }
-        let serving = service_of(alloc, matches, Vec::new(alloc))?;
-        return Ok(Order::ServeFolder { folder, serving });
-    }
-    if number == 0 {
-        return Err(WordFault::Rule("no FILE and no --dir is given"));
-    }
     let most = usize::from(MAX_COUNT);
-    if number > most {
-        return Err(WordFault::Outside {
+    match (matches.get_str("dir"), files.len()) {
+        (Some(folder), 0) => {
+            let serving = service_of(alloc, matches, Vec::new(alloc))?;
+            Ok(Order::ServeFolder { folder, serving })
+        }
+        (Some(_), _) => Err(WordFault::Rule("FILEs and --dir are given, and a server has either")),
+        (None, 0) => Err(WordFault::Rule("no FILE and no --dir is given")),
+        (None, number) if number > most => Err(WordFault::Outside {
             what: "number of files",
             number,
             most,
-        });
+        }),
+        (None, _) => {
+            let files = Vec::from_slice(alloc, files)?;
+            Ok(Order::Serve(service_of(alloc, matches, files)?))
+        }
     }
-    let files = Vec::from_slice(alloc, files)?;
-    Ok(Order::Serve(service_of(alloc, matches, files)?))
 }
 
 /// Parses the other arguments of a server, for these files.

@@ -78,10 +78,7 @@ impl<S: Service + Drop, X: FactSource + Drop> Board<S, X> {
         ensures same { self.new.surroundings ≡ self.old.surroundings }
     {
         match page {
-            Page::Home => Ok(PageAnswer::fixed(StatusCode::OK, ContentKind::Html, HOME)),
-            Page::Style => Ok(PageAnswer::fixed(StatusCode::OK, ContentKind::Css, STYLE)),
-            Page::Script => Ok(PageAnswer::fixed(StatusCode::OK, ContentKind::Script, SCRIPT)),
-            Page::Live => Ok(PageAnswer::words(StatusCode::OK, WELL)),
+            Page::Home | Page::Style | Page::Script | Page::Live => Ok(constant(page)),
             Page::History => PageAnswer::json(self.surroundings.history().document(self.alloc)),
             Page::Scan => match self.service.answer(&snap_frame::Request::Scan, 0) {
                 Some(Reply::Snapshot(values)) => {
@@ -145,6 +142,18 @@ impl<S: Service + Drop, X: FactSource + Drop> Board<S, X> {
         let seconds = self.surroundings.now_millis()? / 1_000;
         let date = HttpDate::from_unix_secs(seconds).ok()?;
         HeaderValue::from_bytes(self.alloc, &date.to_bytes()).ok()
+    }
+}
+
+/// Answers with a page that is always the same.
+fn constant(page: Page) -> PageAnswer
+    ensures { result.status ≡ 200 }
+{
+    match page {
+        Page::Home => PageAnswer::fixed(StatusCode::OK, ContentKind::Html, HOME),
+        Page::Style => PageAnswer::fixed(StatusCode::OK, ContentKind::Css, STYLE),
+        Page::Script => PageAnswer::fixed(StatusCode::OK, ContentKind::Script, SCRIPT),
+        _ => PageAnswer::words(StatusCode::OK, WELL),
     }
 }
 

@@ -100,14 +100,13 @@ pub(crate) struct Amount(pub u64, pub Unit);
 impl fmt::Display for Amount {
     fn fmt<W: fmt::Write>(&self, f: &mut fmt::Formatter<W>) -> fmt::Result {
         let Amount(count, unit) = *self;
-        match unit {
-            Unit::Whole => write!(f, "{count}"),
-            Unit::Millisecond => write!(f, "{}.{:03}", count / 1_000, count % 1_000),
-            Unit::Microsecond => write!(f, "{}.{:06}", count / 1_000_000, count % 1_000_000),
-            Unit::Nanosecond => {
-                write!(f, "{}.{:09}", count / 1_000_000_000, count % 1_000_000_000)
-            }
-        }
+        let (part, digits) = match unit {
+            Unit::Whole => return write!(f, "{count}"),
+            Unit::Millisecond => (1_000, 3),
+            Unit::Microsecond => (1_000_000, 6),
+            Unit::Nanosecond => (1_000_000_000, 9),
+        };
+        write!(f, "{}.{:0digits$}", count / part, count % part)
     }
 }
 

@@ -289,10 +289,8 @@ pub(crate) fn give_up<E: Write>(
 ) -> Exit
     ensures { HasFailed result }
 {
-    match remedy_of(fault) {
-        Some(remedy) => fail(alloc, &format_args!("{address}: {fault}: {remedy}"), errors),
-        None => fail(alloc, &format_args!("{address}: {fault}"), errors),
-    }
+    let remedy = remedy_of(fault);
+    fail(alloc, &format_args!("{address}: {fault}{remedy}"), errors)
 }
 
 /// Complains that something failed.
@@ -306,10 +304,10 @@ pub(crate) fn fail<T: Display, E: Write>(alloc: Global, text: &T, errors: &mut E
 }
 
 /// The advice after a fault. If no connection could be made, the caller that makes them gives it.
-fn remedy_of(fault: ClientFault) -> Option<&'static str> {
+fn remedy_of(fault: ClientFault) -> &'static str {
     match fault {
-        ClientFault::ConnectFailed => None,
-        ClientFault::BadReply => Some("check the address"),
-        _ => Some("send it again, since an update is stored once"),
+        ClientFault::ConnectFailed => "",
+        ClientFault::BadReply => ": check the address",
+        _ => ": send it again, since an update is stored once",
     }
 }

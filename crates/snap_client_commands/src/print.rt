@@ -45,12 +45,12 @@ pub(crate) fn answer_of(
     }
     let mut out = Vec::new(alloc);
     match (question, reply) {
-        (CallRequest::Health, Reply::Status(statuses)) => put_health(&mut out, statuses)?,
-        (_, Reply::Snapshot(values)) => put_values(alloc, &mut out, layout, values)?,
-        (_, Reply::Part(values)) => put_part(alloc, &mut out, layout, values)?,
-        (_, Reply::Status(statuses)) => put_statuses(&mut out, statuses)?,
+        (CallRequest::Health, Reply::Status(statuses)) => put_health(&mut out, statuses),
+        (_, Reply::Snapshot(values)) => put_values(alloc, &mut out, layout, values),
+        (_, Reply::Part(values)) => put_part(alloc, &mut out, layout, values),
+        (_, Reply::Status(statuses)) => put_statuses(&mut out, statuses),
         (_, Reply::Stored(_) | Reply::Refused { .. }) => unreachable!(),
-    }
+    }?;
     Ok(out)
 }
 
@@ -129,12 +129,10 @@ fn put_health(out: &mut Vec<u8>, statuses: &[SegmentStatus]) -> Result<(), Alloc
     if !is_any_fenced(statuses) {
         return out.extend_from_slice(b"healthy\n");
     }
-    let mut digits = Buffer::new();
     for (index, status) in statuses.iter().enumerate() {
         if status.is_fenced {
-            out.extend_from_slice(b"fenced ")?;
-            out.extend_from_slice(digits.format(index).as_bytes())?;
-            out.extend_from_slice(b"\n")?;
+            let line = LineText::of(&format_args!("fenced {index}\n"));
+            out.extend_from_slice(line.as_str().as_bytes())?;
         }
     }
     Ok(())

@@ -23,11 +23,11 @@ pub fn changes(
         });
         if !is_shown {
             if is_json {
-                text = append_object(alloc, text, row)?;
+                let mut writer = Writer::new(text);
+                put_object(alloc, &mut writer, row)?;
+                text = writer.into_inner();
             } else {
-                put_segment(&mut text, row.segment, row.number)?;
-                put_fence(&mut text, row.is_fenced)?;
-                put_shown(alloc, &mut text, OutputFormat::Text, row.value.as_slice())?;
+                put_row(alloc, &mut text, row)?;
             }
             text.push(b'\n')?;
         }
@@ -35,9 +35,15 @@ pub fn changes(
     Ok(text)
 }
 
-/// Appends a row as an object.
-fn append_object(alloc: Global, text: Vec<u8>, row: &Row) -> Result<Vec<u8>, AllocError> {
-    let mut writer = Writer::new(text);
+/// Appends a row as words.
+fn put_row(alloc: Global, text: &mut Vec<u8>, row: &Row) -> Result<(), AllocError> {
+    put_segment(text, row.segment, row.number)?;
+    put_fence(text, row.is_fenced)?;
+    put_shown(alloc, text, OutputFormat::Text, row.value.as_slice())
+}
+
+/// Writes a row as an object.
+fn put_object(alloc: Global, writer: &mut Writer, row: &Row) -> Result<(), AllocError> {
     writer.begin_object()?;
     writer.key("segment")?;
     writer.u64(row.segment as u64)?;
@@ -45,7 +51,6 @@ fn append_object(alloc: Global, text: Vec<u8>, row: &Row) -> Result<Vec<u8>, All
     writer.u64(row.number)?;
     writer.key("fenced")?;
     writer.boolean(row.is_fenced)?;
-    put_bytes(alloc, &mut writer, row.value.as_slice())?;
-    writer.end_object()?;
-    Ok(writer.into_inner())
+    put_bytes(alloc, writer, row.value.as_slice())?;
+    writer.end_object()
 }

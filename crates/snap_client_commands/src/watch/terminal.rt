@@ -1,5 +1,6 @@
 //! The board in a terminal.
 
+use crate::print::LineText;
 use crate::watch::exchange::Row;
 use crate::watch::track::Track;
 use snap_json::quote;
@@ -57,21 +58,31 @@ impl Panel<'_> {
 /// room for the first drawing. The text hides the cursor and turns line wrap off, and its end restores both, so it has
 /// to be written whole. It has no control character of a value.
 pub fn drawing(alloc: Global, above: usize, panel: &Panel<'_>) -> Result<String, AllocError> {
+    let mut text = String::from_str(alloc, "\x1b[?25l\x1b[?7l\r")?;
+    put_board(alloc, &mut text, above, panel)?;
+    Ok(text)
+}
+
+/// Appends the board.
+fn put_board(
+    alloc: Global,
+    text: &mut String,
+    above: usize,
+    panel: &Panel<'_>,
+) -> Result<(), AllocError> {
     let len = panel.len();
     let up = above.max(len);
-    let mut text = String::from_str(alloc, "\x1b[?25l\x1b[?7l\r")?;
     for _ in above..len {
         text.push('\n')?;
     }
     write!(text, "\x1b[{up}A")?;
-    put_title(&mut text, panel)?;
-    put_painted(&mut text, panel.is_coloured, BOLD, COLUMNS)?;
+    put_title(text, panel)?;
+    put_painted(text, panel.is_coloured, BOLD, COLUMNS)?;
     text.push_str(END)?;
     for (row, track) in panel.rows.iter().zip(panel.tracks) {
-        put_row(alloc, &mut text, panel, row, track)?;
+        put_row(alloc, text, panel, row, track)?;
     }
-    text.push_str("\x1b[J\x1b[?7h\x1b[?25h")?;
-    Ok(text)
+    text.push_str("\x1b[J\x1b[?7h\x1b[?25h")
 }
 
 /// Appends the title: the server's address, and whether it answers.
@@ -101,8 +112,8 @@ fn put_row(
     track: &Track,
 ) -> Result<(), AllocError> {
     let (segment, number) = (row.segment, row.number);
-    let age = age_text(alloc, track.age(panel.now))?;
-    let rate = rate_text(alloc, track.rate())?;
+    let (age, rate) = (age_text(track.age(panel.now)), rate_text(track.rate()));
+    let (age, rate) = (age.as_str(), rate.as_str());
     write!(text, "{segment:>7}  {number:>10}  {age:>4}  {rate:>6}  ")?;
     if row.is_fenced {
         put_painted(text, panel.is_coloured, RED, "fenced")?;
@@ -128,9 +139,9 @@ fn cell(alloc: Global, value: &[u8]) -> Result<Vec<u8>, AllocError> {
 }
 
 /// A number of seconds in the largest unit that it fills, or `-`.
-fn age_text(alloc: Global, age: Option<u64>) -> Result<String, AllocError> {
+fn age_text(age: Option<u64>) -> LineText {
     let Some(seconds) = age else {
-        return String::from_str(alloc, "-");
+        return LineText::of(&"-");
     };
     let (count, unit) = match seconds {
         ..60 => (seconds, 's'),
@@ -138,16 +149,16 @@ fn age_text(alloc: Global, age: Option<u64>) -> Result<String, AllocError> {
         ..86_400 => (seconds / 3_600, 'h'),
         _ => (seconds / 86_400, 'd'),
     };
-    format!(in alloc; "{count}{unit}")
+    LineText::of(&format_args!("{count}{unit}"))
 }
 
 /// A number of tenths as a decimal number, or `-`.
-fn rate_text(alloc: Global, rate: Option<u64>) -> Result<String, AllocError> {
+fn rate_text(rate: Option<u64>) -> LineText {
     let Some(rate) = rate else {
-        return String::from_str(alloc, "-");
+        return LineText::of(&"-");
     };
     let (whole, tenths) = (rate / 10, rate % 10);
-    format!(in alloc; "{whole}.{tenths}")
+    LineText::of(&format_args!("{whole}.{tenths}"))
 }
 
 /// Appends these words, in this colour if the board has colours.
