@@ -1,8 +1,8 @@
 -- A dump as a document (docs/FORMATS.md, "A dump"), byte for byte.
-use Rattle.std.specs.Prelude.{ℕ, ◌≤◌, List, [], ◌∷◌, ◌++◌, length, All, codes, nat_lt, if◌then◌else◌}
+use Rattle.std.specs.Prelude.{◌≡◌, ℕ, ◌≤◌, List, [], ◌∷◌, ◌++◌, length, All, codes, nat_lt, if◌then◌else◌}
 use Rattle.std.specs.Fmt.{decimal}
 use Rattle.hex.specs.Hex.{encode_lower}
-use Rattle.json.specs.Print.{print}
+use Rattle.json.specs.{Print.print, Written.Written}
 use Rattle.json.specs.Token.{Token, begin_array, begin_object, end_array, end_object, key, number, string}
 use Rattle.sha2.specs.Sha256.{sha256}
 use Rattle.snap_history.specs.{declared.limits.TheConstants.MAX_COUNT, Limits.IsNumber, Limits.IsShort}
@@ -29,13 +29,17 @@ row i v = comma_before i ++ (10 ∷ print (value_tokens i v))
 abbrev pub body : (time : List ℕ) → List SegmentValue → List ℕ
 body time values = print (head_tokens time (length values)) ++ (each_from row 0 values ++ 10 ∷ [])
 
--- the last line: the SHA-256 of the lines before it
-abbrev pub last_line : List ℕ → List ℕ
-last_line lines = line_of (end_array ∷ key (codes "sha256") ∷ string (encode_lower (sha256 lines)) ∷ end_object ∷ [])
+-- the last line, which has the SHA-256 of the lines before it
+abbrev pub last_tokens : (digest : List ℕ) → List Token
+last_tokens digest = end_array ∷ key (codes "sha256") ∷ string digest ∷ end_object ∷ []
+
+-- a writer wrote these tokens
+abbrev pub Adds : (old new : Written) → List Token → Type 0
+Adds old new ts = (new.before ≡ old.before) × (new.tokens ≡ old.tokens ++ ts)
 
 -- the document of these values at this time
 abbrev pub dump_text : (time : List ℕ) → List SegmentValue → List ℕ
-dump_text time values = body time values ++ last_line (body time values)
+dump_text time values = body time values ++ line_of (last_tokens (encode_lower (sha256 (body time values))))
 
 -- a number and a value within the limits of a segment
 abbrev pub IsKeepable : SegmentValue → Type 0

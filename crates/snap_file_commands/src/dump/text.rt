@@ -1,8 +1,7 @@
 //! Writes dumps.
-ghost use Rattle.std.specs.Prelude.{◌≡◌, ◌++◌, ◌∷◌, [], IfOk};
-ghost use Rattle.json.specs.Print.{print};
+ghost use Rattle.std.specs.Prelude.{◌≡◌, ◌++◌, ◌∷◌, [], IfOk, OnOk};
 ghost use Rattle.snap_json.specs.Each.{each_from};
-ghost use Rattle.snap_file_commands.specs.Document.{dump_text, head_tokens, last_line, row};
+ghost use Rattle.snap_file_commands.specs.Document.{Adds, dump_text, head_tokens, last_tokens, row};
 
 use json::Writer;
 use sha2::{Digest, Sha256};
@@ -18,16 +17,22 @@ const VERSION: u64 = 1;
 pub fn document(alloc: Global, time: &str, values: &[SegmentValue]) -> Result<Vec<u8>, AllocError>
     ensures { IfOk result (λ text. text.items ≡ dump_text time.now values.now) }
 {
-    let text = head(alloc, time, values.len())?;
-    let text = with_values(alloc, text, values)?;
-    sealed(alloc, text)
+    let mut writer = Writer::new(Vec::new(alloc));
+    begin(&mut writer, time, values.len())?;
+    let lines = with_values(alloc, writer.into_inner(), values)?;
+    let digest = hex::encode(alloc, Sha256::digest(lines.as_slice()))?;
+    let mut writer = Writer::new(lines);
+    end(&mut writer, digest.as_str())?;
+    let mut text = writer.into_inner();
+    text.push(b'\n')?;
+    Ok(text)
 }
 
-/// The first line, without its line feed.
-fn head(alloc: Global, time: &str, count: usize) -> Result<Vec<u8>, AllocError>
-    ensures { IfOk result (λ text. text.items ≡ print (head_tokens time.now count)) }
+/// Writes the first line, without its line feed.
+fn begin(writer: &mut Writer, time: &str, count: usize) -> Result<(), AllocError>
+    requires { writer.old.tokens ≡ [] }
+    ensures { OnOk result (Adds writer.old writer.new (head_tokens time.now count)) }
 {
-    let mut writer = Writer::new(Vec::new(alloc));
     writer.begin_object()?;
     writer.key("format")?;
     writer.string("snapd dump")?;
@@ -39,7 +44,7 @@ fn head(alloc: Global, time: &str, count: usize) -> Result<Vec<u8>, AllocError>
     writer.u64(count as u64)?;
     writer.key("segments")?;
     writer.begin_array()?;
-    Ok(writer.into_inner())
+    Ok(())
 }
 
 /// Appends a line for each segment, and the line feed of the last one.
@@ -73,17 +78,12 @@ fn with_value(
     append_value(alloc, text, index, value.number, value.value.as_slice())
 }
 
-/// Appends the last line, which has the digest of the lines before it.
-fn sealed(alloc: Global, lines: Vec<u8>) -> Result<Vec<u8>, AllocError>
-    ensures { IfOk result (λ text. text.items ≡ lines.items ++ last_line lines.items) }
+/// Writes the last line, which has the digest of the lines before it, without its line feed.
+fn end(writer: &mut Writer, digest: &str) -> Result<(), AllocError>
+    ensures { OnOk result (Adds writer.old writer.new (last_tokens digest.now)) }
 {
-    let digest = hex::encode(alloc, Sha256::digest(lines.as_slice()))?;
-    let mut writer = Writer::new(lines);
     writer.end_array()?;
     writer.key("sha256")?;
-    writer.string(digest.as_str())?;
-    writer.end_object()?;
-    let mut text = writer.into_inner();
-    text.push(b'\n')?;
-    Ok(text)
+    writer.string(digest)?;
+    writer.end_object()
 }
