@@ -3,12 +3,13 @@ ghost use Rattle.std.specs.Prelude.{◌≡◌, IfOk};
 
 use super::complaint::stop;
 use super::file_system::{file_system_of, is_taken, keeps_locks, remedy_of, try_as_server};
+use super::files::FirstFault;
 use super::folder::{contents_of, order_of, path_at, segment_files};
 use super::folder_refusal::FolderReadFault;
-use super::store_times::{MeasureFault, STORED_LEN, STORES, measure};
+use super::store_times::{STORED_LEN, STORES, measure};
 use crate::{CommandFault, SegmentPlace};
 use snap_devices::FileFault;
-use snap_order::{DoctorOptions, Status, stop_without_memory};
+use snap_order::{DoctorOptions, Status, SystemReason, stop_without_memory};
 use std::fmt::Display;
 use std::io::{self, ErrorKind};
 
@@ -193,15 +194,18 @@ const SHORTEST: u128 = 40;
 
 /// Reports how long a store takes in the folder, and whether it can have waited for a disk.
 fn report_stores(rt: &HostRuntime, folder: &str) -> io::Result<bool> {
-    let (median, late) = match measure(rt, folder) {
-        Ok(times) => times,
-        Err(fault) => {
-            let why = format_args!("nothing could be stored: {fault}");
-            let reason = match &fault {
-                MeasureFault::System(reason) => Some(reason),
-                _ => None,
-            };
-            return report_remedy(rt, folder, &why, reason, false);
+    let told = FirstFault::new();
+    let (median, late) = match measure(rt, folder, &told) {
+        Ok(Some(times)) => times,
+        Ok(None) => {
+            let said = told.text(rt.alloc());
+            let said = said.as_deref().unwrap_or("a call of its device failed");
+            let why = format_args!("nothing could be stored: {said}");
+            return tell(rt, folder, &why, false);
+        }
+        Err(reason) => {
+            let why = format_args!("nothing could be stored: {reason}");
+            return report_remedy(rt, folder, &why, Some(&reason), false);
         }
     };
     let (median, late) = (median.as_micros(), late.as_micros());

@@ -2,18 +2,13 @@
 ghost use Rattle.std.specs.Prelude.{◌<◌, ◌-◌, ◌^◌};
 
 use super::files::{FirstFault, open_as};
-use snap_devices::FileFault;
 use snap_disk::Disk;
-use snap_order::SystemReason;
 use snap_segment::{Segment, format};
 use snap_slot::FILE_LEN;
-use std::alloc::AllocError;
 use std::fs::{self, File};
 use std::io::{self, ErrorKind};
 use std::os::unix::fs::MetadataExt;
-use std::path::Path;
 use std::time::{Duration, Instant};
-use thiserror::Error;
 
 /// How many values are stored.
 pub const STORES: usize = 200;
@@ -24,64 +19,44 @@ pub const STORED_LEN: usize = 1_000;
 /// How many names there are for the temporary file, and so how many measurements can run at once.
 const NAMES: u8 = 100;
 
-/// The reason why nothing was measured.
-#[derive(Debug, Drop, Error)]
-pub enum MeasureFault {
-    /// The file couldn't be made.
-    #[error("{0}")]
-    File(FileFault),
-    /// A call on the file failed, for this reason if the system gave one.
-    #[error("{}", .0.as_deref().unwrap_or("a call of its device failed"))]
-    Store(Option<String>),
-    /// The system has no clock, or the file couldn't be removed.
-    #[error("{0}")]
-    System(#[from] io::Error),
-    /// All names are taken.
-    #[error("all names from doctor-0.tmp on are taken: remove what is left of them")]
-    Crowded,
-    /// Memory ran out.
-    #[error("out of memory")]
-    NoMemory(#[from(alloc)] AllocError),
-}
-
 /// Stores [`STORES`] values of [`STORED_LEN`] bytes in a temporary file in the folder, and returns the median and the
-/// 99th percentile of the times. The file is removed however this ends, or by a later measurement if the process is
-/// killed.
-pub fn measure(rt: &HostRuntime, folder: &str) -> Result<(Duration, Duration), MeasureFault> {
+/// 99th percentile of the times, or `None` if a call on the file failed: `told` gets why. The file is removed however
+/// this ends, or by a later measurement if the process is killed.
+pub fn measure(
+    rt: &HostRuntime,
+    folder: &str,
+    told: &FirstFault,
+) -> io::Result<Option<(Duration, Duration)>> {
     let own = own_path(rt, folder)?;
     let path = own.as_str();
-    let told = FirstFault::new();
-    let disk = match open_as(rt, path, None, Some(&told)) {
+    let disk = match open_as(rt, path, None, Some(told)) {
         Ok(disk) => disk,
         Err(fault) => {
             let _ = fs::remove_file(rt, path);
-            return Err(MeasureFault::File(fault));
+            // Advice about the folder wouldn't help: the file was made.
+            return Err(io::Error::other(fault.to_string(rt.alloc())?.as_str()));
         }
     };
-    let (_locked, taken) = store_all(rt, disk, &told);
+    let (_locked, taken) = store_all(rt, disk);
     // The lock is held until the name is removed, so that no other process takes the file for a left one.
     fs::remove_file(rt, path)?;
     taken
 }
 
 /// The path of a new and empty file in the folder that only this process uses. Fails if all names are taken.
-fn own_path(rt: &HostRuntime, folder: &str) -> Result<String, MeasureFault> {
+fn own_path(rt: &HostRuntime, folder: &str) -> io::Result<String> {
     for number in 0..NAMES {
         // No segment's file: the name doesn't end in `.seg`.
-        let name = format!(in rt.alloc(); "doctor-{number}.tmp")?;
-        let path = Path::new(folder).join(rt.alloc(), name.as_str())?;
+        let path = format!(in rt.alloc(); "{folder}/doctor-{number}.tmp")?;
         remove_left(rt, path.as_str());
-        match File::options()
-            .write(true)
-            .create_new(true)
-            .open(rt, path.as_str())
-        {
-            Ok(_) => return Ok(path.into_string()),
+        match File::create_new(rt, path.as_str()) {
+            Ok(_) => return Ok(path),
             Err(reason) if reason.kind() == ErrorKind::AlreadyExists => {}
-            Err(reason) => return Err(MeasureFault::System(reason)),
+            Err(reason) => return Err(reason),
         }
     }
-    Err(MeasureFault::Crowded)
+    let why = "all names from doctor-0.tmp on are taken: remove what is left of them";
+    Err(io::Error::other(why))
 }
 
 /// Removes the file at this path if its process ended before it could: then it has a segment file's length, which it
@@ -106,19 +81,18 @@ fn remove_left(rt: &HostRuntime, path: &str) {
 fn store_all<D: Disk>(
     rt: &HostRuntime,
     mut disk: D,
-    told: &FirstFault,
-) -> (D, Result<(Duration, Duration), MeasureFault>)
+) -> (D, io::Result<Option<(Duration, Duration)>>)
     requires { D.failure_count disk < 2 ^ 64 - 1 }
 {
     if format(&mut disk, 0, 1).is_err() {
-        return (disk, Err(MeasureFault::Store(told.text(rt.alloc()))));
+        return (disk, Ok(None));
     }
     match Segment::open(rt.alloc(), disk, 0, 1) {
         Ok(mut segment) => {
-            let taken = time_stores(rt, &mut segment, told);
+            let taken = time_stores(rt, &mut segment);
             (segment.into_device(), taken)
         }
-        Err((_, disk)) => (disk, Err(MeasureFault::Store(told.text(rt.alloc())))),
+        Err((_, disk)) => (disk, Ok(None)),
     }
 }
 
@@ -126,19 +100,15 @@ fn store_all<D: Disk>(
 fn time_stores<D: Disk>(
     rt: &HostRuntime,
     segment: &mut Segment<D>,
-    told: &FirstFault,
-) -> Result<(Duration, Duration), MeasureFault> {
-    let mut times = Vec::with_capacity(rt.alloc(), STORES)?;
-    for _ in 0..STORES {
+) -> io::Result<Option<(Duration, Duration)>> {
+    let mut times = [Duration::ZERO; STORES];
+    for taken in &mut times {
         let began = Instant::now(rt)?;
         if segment.store(&[b'v'; STORED_LEN]).is_err() {
-            return Err(MeasureFault::Store(told.text(rt.alloc())));
+            return Ok(None);
         }
-        times.push(began.elapsed(rt)?)?;
+        *taken = began.elapsed(rt)?;
     }
     times.sort_unstable();
-    match (times.get(STORES / 2), times.get(STORES * 99 / 100)) {
-        (Some(&median), Some(&late)) => Ok((median, late)),
-        _ => Err(MeasureFault::NoMemory(AllocError)),
-    }
+    Ok(Some((times[STORES / 2], times[STORES * 99 / 100])))
 }
