@@ -185,22 +185,19 @@ fn found_all(
     requires { order.now.count ≤ MAX_COUNT }
 {
     for index in 0..order.count {
-        let status = match file_in(kept, index) {
+        match file_in(kept, index) {
             Some(file) => found_at(rt, file, index, order.count)?,
             None => {
                 let file = or_stop(rt, segment_path(rt.alloc(), order.folder, index))?;
-                found_at(rt, file.as_str(), index, order.count)?
+                found_at(rt, file.as_str(), index, order.count)?;
             }
-        };
-        if status != Status::Done {
-            return Err(status);
         }
     }
     Ok(Status::Done)
 }
 
 /// Makes the file of a segment, or leaves it if it is whole, and prints which.
-fn found_at<'a>(rt: &'a HostRuntime, file: &'a str, index: u8, count: u8) -> Result<Status, Status>
+fn found_at<'a>(rt: &'a HostRuntime, file: &'a str, index: u8, count: u8) -> Result<(), Status>
     requires below { index < count }
     requires few { count ≤ MAX_COUNT }
 {
@@ -209,5 +206,8 @@ fn found_at<'a>(rt: &'a HostRuntime, file: &'a str, index: u8, count: u8) -> Res
     let disk = take_file(rt, &order, file, &told)?;
     let len = disk.len();
     let (_disk, end) = found(rt.alloc(), disk, index, count, &mut rt.stdout());
-    Ok(finish(rt.alloc(), &order, len, end, &told, &mut rt.stderr()).status)
+    match finish(rt.alloc(), &order, len, end, &told, &mut rt.stderr()).status {
+        Status::Done => Ok(()),
+        status => Err(status),
+    }
 }

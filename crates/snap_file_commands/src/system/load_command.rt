@@ -86,10 +86,7 @@ fn make_folder(
     let loading = LoadingFolder::take(rt, folder)?;
     for index in 0..count {
         let file = or_stop(rt, segment_path(rt.alloc(), loading.path.as_str(), index))?;
-        let status = make_file(rt, file.as_str(), index, count, values)?;
-        if status != Status::Done {
-            return Err(status);
-        }
+        make_file(rt, file.as_str(), index, count, values)?;
     }
     // The line is made first, so that if memory runs out the folder isn't renamed.
     let line = or_stop(rt, format!(in rt.alloc(); "ready {folder}\n"))?;
@@ -104,7 +101,7 @@ fn make_file<'a>(
     index: u8,
     count: u8,
     values: &[SegmentValue],
-) -> Result<Status, Status>
+) -> Result<(), Status>
     requires below { index < count }
     requires few { count ≤ MAX_COUNT }
     requires values { All IsKeepable values.now }
@@ -121,7 +118,10 @@ fn make_file<'a>(
     };
     let end = crate::load(rt.alloc(), &of, &mut disk, &mut rt.stdout());
     let len = disk.len();
-    Ok(finish(rt.alloc(), &order, len, end, &told, &mut rt.stderr()).status)
+    match finish(rt.alloc(), &order, len, end, &told, &mut rt.stderr()).status {
+        Status::Done => Ok(()),
+        status => Err(status),
+    }
 }
 
 /// The number and value of this segment, or number 0 and the empty value after the last one.
