@@ -71,10 +71,10 @@ impl<'a, H: Deliver> Dispatcher<'a, H> {
         ensures { result ≡ true → (last : H) × (slice_get self.now.senders.now
             (length self.now.senders.now - 1) ≡ Some last) × H.takes last arrival }
     {
-        let Some(last) = self.senders.last() else {
-            return false;
-        };
-        matches!(last.deliver(rt, arrival), Ok(true))
+        match self.senders.last() {
+            Some(last) => last.deliver(rt, arrival).unwrap_or(false),
+            None => false,
+        }
     }
 
     /// Accepts one connection, and delivers it to a worker without one, or to the next worker, or to the last if that

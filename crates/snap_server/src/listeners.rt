@@ -72,8 +72,9 @@ impl<'a, R: Files<File = File> + Clock> Listeners<'a, R> {
     /// An empty set of listeners. Fails if the system refuses its event queue, or if memory runs out.
     pub fn new(net: &impl Net, alloc: Global) -> Result<Listeners<'a, R>, BindFault> {
         let poll = Poll::new(net)?;
-        let events = Events::with_capacity(alloc, MAX_EVENTS);
-        let events = events.map_err(|_| BindFault::NoMemory)?;
+        let Ok(events) = Events::with_capacity(alloc, MAX_EVENTS) else {
+            return Err(BindFault::NoMemory);
+        };
         Ok(Listeners {
             poll,
             events,
@@ -91,27 +92,27 @@ impl<'a, R: Files<File = File> + Clock> Listeners<'a, R> {
 
     /// Adds a Unix socket. After a fault the set is unusable.
     pub fn add_unix(&mut self, socket: UnixSocket<'a, R>) -> Result<(), BindFault> {
-        let path = socket.path.clone().map_err(|_| BindFault::NoMemory)?;
-        self.add(Opened::Unix(socket), Endpoint::Unix(path))
+        match socket.path.clone() {
+            Ok(path) => self.add(Opened::Unix(socket), Endpoint::Unix(path)),
+            Err(_) => Err(BindFault::NoMemory),
+        }
     }
 
     fn add(&mut self, opened: Opened<'a, R>, endpoint: Endpoint) -> Result<(), BindFault> {
         self.watch(&opened)?;
-        if self.opened.reserve(1).is_err() || self.endpoints.reserve(1).is_err() {
-            return Err(BindFault::NoMemory);
+        let is_kept = self.opened.push(opened).is_ok();
+        if self.endpoints.push(endpoint).is_ok() & is_kept {
+            return Ok(());
         }
-        self.opened.push_reserved(opened);
-        self.endpoints.push_reserved(endpoint);
-        Ok(())
+        Err(BindFault::NoMemory)
     }
 
     /// Registers the listener, so that the system reports its waiting connections. If it isn't the only one, neither it
     /// nor the first one waits for a connection any more.
-    fn watch(&mut self, opened: &Opened<'a, R>) -> io::Result<()> {
+    fn watch(&self, opened: &Opened<'a, R>) -> io::Result<()> {
         // A single listener blocks in its own system call.
         if let Some(first) = self.opened.first() {
-            first.stop_waiting()?;
-            opened.stop_waiting()?;
+            first.stop_waiting().and(opened.stop_waiting())?;
         }
         let descriptor = opened.descriptor();
         let mut source = SourceFd(&descriptor);
@@ -131,9 +132,9 @@ impl<'a, R: Files<File = File> + Clock> Listeners<'a, R> {
                 return Ok(None);
             };
             self.next += 1;
-            match opened.take() {
-                Ok(None) => {}
-                taken => return taken,
+            let taken = opened.take();
+            if !matches!(taken, Ok(None)) {
+                return taken;
             }
         }
         Ok(None)

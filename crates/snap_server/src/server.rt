@@ -2,7 +2,7 @@
 ghost use Rattle.std.specs.Prelude.{◌≡◌, ◌⊎◌, [], All, IfOk, IfErr, OnErr, OnOk, Some, map, true, vec_len};
 ghost use Rattle.std.specs.{List.range_with_len, Thread.IsSync, Thread.IsSend};
 ghost use Rattle.snap_session.specs.Asked.{AllAsked};
-ghost use Rattle.snap_server.specs.Announced.{Announced, end_of};
+ghost use Rattle.snap_server.specs.Announced.{Announced, HasRun, end_of};
 ghost use Rattle.snap_server.specs.Deals.{Deals, GivesSoMany};
 
 use crate::acceptor::{Acceptor, ConnectionLimit};
@@ -104,12 +104,12 @@ where
         ≡ range_with_len 0 (vec_len services)) }
     ensures faults { IfErr result (λ fault. (fault ≡ ServerFault.NoPoll) ⊎ (fault ≡ ServerFault.NoMemory)) }
 {
-    let mut workers = Vec::new(alloc);
-    let mut senders = Vec::new(alloc);
     let count = services.len();
-    if workers.reserve(count).is_err() || senders.reserve(count).is_err() {
+    let room: Result<_, _> = Vec::with_capacity(alloc, count);
+    let more: Result<_, _> = Vec::with_capacity(alloc, count);
+    let (Ok(mut workers), Ok(mut senders)) = (room, more) else {
         return Err(ServerFault::NoMemory);
-    }
+    };
     'services: for service in services {
         let place = workers.len();
         let is_last = place + 1 == count;
@@ -185,12 +185,9 @@ where
     A: Announce<T>,
     requires note { N.IsAlwaysCallable note.now }
     requires needs { K.needs }
-    ensures asked { IfOk result (λ k. limits.connections ≡ Some k) }
-    ensures deals { IfOk result (λ k.
-        (left : L) × Deals L.accepts H.takes H.is_busy H.was_idle senders.now k listener left) }
-    ensures served { OnOk result (All K.serves workers.items) }
-    ensures deaf { IfErr result (λ why. why ≡ RunFault.Server ServerFault.AcceptFailed → L.refuses listener) }
-    ensures announced { Announced (A.announces announce.now) (A.fails announce.now) to.old result to.new }
+    ensures { HasRun limits.connections (Deals L.accepts H.takes H.is_busy H.was_idle senders.now)
+        (All K.serves workers.items) (L.refuses listener) (A.announces announce.now) (A.fails announce.now)
+        listener to.old result to.new }
 {
     let Ok(threads) = Vec::with_capacity(alloc, workers.len()) else {
         return Err(RunFault::Server(ServerFault::NoMemory));
@@ -201,13 +198,9 @@ where
         move |scope| -> (Result<u64, RunFault>, &mut T)
             requires { IsSync X.row × IsSync N.row × IsSync H.row × IsSend K.row
                 × N.IsAlwaysCallable note.now × K.needs × (threads.items ≡ []) }
-            ensures asked { IfOk result.0 (λ k. limits.connections ≡ Some k) }
-            ensures deals { IfOk result.0 (λ k.
-                (left : L) × Deals L.accepts H.takes H.is_busy H.was_idle senders.entry.now k listener left) }
-            ensures served { OnOk result.0 (All K.serves workers.items) }
-            ensures deaf { IfErr result.0 (λ why. why ≡ RunFault.Server ServerFault.AcceptFailed → L.refuses listener) }
-            ensures announced { Announced (A.announces announce.entry.now)
-                (A.fails announce.entry.now) to.entry.now result.0 result.1.now }
+            ensures run { HasRun limits.connections (Deals L.accepts H.takes H.is_busy H.was_idle senders.entry.now)
+                (All K.serves workers.items) (L.refuses listener) (A.announces announce.entry.now)
+                (A.fails announce.entry.now) listener to.entry.now result.0 result.1.now }
             ensures same { result.1.ghost_name ≡ to.entry.ghost_name }
         {
             let mut threads = threads;
@@ -290,8 +283,10 @@ where
     ensures announced { Announced (A.announces announce.now) (A.fails announce.now) to.old result to.new }
 {
     let limit = ConnectionLimit::new(limits.clients);
-    let opened = open_workers(rt, alloc, services, gate, limits.idle, &limit);
-    let (workers, senders) = opened.map_err(RunFault::Server)?;
+    let (workers, senders) = match open_workers(rt, alloc, services, gate, limits.idle, &limit) {
+        Ok(opened) => opened,
+        Err(fault) => return Err(RunFault::Server(fault)),
+    };
     run_threads(
         rt,
         alloc,

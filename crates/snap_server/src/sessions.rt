@@ -49,7 +49,7 @@ impl<S: Service + Drop> Sessions<S> {
 
     /// Adds a connection, and registers it under its key. `false` if memory runs out or the system
     /// refuses it: then the connection is closed, and the others aren't affected.
-    pub fn adopt(&mut self, alloc: Global, registry: &Registry, arrival: Accepted) -> bool
+    pub fn adopt(&mut self, alloc: Global, registry: &Registry, mut arrival: Accepted) -> bool
         ensures service { self.new.service ≡ self.old.service }
         ensures kept { (key : ℕ) → (c : Connection) → get self.old.connections key ≡ Some c
             → get self.new.connections key ≡ Some c }
@@ -57,22 +57,16 @@ impl<S: Service + Drop> Sessions<S> {
         ensures taken { result ≡ true → slab_len self.new.connections ≡ slab_len self.old.connections + 1 }
         ensures order { self.new.listed.items ≡ self.old.listed.items }
     {
-        let Some(count) = self.connections.len().checked_add(1) else {
-            return false;
-        };
+        let count = self.connections.len().saturating_add(1);
         if self.listed.reserve(count).is_err() || self.connections.reserve(1).is_err() {
             return false;
         }
-        let mut connection = Connection::new(alloc, arrival);
         let token = Token(self.connections.vacant_key());
         let interest = Interest::READABLE | Interest::WRITABLE;
-        if connection
-            .socket
-            .register(registry, token, interest)
-            .is_err()
-        {
+        if arrival.stream.register(registry, token, interest).is_err() {
             return false;
         }
+        let connection = Connection::new(alloc, arrival);
         self.connections.insert_reserved(connection);
         true
     }

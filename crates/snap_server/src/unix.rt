@@ -149,9 +149,9 @@ impl<'a, R: Files<File = File> + Clock> UnixSocket<'a, R> {
             return;
         }
         for _ in 0..MAX_QUEUE {
-            let Ok(Some(_)) = self.take() else {
+            if !matches!(self.take(), Ok(Some(_))) {
                 return;
-            };
+            }
         }
     }
 

@@ -1,5 +1,5 @@
-use Rattle.std.proofs.Common.{◌≡◌, ◌∷◌, Result, Ok, Err, OnOk, false, true, length, ap, refl, sym, ◌∙◌, arith}
-use Rattle.std.specs.{List.range_with_len, Result.is_ok, Vec.Iter.into_iter_items}
+use Rattle.std.proofs.Common.{◌≡◌, ◌∷◌, length, ap, refl, sym, ◌∙◌, arith}
+use Rattle.std.specs.{List.range_with_len, Vec.Iter.into_iter_items}
 use Rattle.snap_server.proofs.Made.{made_more, made_all, made_len, numbered_more, pushed_len}
 use Rattle.snap_server.proofs.server.open_workers.Goals as goal
 
@@ -9,26 +9,19 @@ push_reserved-requires g c = omega (arith, c.services.invariant.room.0, c.in-Som
 pub push_reserved-requires-in-services : goal.push_reserved-requires-in-services
 push_reserved-requires-in-services g c = omega (arith, c.services.invariant.room.1, c.in-Some.ensures.steps.1)
 
--- what holds if there is a result
-when_ok : {A E : Type 0} {P : Type 0} (r : Result A E) → is_ok r ≡ true → OnOk r P → P
-when_ok (Ok x) done is = is
-when_ok (Err e) done is = let wrong : false ≡ true = done in absurd cc
-
 pub services-init : goal.services-init
 services-init g c =
-    let gives = c.into_iter-service-iterator.ensures.into_iter_gives in
-    let workers = c.reserve.ensures.items ∙ c.new-workers.ensures.items in
-    let senders = c.reserve-else-is_err.ensures.items ∙ c.new-senders.ensures.items in
-    let one = when_ok _ c.if-is_err.ensures.negation c.reserve.ensures.ok in
-    let two = when_ok _ c.if-is_err-2.ensures.negation c.reserve-else-is_err.ensures.ok in
+    let all = c.into_iter-service-iterator.ensures.into_iter_gives in
+    let workers = rw c.in-Ok-Ok.is-0 at c.with_capacity-room.ensures in
+    let senders = rw c.in-Ok-Ok.is-1 at c.with_capacity-more.ensures in
     let count = c.len-count.ensures in
     record {
-      made = rw workers gives.0;
-      places = rw workers refl;
-      theirs = rw senders refl;
-      senders = ap length senders ∙ sym (ap length workers);
-      room = (omega (arith, one, count, gives.1), omega (arith, two, count, gives.1));
-      long = gives.1 ∙ c.args.services.ok.0 ∙ sym (ap length gives.0);
+      made = rw workers.items all.0;
+      places = rw workers.items refl;
+      theirs = rw senders.items refl;
+      senders = ap length senders.items ∙ sym (ap length workers.items);
+      room = (omega (arith, workers.capacity, workers.len, all.1), omega (arith, senders.capacity, senders.len, all.1));
+      long = all.1 ∙ c.args.services.ok.0 ∙ sym (ap length all.0);
     }
 
 pub services-preserved : goal.services-preserved

@@ -18,16 +18,18 @@ returns g c =
       | else-is_told w ↦ λ whole. absurd cc
     ] in
     rw c.end_of.ensures (record {
-      asked = ended (λ e. IfOk e (λ k. c.captures.limits-connections ≡ Some k)) r failed accepted.asked tt;
-      deals = ended (λ e. IfOk e (λ k. (last : g.row.L.Denot) × Dealt k last)) r failed
-          (left_behind Dealt r c.accept_announced-accepted.new.listener
-          (rw c.new-dispatcher.ensures.senders at accepted.deals)) tt;
-      served = ended_served (All g.K.Work.serves c.captures.workers.items) r c.have_served.result accepted.whole
-          (λ whole yes. subst (All g.K.Work.serves) (c.start_workers-is_worked.ensures (worked whole))
-          (c.have_served.ensures yes));
-      deaf = ended (λ e. IfErr e (λ why. why ≡ Server AcceptFailed → g.L.Listen.refuses c.captures.listener)) r failed
-          accepted.deaf (λ same. absurd cc);
-      announced = ended_announced (g.A.Announce.announces c.captures.announce.now)
-          (g.A.Announce.fails c.captures.announce.now) c.captures.to.now _ r failed accepted.announced;
+      run = record {
+        asked = ended (λ e. IfOk e (λ k. c.captures.limits-connections ≡ Some k)) r failed accepted.asked tt;
+        deals = ended (λ e. IfOk e (λ k. (last : g.row.L.Denot) × Dealt k last)) r failed
+            (left_behind Dealt r c.accept_announced-accepted.new.listener
+            (rw c.new-dispatcher.ensures.senders at accepted.deals)) tt;
+        served = ended_served (All g.K.Work.serves c.captures.workers.items) r c.have_served.result accepted.whole
+            (λ whole yes. subst (All g.K.Work.serves) (c.start_workers-is_worked.ensures (worked whole))
+            (c.have_served.ensures yes));
+        deaf = ended (λ e. IfErr e (λ why. why ≡ Server AcceptFailed → g.L.Listen.refuses c.captures.listener)) r failed
+            accepted.deaf (λ same. absurd cc);
+        announced = ended_announced (g.A.Announce.announces c.captures.announce.now)
+            (g.A.Announce.fails c.captures.announce.now) c.captures.to.now _ r failed accepted.announced;
+      };
       same = refl;
     })
