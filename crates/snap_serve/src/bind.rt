@@ -83,11 +83,14 @@ impl<'a, X: Net + Files<File = File> + Clock> Bind for Network<'a, X> {
 
     /// A text that begins with `unix:` is the path of a socket; any other is a host and a port.
     fn bind(&self, alloc: Global, addresses: &Vec<&str>) -> Result<Listeners<'a, X>, ListenFault> {
-        let listeners = Listeners::new(self.net, alloc);
-        let mut listeners = listeners.map_err(|why| ListenFault { place: 0, why })?;
+        let mut listeners = match Listeners::new(self.net, alloc) {
+            Ok(listeners) => listeners,
+            Err(why) => return Err(ListenFault { place: 0, why }),
+        };
         for (place, address) in addresses.iter().enumerate() {
-            let added = self.add(alloc, &mut listeners, *address);
-            added.map_err(|why| ListenFault { place, why })?;
+            if let Err(why) = self.add(alloc, &mut listeners, *address) {
+                return Err(ListenFault { place, why });
+            }
         }
         Ok(listeners)
     }

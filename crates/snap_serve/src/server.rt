@@ -198,7 +198,6 @@ where
     };
     let (writers, scanners) = store.into_parts();
     let watch = environment.watch;
-    let announcement = Announcement { lines, watch };
     let ended = serve_memory::<Brand, _, _, _, _, _, _, _, _, _>(
         rt,
         alloc,
@@ -211,7 +210,7 @@ where
         watch,
         environment.metrics,
         environment.observer,
-        &announcement,
+        &Announcement { lines, watch },
         writer,
     );
     match ended {

@@ -1,5 +1,5 @@
 //! The storer threads, the workers' desks, and the observer's thread.
-ghost use Rattle.std.specs.Prelude.{◌≡◌, ◌≤◌, length, Some, IfOk, IfErr};
+ghost use Rattle.std.specs.Prelude.{◌≡◌, ◌≤◌, length, IfOk};
 ghost use Rattle.std.specs.Thread.{IsSync, IsSend};
 ghost use Rattle.snap_memory.specs.Rule.{segments};
 ghost use Rattle.snap_service.specs.Asked.{AreAsOpened};
@@ -7,7 +7,7 @@ ghost use Rattle.snap_service.specs.Memory.{AreWriters, number_of};
 ghost use Rattle.snap_session.specs.Asked.{AllAsked};
 ghost use Rattle.snap_serve.specs.Handles.{AreHandles};
 ghost use Rattle.snap_serve.specs.Scanners.{AreScanners, HasMetrics};
-ghost use Rattle.snap_server.specs.{Announced.Announced, Deals.GivesSoMany};
+ghost use Rattle.snap_server.specs.{Announced.HasRun, Deals.GivesSoMany};
 
 use crate::counted::CountedListener;
 use crate::observer::Observer;
@@ -143,10 +143,8 @@ where
     requires memory { L.may_serve (number_of M.table) }
     requires metrics { HasMetrics observer (length scanners.items) metrics.now.workers }
     requires note { N.IsAlwaysCallable note.now }
-    ensures asked { IfOk result (λ k. limits.connections ≡ Some k) }
-    ensures accepted { IfOk result (λ k. (left : L) × GivesSoMany L.accepts k listener left) }
-    ensures deaf { IfErr result (λ why. why ≡ RunFault.Server ServerFault.AcceptFailed → L.refuses listener) }
-    ensures announced { Announced (A.announces announce.now) (A.fails announce.now) to.old result to.new }
+    ensures { HasRun limits.connections (GivesSoMany L.accepts) (Unit {0}) (L.refuses listener)
+        (A.announces announce.now) (A.fails announce.now) listener to.old result to.new }
 {
     let listener = CountedListener::new(listener, metrics);
     let Ok((stores, handles)) = open_stores::<X, M, D, H>(*rt, alloc, writers, watch) else {
@@ -201,10 +199,8 @@ where
     requires note { N.IsAlwaysCallable note.now }
     requires requests { AllAsked S.asked }
     requires memory { L.may_serve S.memory }
-    ensures asked { IfOk result (λ k. limits.connections ≡ Some k) }
-    ensures accepted { IfOk result (λ k. (left : L) × GivesSoMany L.accepts k listener left) }
-    ensures deaf { IfErr result (λ why. why ≡ RunFault.Server ServerFault.AcceptFailed → L.refuses listener) }
-    ensures announced { Announced (A.announces announce.now) (A.fails announce.now) to.old result to.new }
+    ensures { HasRun limits.connections (GivesSoMany L.accepts) (Unit {0}) (L.refuses listener)
+        (A.announces announce.now) (A.fails announce.now) listener to.old result to.new }
 {
     let Some((service, observer)) = seen else {
         return run(
@@ -218,11 +214,9 @@ where
             requires { IsSync X.row × IsSync O.row × IsSync N.row × IsSync G.row × IsSend S.row
                 × IsSend S.Outcome.row × IsSend B.row × IsSend M.row
                 × N.IsAlwaysCallable note.now × AllAsked S.asked × L.may_serve S.memory }
-            ensures asked { IfOk result.0 (λ k. limits.connections ≡ Some k) }
-            ensures accepted { IfOk result.0 (λ k. (left : L) × GivesSoMany L.accepts k listener left) }
-            ensures deaf { IfErr result.0 (λ why. why ≡ RunFault.Server ServerFault.AcceptFailed → L.refuses listener) }
-            ensures announced { Announced (A.announces announce.entry.now)
-                (A.fails announce.entry.now) to.entry.now result.0 result.1.now }
+            ensures run { HasRun limits.connections (GivesSoMany L.accepts) (Unit {0}) (L.refuses listener)
+                (A.announces announce.entry.now) (A.fails announce.entry.now)
+                listener to.entry.now result.0 result.1.now }
             ensures same { result.1.ghost_name ≡ to.entry.ghost_name }
         {
             let looking = move ||

@@ -59,19 +59,19 @@ listens g c = listening _ _ _ c.args.report.now _ (g.W.Write.contents c.print_re
 pub returns-in-Ok-print_served : goal.returns-in-Ok-print_served
 returns-in-Ok-print_served g c = record {
   ends = served _ _ _ _ _ _ (listens g (goal.at.returns-in-Ok-print_served g c).After-print_served)
-      c.in-Ok-ended.ensures.asked c.in-Ok-ended.ensures.accepted
+      c.in-Ok-ended.ensures.asked c.in-Ok-ended.ensures.deals
       c.in-Ok-print_served.ensures.whole;
 }
 
-pub returns-in-Ok-ended : goal.returns-in-Ok-ended
-returns-in-Ok-ended g c = record {
-  ends = served_failed _ _ _ _ _ _ (listens g (goal.at.returns-in-Ok-ended g c).After-print_served)
-      c.in-Ok-ended.ensures.asked c.in-Ok-ended.ensures.accepted
+pub returns-in-Err-print_served : goal.returns-in-Err-print_served
+returns-in-Err-print_served g c = record {
+  ends = served_failed _ _ _ _ _ _ (listens g (goal.at.returns-in-Err-print_served g c).After-print_served)
+      c.in-Ok-ended.ensures.asked c.in-Ok-ended.ensures.deals
       c.in-Err-print_served.failure c.in-Err-print_served.ensures.failed;
 }
 
-pub returns : goal.returns
-returns g c = record {
+pub returns-in-Err-ended : goal.returns-in-Err-ended
+returns-in-Err-ended g c = record {
   ends = rw c.failure_of.ensures (ended_early g.W.Write.contents _ c.args.order.now.connections
       c.args.report.now _ c.print_report.new.writer c.serve_memory-ended.new.to
       c.in-Ok-listen.listening.0 _ c.in-Ok.ensures.whole c.in-Ok-listen.ensures.bound

@@ -24,8 +24,5 @@ count_all-requires g c =
       | in-None w ↦ rw w.desks-is (let most = few.0 w.in-None.is in omega arith)
     ]
 
-pub returns-clause-accepted : goal.returns-clause-accepted
-returns-clause-accepted g c = rw c.new-listener.ensures at c.run_observed.ensures.accepted
-
-pub returns-clause-deaf : goal.returns-clause-deaf
-returns-clause-deaf g c = rw c.new-listener.ensures at c.run_observed.ensures.deaf
+pub returns : goal.returns
+returns g c = rw c.new-listener.ensures at c.run_observed.ensures
