@@ -127,16 +127,11 @@ impl Contents {
     /// Whether the file has the length of this, its header, the head of the slot that was stored last, and the next
     /// one's gate; before the first store, the head of each slot. It fails with `UnexpectedEof` if it is cut meanwhile.
     fn is_in(&self, file: &mut File) -> io::Result<bool> {
-        if file.seek(SeekFrom::End(0))? != FILE_LEN {
-            return Ok(false);
-        }
+        let mut is_same = file.seek(SeekFrom::End(0))? == FILE_LEN;
         let mut found = [0; SLOT_READ];
         file.read_exact_at(&mut found[..BLOCK_LEN], 0)?;
-        if found[..START_LEN] != self.start[..]
-            || found[HEADER_GATE_AT as usize] != self.header_gate
-        {
-            return Ok(false);
-        }
+        is_same &= found.starts_with(&self.start);
+        is_same &= found[HEADER_GATE_AT as usize] == self.header_gate;
         let (first, after) = match self.opened {
             Some(slot) if slot < SLOT_COUNT => (slot, slot + 1),
             _ => (0, SLOT_COUNT),
@@ -144,15 +139,14 @@ impl Contents {
         for slot in first..after {
             let head = &self.slots[slot as usize];
             file.read_exact_at(&mut found, gate_at(slot))?;
-            if found[0] != head.gate || found[BLOCK_LEN..] != head.body[..] {
-                return Ok(false);
-            }
+            is_same &= found[0] == head.gate;
+            is_same &= found.ends_with(&head.body);
         }
-        if after == SLOT_COUNT && first == 0 {
-            return Ok(true);
+        if after == first + 1 {
+            let next = next_slot(first);
+            file.read_exact_at(&mut found[..1], gate_at(next))?;
+            is_same &= found[0] == self.slots[next as usize].gate;
         }
-        let next = next_slot(first);
-        file.read_exact_at(&mut found[..1], gate_at(next))?;
-        Ok(found[0] == self.slots[next as usize].gate)
+        Ok(is_same)
     }
 }
