@@ -73,40 +73,74 @@ fn open_stores<R: Wait + Copy, M: Memory, D: Disk + Drop, H: UpdateObserver + Co
     Ok((stores, handles))
 }
 
-/// Makes a desk for each scanner.
-fn open_desks<R: Wait + Copy + Clock, M: Memory, D: Disk + Drop, H: UpdateObserver + Copy + Drop>(
+/// A worker's service: a desk whose answers are counted in the worker's metrics.
+type WorkerService<'f, R, M, D, H> = CountingService<'f, Desk<R, M, D, H>>;
+
+/// Makes a worker's service for each scanner.
+fn open_desks<'f, R, M, D, H>(
     rt: R,
     alloc: Global,
-    handles: Vec<StorerHandle<M, D>>,
+    handles: &Vec<StorerHandle<M, D>>,
     scanners: Vec<Scanner>,
     watch: H,
-) -> Result<Vec<Desk<R, M, D, H>>, AllocError>
-    requires handles { AreHandles (segments M.plan) handles.items }
+    metrics: &'f Metrics,
+) -> Result<Vec<WorkerService<'f, R, M, D, H>>, AllocError>
+where
+    R: Wait + Copy + Clock,
+    M: Memory,
+    D: Disk + Drop,
+    H: UpdateObserver + Copy + Drop,
+    requires handles { AreHandles (segments M.plan) handles.now.items }
     requires scanners { AreScanners M.table M.plan scanners.items }
+    requires metrics { length scanners.items ≤ metrics.now.workers }
     ensures { IfOk result (λ desks. length desks.items ≡ length scanners.items) }
 {
-    let mut desks = Vec::new(alloc);
+    let mut desks = Vec::with_capacity(alloc, scanners.len())?;
     'scanners: for scanner in scanners {
-        let desk = Desk::new(rt, alloc, desks.len(), handles.clone()?, scanner, watch);
-        desks.push(desk)?;
+        let worker = desks.len();
+        let desk = Desk::new(rt, alloc, worker, handles.clone()?, scanner, watch);
+        desks.push(CountingService::new(desk, metrics.worker(worker)))?;
     }
     Ok(desks)
 }
 
-/// Wraps each desk, so that its answers are counted in its worker's metrics.
-fn count_all<'f, S: Drop>(
+/// What the server's threads run: a service for each worker, a storer for each segment, and the observer's service.
+type ServingParts<'f, R, M, D, H, O> = (
+    Vec<WorkerService<'f, R, M, D, H>>,
+    Vec<Storing<R, M, D, H>>,
+    Option<(ReadOnlyService<M>, &'f O)>,
+);
+
+/// Makes what the threads run. If there is an observer, it gets the last scanner.
+fn open_parts<'f, R, M, D, H, O>(
+    rt: R,
     alloc: Global,
-    desks: Vec<S>,
+    writers: Vec<Writer<D>>,
+    mut scanners: Vec<Scanner>,
+    watch: H,
     metrics: &'f Metrics,
-) -> Result<Vec<CountingService<'f, S>>, AllocError>
-    requires { length desks.items ≤ metrics.now.workers }
+    observer: Option<&'f O>,
+) -> Result<ServingParts<'f, R, M, D, H, O>, AllocError>
+where
+    R: Wait + Copy + Clock,
+    M: Memory,
+    D: Disk + Drop,
+    H: UpdateObserver + Copy + Drop,
+    requires writers { AreWriters M.table M.plan writers.items }
+    requires opened { AreAsOpened writers.items }
+    requires scanners { AreScanners M.table M.plan scanners.items }
+    requires metrics { HasMetrics observer (length scanners.items) metrics.now.workers }
 {
-    let mut services = Vec::with_capacity(alloc, desks.len())?;
-    'desks: for desk in desks {
-        let worker = metrics.worker(services.len());
-        services.push(CountingService::new(desk, worker))?;
-    }
-    Ok(services)
+    let (stores, handles) = open_stores(rt, alloc, writers, watch)?;
+    let seen = match observer {
+        Some(observer) => match scanners.pop() {
+            Some(scanner) => Some((ReadOnlyService::new(alloc, &handles, scanner)?, observer)),
+            None => None,
+        },
+        None => None,
+    };
+    let services = open_desks(rt, alloc, &handles, scanners, watch, metrics)?;
+    Ok((services, stores, seen))
 }
 
 /// Serves the memory of these writers and scanners, as [`run`] does: with a worker for each scanner, and a storer
@@ -147,23 +181,10 @@ where
         (A.announces announce.now) (A.fails announce.now) listener to.old result to.new }
 {
     let listener = CountedListener::new(listener, metrics);
-    let Ok((stores, handles)) = open_stores::<X, M, D, H>(*rt, alloc, writers, watch) else {
-        return Err(RunFault::Server(ServerFault::NoMemory));
-    };
-    let Ok(mut desks) = open_desks::<X, M, D, H>(*rt, alloc, handles, scanners, watch) else {
-        return Err(RunFault::Server(ServerFault::NoMemory));
-    };
-    let seen = match observer {
-        Some(observer) => match desks.pop() {
-            Some(desk) => match desk.into_read_only() {
-                Ok(service) => Some((service, observer)),
-                Err(_) => return Err(RunFault::Server(ServerFault::NoMemory)),
-            },
-            None => None,
-        },
-        None => None,
-    };
-    let Ok(services) = count_all(alloc, desks, metrics) else {
+    let made: Result<ServingParts<'_, X, M, D, H, O>, AllocError> = open_parts(
+        *rt, alloc, writers, scanners, watch, metrics, observer,
+    );
+    let Ok((services, stores, seen)) = made else {
         return Err(RunFault::Server(ServerFault::NoMemory));
     };
     run_observed(

@@ -150,29 +150,6 @@ impl<R: Wait + Copy + Clock, M: Memory, D: Disk + Drop, H: UpdateObserver + Drop
             may_store: AtomicBool::new(false),
         }
     }
-
-    /// Makes a service for read-only clients, with this desk's scanner. The desk's handles are
-    /// dropped, so no storer waits for it any more.
-    pub fn into_read_only(self) -> Result<ReadOnlyService<M>, AllocError>
-        ensures { IfOk result (λ service. service ≡ self) }
-    {
-        let Desk {
-            alloc,
-            outbox: Outbox { handles, .. },
-            scanner,
-            ..
-        } = self;
-        let mut standings = Vec::with_capacity(alloc, handles.len())?;
-        for handle in &handles {
-            standings.push(Arc::try_clone(&handle.standing)?)?;
-        }
-        Ok(ReadOnlyService {
-            alloc,
-            scanner,
-            standings,
-            of: PhantomData,
-        })
-    }
 }
 
 impl<R: Wait + Copy + Clock, M: Memory, D: Disk + Drop, H: UpdateObserver + Drop> Service

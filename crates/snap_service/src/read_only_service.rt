@@ -6,9 +6,10 @@ ghost use Rattle.snap_service.specs.{Answers.Answers, Counted.TakesFewLooks, Mem
 
 use crate::heap_writer::status_in;
 use crate::memory::Memory;
+use crate::outbox::StorerHandle;
 use crate::scans::{answer_part, answer_scan};
 use crate::verdict::{answer_by_look, refuse_place};
-use snap_disk::Refusal;
+use snap_disk::{Disk, Refusal};
 use snap_frame::{Reply, Request, SegmentStatus};
 use snap_memory::Scanner;
 use snap_session::Service;
@@ -81,11 +82,11 @@ pub(crate) fn answer_unstored<T: AsRef<AtomicU64>>(
 /// they end once all desks are dropped.
 #[derive(Drop)]
 pub struct ReadOnlyService<M: Memory> {
-    pub(crate) alloc: Global,
-    pub(crate) scanner: Scanner,
+    alloc: Global,
+    scanner: Scanner,
     /// The published status of each segment in one word, as [`status_in`] reads it.
-    pub(crate) standings: Vec<Arc<AtomicU64, Global>>,
-    pub(crate) of: PhantomData<M>,
+    standings: Vec<Arc<AtomicU64, Global>>,
+    of: PhantomData<M>,
 }
 
 impl<M: Memory> Model for ReadOnlyService<M> {
@@ -98,6 +99,30 @@ impl<M: Memory> Model for ReadOnlyService<M> {
     ghost view = { λ l. l.scanner };
 
     ghost invariant = { λ l. IsOf M.table M.plan l.scanner × (length l.standings.items ≡ segments l.scanner.plan) };
+}
+
+impl<M: Memory> ReadOnlyService<M> {
+    /// A service of this scanner's memory, with each segment's handle. It keeps none, so no storer waits for it.
+    pub fn new<D: Disk + Drop>(
+        alloc: Global,
+        handles: &[StorerHandle<M, D>],
+        scanner: Scanner,
+    ) -> Result<ReadOnlyService<M>, AllocError>
+        requires memory { IsOf M.table M.plan scanner }
+        requires handles { length handles.now ≡ segments M.plan }
+        ensures { IfOk result (λ service. service ≡ scanner) }
+    {
+        let mut standings = Vec::with_capacity(alloc, handles.len())?;
+        for handle in handles {
+            standings.push(Arc::try_clone(&handle.standing)?)?;
+        }
+        Ok(ReadOnlyService {
+            alloc,
+            scanner,
+            standings,
+            of: PhantomData,
+        })
+    }
 }
 
 impl<M: Memory> Service for ReadOnlyService<M> {

@@ -11,6 +11,17 @@ new-desk-requires-clause-memory g c =
     let next = taken k ss _ _ _ c.scanners.invariant.rest c.in-Some.ensures.steps.0 in
     c.requires.scanners k c.in-Some.scanner next.at
 
+pub worker-requires : goal.worker-requires
+worker-requires g c =
+    let ss = c.args.scanners.items in
+    let k : ℕ = length c.scanners.yielded in
+    let next = taken k ss _ _ _ c.scanners.invariant.rest c.in-Some.ensures.steps.0 in
+    let inside = next.inside in
+    let so_far = c.scanners.invariant.desks in
+    let count = c.len-worker.ensures in
+    let enough = c.requires.metrics in
+    omega arith
+
 pub scanners-preserved : goal.scanners-preserved
 scanners-preserved g c =
     let ss = c.args.scanners.items in
@@ -25,7 +36,7 @@ scanners-preserved g c =
           let short = ap length c.in-Some.ensures.steps.0 in omega arith);
       within = omega arith;
       desks = (let was = inv.desks in let long = ap length c.in_ok-push.ensures.items in
-          let more = length_push c.scanners.desks.items c.new-desk.result in omega arith);
+          let more = length_push c.scanners.desks.items c.new.result in omega arith);
     }
 
 pub returns : goal.returns
