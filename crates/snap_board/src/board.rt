@@ -59,8 +59,7 @@ impl<S: Service + Drop, X: FactSource + Drop> Board<S, X> {
         ensures asks { pages.MayAskFor S.gives self.old.service request.now self.new.service }
         ensures same { self.new.surroundings ≡ self.old.surroundings }
     {
-        let method = request.method().as_str();
-        if method != "GET" && method != "HEAD" {
+        if !is_read(request.method().as_str()) {
             let words = b"Only GET and HEAD are answered.\n";
             return Ok(PageAnswer::words(StatusCode::METHOD_NOT_ALLOWED, words));
         }
@@ -87,40 +86,36 @@ impl<S: Service + Drop, X: FactSource + Drop> Board<S, X> {
                 reply => refuse(self.alloc, &reply),
             },
             Page::Metrics | Page::Health | Page::Ready | Page::Status | Page::Stats => {
-                self.show_statuses(page)
+                match self.service.answer(&snap_frame::Request::Status, 0) {
+                    Some(Reply::Status(statuses)) => self.show_status(page, &statuses),
+                    reply => refuse(self.alloc, &reply),
+                }
             }
         }
     }
 
-    /// Answers with a page that needs the segments' statuses.
-    fn show_statuses(&mut self, page: Page) -> Result<PageAnswer, AllocError>
+    /// Answers with a page that needs the segments' statuses, which are these.
+    fn show_status(&self, page: Page, statuses: &[SegmentStatus]) -> Result<PageAnswer, AllocError>
         requires { pages.asked_of page ≡ Some requests.Status }
-        ensures answers { IfOk result (λ a.
-            pages.AnswersPage S.gives page self.old.service a.status a.content self.new.service) }
-        ensures asks { pages.MayAsk S.gives (Some requests.Status) self.old.service self.new.service }
-        ensures same { self.new.surroundings ≡ self.old.surroundings }
+        ensures { IfOk result (λ a. pages.ShowsStatuses page statuses.now a.status a.content) }
     {
-        let statuses = match self.service.answer(&snap_frame::Request::Status, 0) {
-            Some(Reply::Status(statuses)) => statuses,
-            reply => return refuse(self.alloc, &reply),
-        };
         match page {
             Page::Health => {
-                let text = health_document(self.alloc, &statuses)?;
-                let status = if is_any_fenced(&statuses) {
+                let text = health_document(self.alloc, statuses)?;
+                let status = if is_any_fenced(statuses) {
                     StatusCode::SERVICE_UNAVAILABLE
                 } else {
                     StatusCode::OK
                 };
                 PageAnswer::made(status, ContentKind::Json, text)
             }
-            Page::Ready if are_all_fenced(&statuses) => {
+            Page::Ready if are_all_fenced(statuses) => {
                 let words = b"each segment is fenced\n";
                 Ok(PageAnswer::words(StatusCode::SERVICE_UNAVAILABLE, words))
             }
             Page::Ready => Ok(PageAnswer::words(StatusCode::OK, WELL)),
-            Page::Status => PageAnswer::json(status_document(self.alloc, &statuses)),
-            Page::Metrics | Page::Stats => self.tell_metrics(page, &statuses),
+            Page::Status => PageAnswer::json(status_document(self.alloc, statuses)),
+            Page::Metrics | Page::Stats => self.tell_metrics(page, statuses),
             _ => unreachable!(),
         }
     }
@@ -155,6 +150,12 @@ fn constant(page: Page) -> PageAnswer
         Page::Script => PageAnswer::fixed(StatusCode::OK, ContentKind::Script, SCRIPT),
         _ => PageAnswer::words(StatusCode::OK, WELL),
     }
+}
+
+fn is_read(method: &str) -> bool
+    ensures { result ≡ pages.is_read method.now }
+{
+    method == "GET" || method == "HEAD"
 }
 
 fn is_any_fenced(statuses: &[SegmentStatus]) -> bool
@@ -198,13 +199,12 @@ impl<S: Service + Drop, X: FactSource + Drop> http_server::Service for Board<S, 
         if let Some(date) = self.date() {
             let _ = response.add_header(header::DATE, date);
         }
-        match self.answer(request) {
-            Ok(answer) => {
-                if fill(response, answer).is_err() {
-                    give_up(response);
-                }
-            }
-            Err(AllocError) => give_up(response),
+        let is_filled = match self.answer(request) {
+            Ok(answer) => fill(response, answer).is_ok(),
+            Err(AllocError) => false,
+        };
+        if !is_filled {
+            give_up(response);
         }
         Ok(())
     }
