@@ -39,28 +39,22 @@ fn plain_question(alloc: Global, words: &[&str]) -> Result<CallRequest, WordFaul
     requires other { (i : Text) → map (λ w. w.now) words.now ≢ codes "put" ∷ i ∷ [] }
     ensures { Reads result (λ q. KeepsLimits q × IsQuestionOf (map (λ w. w.now) words.now) None None q) }
 {
-    if words.len() == 1 && is(words[0], "scan") {
-        return Ok(CallRequest::Request(Request::Scan));
+    match words {
+        ["scan"] => Ok(CallRequest::Request(Request::Scan)),
+        ["status"] => Ok(CallRequest::Request(Request::Status)),
+        ["health"] => Ok(CallRequest::Health),
+        ["part", mask] => Ok(CallRequest::Request(part(mask)?)),
+        ["get", segment] => {
+            let rule = "the segment to get is not a number from 0 to 15";
+            let segment = number_in(segment, LAST_SEGMENT, rule)? as u8;
+            Ok(CallRequest::Get { segment })
+        }
+        ["update", segment, number, value] => {
+            let update = update(alloc, segment, number, value)?;
+            Ok(CallRequest::Request(update))
+        }
+        _ => Err(WordFault::Rule(form_rule(words))),
     }
-    if words.len() == 1 && is(words[0], "status") {
-        return Ok(CallRequest::Request(Request::Status));
-    }
-    if words.len() == 1 && is(words[0], "health") {
-        return Ok(CallRequest::Health);
-    }
-    if words.len() == 2 && is(words[0], "part") {
-        return Ok(CallRequest::Request(part(words[1])?));
-    }
-    if words.len() == 2 && is(words[0], "get") {
-        let rule = "the segment to get is not a number from 0 to 15";
-        let segment = number_in(words[1], LAST_SEGMENT, rule)? as u8;
-        return Ok(CallRequest::Get { segment });
-    }
-    if words.len() == 4 && is(words[0], "update") {
-        let update = update(alloc, words[1], words[2], words[3])?;
-        return Ok(CallRequest::Request(update));
-    }
-    Err(WordFault::Rule(form_rule(words)))
 }
 
 /// The rule that arguments break if they have the form of no request.

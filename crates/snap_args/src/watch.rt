@@ -35,9 +35,7 @@ fn segments_of(alloc: Global, words: &[&str]) -> Result<Vec<u8>, WordFault>
     let mut segments = Vec::new(alloc);
     for word in words {
         let segment = number_in(*word, LAST_SEGMENT, rule)?;
-        if segments.push(segment as u8).is_err() {
-            return Err(WordFault::Memory);
-        }
+        segments.push(segment as u8).or(Err(WordFault::Memory))?;
     }
     Ok(segments)
 }
