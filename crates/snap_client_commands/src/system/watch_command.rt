@@ -64,10 +64,11 @@ pub fn watch<X: Wait>(
             &mut unmade,
         );
         screen.now = millis_since(rt, began).unwrap_or(0);
-        match rows {
-            Ok(rows) => screen.show(rt, rows)?,
-            Err(trouble) => screen.bear(rt, trouble, is_late.get(), unmade.as_ref())?,
-        }
+        let shown = match rows {
+            Ok(rows) => screen.show(rt, rows),
+            Err(trouble) => screen.bear(rt, trouble, is_late.get(), unmade.as_ref()),
+        };
+        shown?;
         thread::sleep(rt, pause);
     }
     unreachable!()
@@ -142,9 +143,9 @@ fn rows_by(
     };
     let course = Course::new();
     let mut client = Client::new(alloc, limit.on(reader, &course), limit.on(writer, &course));
-    let rows = look(alloc, &mut client, watched, shown)?;
-    *kept = Some(open);
-    Ok(rows)
+    let rows = look(alloc, &mut client, watched, shown);
+    *kept = rows.is_ok().then_some(open);
+    rows
 }
 
 /// The rows that were shown last, and where they are shown.

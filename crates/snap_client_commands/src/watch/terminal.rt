@@ -115,17 +115,12 @@ fn put_row(
     let (age, rate) = (age_text(track.age(panel.now)), rate_text(track.rate()));
     let (age, rate) = (age.as_str(), rate.as_str());
     write!(text, "{segment:>7}  {number:>10}  {age:>4}  {rate:>6}  ")?;
-    if row.is_fenced {
-        put_painted(text, panel.is_coloured, RED, "fenced")?;
-    } else {
-        text.push_str("ok    ")?;
-    }
-    text.push_str("  ")?;
+    let state = if row.is_fenced { "fenced" } else { "ok    " };
+    put_painted(text, panel.is_coloured & row.is_fenced, RED, state)?;
     let value = cell(alloc, row.value.as_slice())?;
-    if let Ok(value) = str::from_utf8(value.as_slice()) {
-        text.push_str(&value[..value.floor_char_boundary(MOST)])?;
-    }
-    text.push_str(END)
+    let value = str::from_utf8(value.as_slice()).unwrap_or("");
+    let value = &value[..value.floor_char_boundary(MOST)];
+    write!(text, "  {value}{END}")
 }
 
 /// A value as quoted text where it is printable, and else as hexadecimal digits.

@@ -94,13 +94,13 @@ pub fn open_as<'a>(
 ) -> Result<FileDisk<'a, HostRuntime>, FileFault>
     ensures { IfOk result IsUncalled }
 {
-    let disk = match lock {
-        Some(lock) => FileDisk::open(rt, file, lock)?,
-        None => FileDisk::create(rt, file)?,
+    let opened = match lock {
+        Some(lock) => FileDisk::open(rt, file, lock),
+        None => FileDisk::create(rt, file),
     };
     match told {
-        Some(told) => Ok(disk.telling(&told.0)),
-        None => Ok(disk),
+        Some(told) => Ok(opened?.telling(&told.0)),
+        None => opened,
     }
 }
 
