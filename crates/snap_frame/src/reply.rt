@@ -52,30 +52,18 @@ pub(crate) fn read_reply(payload: BytesMut) -> Result<Option<Reply>, AllocError>
     ensures nothing { IfOk result (λ r. IfNone r (SaysNothing payload.items)) }
 {
     let bytes = payload.as_slice();
-    if bytes.is_empty() {
-        return Ok(None);
-    }
-    match bytes[0] {
-        STORED => {
-            if bytes.len() != STORED_LEN {
-                return Ok(None);
-            }
+    match bytes.first() {
+        Some(&STORED) if bytes.len() == STORED_LEN => {
             let number = first_u64(&bytes[1..]);
-            if number > LAST_NUMBER {
-                return Ok(None);
-            }
-            Ok(Some(Reply::Stored(number)))
+            Ok((number <= LAST_NUMBER).then_some(Reply::Stored(number)))
         }
-        REFUSED => {
-            if bytes.len() != REFUSED_LEN {
-                return Ok(None);
-            }
+        Some(&REFUSED) if bytes.len() == REFUSED_LEN => {
             let detail = first_u64(&bytes[2..]);
             Ok(Refusal::of_code(bytes[1]).map(|why| Reply::Refused { why, detail }))
         }
-        SNAPSHOT => Ok(read_list(payload)?.map(Reply::Snapshot)),
-        STATUS => Ok(read_list(payload)?.map(Reply::Status)),
-        PART => Ok(read_named(payload)?.map(Reply::Part)),
+        Some(&SNAPSHOT) => Ok(read_list(payload)?.map(Reply::Snapshot)),
+        Some(&STATUS) => Ok(read_list(payload)?.map(Reply::Status)),
+        Some(&PART) => Ok(read_named(payload)?.map(Reply::Part)),
         _ => Ok(None),
     }
 }
