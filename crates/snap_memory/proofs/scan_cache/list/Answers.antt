@@ -1,5 +1,5 @@
 use Rattle.std.proofs.Common.{◌≡◌, [], ◌∷◌, ◌++◌, map, refl, ap, ◌∙◌, arith}
-use Rattle.std.proofs.lemmas.{Bool.iff_false, List.length-set, List.map-append}
+use Rattle.std.proofs.lemmas.{Bool.iff_false, Grind.common_steps, List.length-set, List.map-append}
 use Rattle.snap_register.specs.{Rule.segments}
 use Rattle.snap_scan.proofs.Sets.{list_named, list_unnamed, named_all}
 use Rattle.snap_scan.specs.{Sets.named_below, Values.pair_of}
@@ -91,3 +91,9 @@ returns g c =
       kept = inv.kept;
       same = inv.same;
     }
+
+pub returns-in_err-entry-clause-cache : goal.returns-in_err-entry-clause-cache
+returns-in_err-entry-clause-cache g c = grind (arith, common_steps)
+
+pub returns-in_err-push-clause-cache : goal.returns-in_err-push-clause-cache
+returns-in_err-push-clause-cache g c = grind (arith, common_steps)

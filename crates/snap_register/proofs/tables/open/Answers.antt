@@ -1,5 +1,6 @@
-use Rattle.std.proofs.Common.{rules, ◌≡◌, ℕ, ◌<◌, List, [], length, subst, sym, ap, ◌∙◌, arith}
-use Rattle.snap_register.specs.Setup.{plan_with, first_view, opening_words}
+use Rattle.std.proofs.Common.{rules, ◌≡◌, ℕ, ◌+◌, ◌*◌, ◌<◌, ◌≤◌, List, [], length, subst, sym, ap, ◌∙◌, arith, refl}
+use Rattle.snap_register.specs.Setup.{plan_with, first_view, opening_words, IsReady, IsSized}
+use Rattle.snap_register.specs.declared.plan.Opening.{Opening}
 use Rattle.snap_register.proofs.Opens.{opens, wide, opening_words_are, first_is, count_of, base_of}
 use Rattle.snap_register.specs.{Registers.Mine, declared.plan.Plan.Plan, Rule.Kept, Rule.segments}
 use Rattle.atomic_table.specs.{Table.opening, Seated.TableId}
@@ -46,6 +47,24 @@ seat_writers-requires-clause-numbers c =
       λ i li. let li' : i < segments (plan a) = rw first at li in
           rw first (base_of c.args.values.now.items i (omega arith)),
     )
+
+-- the sizes that the seats get are those of the plan
+sized : (n s l b : ℕ) (xs : List Opening) → n ≡ length xs → (0 < length xs) × (length xs ≤ 16) × (s ≤ 16)
+    → IsReady (plan_with s l b xs)
+    → IsSized n s b (n + (n * (n + s + 2) + n * (n + s + 2) * ((n + 1) * b))) (plan_with s l b xs)
+sized n s l b xs e count ready = rw (e ∙ count_of xs) (grind (arith, count_of))
+
+pub seat_writers-requires-clause-sized : goal.seat_writers-requires-clause-sized
+seat_writers-requires-clause-sized c =
+    let a = (goal.at.seat_writers-requires-clause-sized c).After-as_slice in
+    rw (ap (λ (m : Mine). m.0.plan) c.in_ok-table.ensures.4 ∙ plan_is a)
+    (sized _ _ _ _ c.args.values.now.items (search rules) c.requires.count c.requires.ready, refl)
+
+pub seat_readers-requires-clause-sized : goal.seat_readers-requires-clause-sized
+seat_readers-requires-clause-sized c =
+    let a = (goal.at.seat_readers-requires-clause-sized c).After-as_slice in
+    rw (c.in_ok-writers.ensures.first_seat.2 ∙ ap (λ (m : Mine). m.0.plan) c.in_ok-table.ensures.4 ∙ plan_is a)
+    (sized _ _ _ _ c.args.values.now.items (search rules) c.requires.count c.requires.ready, refl)
 
 pub returns-clause-seats : goal.returns-clause-seats
 returns-clause-seats c =

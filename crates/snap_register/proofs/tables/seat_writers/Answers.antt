@@ -1,4 +1,4 @@
-use Rattle.std.proofs.Common.{rules, ◌≡◌, ℕ, ◌+◌, ◌<◌, length, ap, sym, ◌∙◌, arith, refl}
+use Rattle.std.proofs.Common.{rules, ◌≡◌, ℕ, ◌+◌, ◌<◌, ap, sym, ◌∙◌, arith, refl}
 use Rattle.std.proofs.lemmas.List.{get_or-map}
 use Rattle.atomic_table.specs.Seated.{TableId}
 use Rattle.snap_register.proofs.Opens.{enough, bare, first_after, writers_more, new_seat}

@@ -26,7 +26,10 @@ pub returns-in-Err-clause-leaves : goal.returns-in-Err-clause-leaves
 returns-in-Err-clause-leaves g c honest = weaker g.D.Disk (c.is_unformatted.ensures.kept honest) (λ b left. inl left)
 
 pub returns-in-Err-write_front-clause-leaves : goal.returns-in-Err-write_front-clause-leaves
-returns-in-Err-write_front-clause-leaves g c honest = search (rules, front_leaves)
+returns-in-Err-write_front-clause-leaves g c honest =
+    let looked = c.write_front.ensures.honest honest in
+    front_leaves g.D.Disk _ _ _ _ _ _ _ _ (c.is_unformatted.ensures.kept looked) (c.in-Ok-true.ensures.settled looked)
+    c.in-Ok-true.field-0-test (c.in-Ok-true.ensures.unformatted looked) (c.write_front.ensures.leaves honest)
 
 pub returns-clause-leaves : goal.returns-clause-leaves
 returns-clause-leaves g c honest =
@@ -40,7 +43,10 @@ returns-clause-leaves g c honest =
     c.requires.few c.requires.number c.requires.fits _ (c.in-Ok.ensures.prepared front) b left))
 
 pub returns-clause-last : goal.returns-clause-last
-returns-clause-last g c honest = search (rules, on_ok_too, formatted)
+returns-clause-last g c honest = on_ok_too c.write_synced.result c.map_err.result c.map_err.ensures.variant
+    (formatted c.args.index c.args.count c.args.number c.args.value.now c.requires.below c.requires.few
+    c.requires.number c.requires.fits _ (c.in-Ok.ensures.prepared (c.write_synced.ensures.honest honest))
+    (g.D.Disk.device c.write_synced.new.device)) (c.write_synced.ensures.written honest)
 
 pub returns-clause-bytes : goal.returns-clause-bytes
 returns-clause-bytes g c honest = on_ok_too c.write_synced.result c.map_err.result c.map_err.ensures.variant

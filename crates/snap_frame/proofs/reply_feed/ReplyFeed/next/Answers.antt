@@ -1,4 +1,4 @@
-use Rattle.std.proofs.Common.{◌∙◌, List, ℕ, sym, ap, subst, rules}
+use Rattle.std.proofs.Common.{◌∙◌, List, ℕ, sym, ap, subst}
 use Rattle.snap_frame.{specs.Messages.Says, specs.Stream.Held, specs.Stream.HasFrame, proofs.Exact.same_frame}
 use Rattle.snap_frame.proofs.reply_feed.ReplyFeed.next.Goals as goal
 
@@ -12,12 +12,3 @@ returns-in-Ok-Some-read_reply-clause-bad c x rest none has bad =
     let is = rw c.in-Ok-Some-read_reply.field-0-is at c.in-Ok-Some-read_reply.ensures.reply in
     absurd (bad c.in-Ok-Some-read_reply.reply
     (subst (λ (z : List ℕ). Says z c.in-Ok-Some-read_reply.reply) (sym same.0) is))
-
-pub returns-in-Ok-None-read_reply-clause-next : goal.returns-in-Ok-None-read_reply-clause-next
-returns-in-Ok-None-read_reply-clause-next c = search rules
-
-pub returns-in-Ok-None-read_reply-clause-none : goal.returns-in-Ok-None-read_reply-clause-none
-returns-in-Ok-None-read_reply-clause-none c = search rules
-
-pub returns-in-Ok-None-read_reply-clause-bad : goal.returns-in-Ok-None-read_reply-clause-bad
-returns-in-Ok-None-read_reply-clause-bad c = search rules

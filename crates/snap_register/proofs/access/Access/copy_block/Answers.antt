@@ -165,3 +165,9 @@ returns-clause-aligned c = λ k lk old is.
     aligned_next (view_of a) (view_of n) k c.draft-old_length.result (ap (λ (m : Mine). old_words m.0) d.same.3)
     (ap (λ (m : Mine). old_record m.0) d.same.3) (old e.0) lk (was_length b)
     (ap (λ (m : Mine). length m.0.pool.draft) d.same.3 ∙ omega (arith, long, piece_long, e.1))
+
+pub overflow_add-from-then-count-gt2 : goal.overflow_add-from-then-count-gt2
+overflow_add-from-then-count-gt2 c = grind arith
+
+pub overflow_add-from : goal.overflow_add-from
+overflow_add-from c = grind arith

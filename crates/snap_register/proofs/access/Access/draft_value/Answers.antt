@@ -1,4 +1,5 @@
-use Rattle.std.{proofs.lemmas.List.get_or_append_left, specs.Int.w64, specs.Int.to_le_bytes}
+use Rattle.std.proofs.lemmas.{Grind.common_steps, List.get_or_append_left}
+use Rattle.std.specs.Int.{w64, to_le_bytes}
 use Rattle.std.proofs.Common.{◌≡◌, ℕ, ◌+◌, ◌-◌, ◌*◌, ◌++◌, ◌∷◌, [], List, length, take, drop, ap, ◌∙◌, arith, rules}
 use Rattle.std.proofs.Common.{length-append, sym, subst, true, ◌<◌}
 use Rattle.snap_register.{specs.Registers.Mine, specs.Steps.view_of, specs.Steps.draft_of, proofs.Blocks.bytes_push}
@@ -50,3 +51,9 @@ returns-clause-aligned c = λ is.
     aligned_first (view_of m) (view_of n) c.draft-old_length.result words same any
     (subst (λ (q : ℕ). WasAt (view_of m) q c.draft-old_length.result) one c.draft-old_length.ensures.old)
     (c.draft_tail.ensures.size ∙ ap (λ (z : ℕ). 2 + words_for z) (sym both.1))
+
+pub returns-clause-size : goal.returns-clause-size
+returns-clause-size c = grind (arith, common_steps)
+
+pub returns-clause-block : goal.returns-clause-block
+returns-clause-block c = grind (arith, common_steps)

@@ -30,3 +30,16 @@ invariant_of-self c =
           (ap (λ (t : TableId). t.words) step.0) (let some = c.requires.1 in omega arith)
           looks.0.later looks.0.legal (λ t. (looks.2 t, looks.1 t));
     }
+
+pub returns-then-is_pinned-clause-learns : goal.returns-then-is_pinned-clause-learns
+returns-then-is_pinned-clause-learns c = λ _.
+    let pin : get_or (view_of c.args.self.now).pins c.args.j 0 ≡ c.load-found.result / 2 ^ 56 + 1 =
+    sym (c.args.self.now.seated.pins_are c.args.j c.requires.0) ∙ search rules in
+    (c.load-found.ensures.2.0 pin).0
+
+pub invariant_of-self-else-is_pinned : goal.invariant_of-self-else-is_pinned
+invariant_of-self-else-is_pinned c =
+    let me = c.args.self.now in
+    let step = c.load-found.ensures in
+    let same : c.load-found.new.seat.me ≡ me.seat.me = step.2.1 (λ pin. search rules) in
+    record { own = step.0 ∙ me.own; sized = rw same me.sized; seated = rw (step.0, same) me.seated }

@@ -1,6 +1,6 @@
 use Rattle.std.proofs.Common.{rules, ◌≡◌, ◌∙◌, ℕ, ◌+◌, ap, sym, subst, Result, Ok, Err, List, Some, None}
 use Rattle.std.specs.Result.{OnErr}
-use Rattle.snap_slot.specs.States.{IsEither}
+use Rattle.snap_slot.specs.{States.IsEither, Layout.IsFileOf}
 use Rattle.snap_register.specs.Seat.{Known, Shows, MayPublish, number_in, own_of}
 use Rattle.snap_register.specs.declared.plan.UpdatePhase.TheVariants.{Storing, Stored}
 use Rattle.snap_writer.specs.Writer.{WriterState, IsPaired, number_of, value_of, phase_of}
@@ -91,3 +91,13 @@ returns-in_err-store-clause-either g c = λ honest.
     (value_of x) c.args.value.now b) c.self.view_is
     (subst (λ (y : ℕ × List ℕ). IsEither s.index s.count y.0 y.1 c.args.value.now b)
     (λ t. (c.self.invariant.number_is t, c.self.invariant.value_is t)) is))
+
+pub returns-clause-last : goal.returns-clause-last
+returns-clause-last g c honest =
+    let s = c.self.inside.segment in
+    let is = c.in_ok-store.ensures.stored.last honest in (
+      is.0,
+      λ b left. subst (λ (x : WriterState _). IsFileOf x.segment.index x.segment.count (number_of x + 1)
+          c.args.value.now b) c.self.view_is (subst (λ (k : ℕ). IsFileOf s.index s.count (k + 1) c.args.value.now b)
+          c.self.invariant.number_is (is.1 b left)),
+    )
