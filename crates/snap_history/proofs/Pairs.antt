@@ -52,13 +52,6 @@ Pairs-map R Q xs ys f p = record {
       λ j c d ec ed. f j c d (p.each j c d ec ed);
 }
 
--- an element of the first list alone is replaced
-pub Pairs-left : {A B : Type 0} (R : ℕ → A → B
-    → Type 0) (xs : List A) (ys : List B) (i : ℕ) (a : A) (b : B) → i < length xs
-    → slice_get ys i ≡ Some b → R i a b → Pairs R xs ys → Pairs R (slice_set xs i a) ys
-Pairs-left R xs ys i a b l there here p = subst (Pairs R (slice_set xs i a)) (set_same ys i b there)
-    (Pairs-set R R xs ys i a b l (λ j c d ne r. r) here p)
-
 -- an element of the second list alone is replaced
 pub Pairs-right : {A B : Type 0} (R : ℕ → A → B → Type 0) (xs : List A) (ys : List B) (i : ℕ) (b : B) → i < length ys
     → ((a : A) → slice_get xs i ≡ Some a → R i a b) → Pairs R xs ys → Pairs R xs (slice_set ys i b)

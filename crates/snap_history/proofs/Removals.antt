@@ -1,8 +1,8 @@
 -- Lists whose items are removed from the front, one after the other.
-use Rattle.std.proofs.Common.{◌≡◌, ℕ, zero, suc, ◌+◌, ◌<◌, ◌≤◌, List, [], ◌∷◌, ◌++◌, length, map, take, drop, slice_get}
+use Rattle.std.proofs.Common.{◌≡◌, ℕ, zero, suc, ◌+◌, ◌<◌, ◌≤◌, List, [], ◌∷◌, ◌++◌, length, take, drop, slice_get}
 use Rattle.std.proofs.Common.{Some, ap, sym, ◌∙◌, arith}
 use Rattle.std.proofs.lemmas.Option.{slice_get_within}
-use Rattle.std.proofs.lemmas.List.{drop-drop, take-append-drop, take-take, drop-take, map-append, length-drop, take_all}
+use Rattle.std.proofs.lemmas.List.{drop-drop, take-append-drop, take-take, drop-take, length-drop, take_all}
 
 get_dropped : {A : Type 0} (k : ℕ) (xs : List A) (x : A) (rest : List A) → drop k xs ≡ x ∷ rest
     → slice_get xs k ≡ Some x
@@ -34,11 +34,6 @@ taken k xs x left rest is next =
           ∙ ((λ i. take-take k (k + 1) xs (omega arith) i ++ drop-take k 1 xs i)
           ∙ ap (λ l. take k xs ++ take 1 l) head);
     }
-
--- the front of the list after mapping a function
-pub map_front : {A B : Type 0} (f : A → B) (k : ℕ) (xs : List A) (x : A) (rest : List A)
-    → Taken k xs x rest → (n : ℕ) → n ≡ k + 1 → map f (take n xs) ≡ map f (take k xs) ++ f x ∷ []
-map_front f k xs x rest next n on = ap (map f) (next.front n on) ∙ map-append f (take k xs) (x ∷ [])
 
 -- if nothing remains, all items were removed
 pub none_after : {A : Type 0} (k : ℕ) (xs rest : List A) → rest ≡ drop k xs → length rest ≡ 0 → length xs ≤ k

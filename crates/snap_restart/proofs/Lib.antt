@@ -1,4 +1,3 @@
-pub mod Kept
 pub mod Meetings
 pub mod ReportLines
 pub mod Removals

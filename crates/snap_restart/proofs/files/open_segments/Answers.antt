@@ -70,3 +70,6 @@ returns-clause-opened g c = grind (arith, all_taken, none_comes)
 
 pub keep-requires : goal.keep-requires
 keep-requires g c = grind (arith, common_steps)
+
+pub opening-init : goal.opening-init
+opening-init g c = grind (arith, common_steps)

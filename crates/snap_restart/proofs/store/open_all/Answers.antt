@@ -72,3 +72,6 @@ returns-in-Err-take_memory-clause-kept_err g c =
 
 pub release-requires : goal.release-requires
 release-requires g c = grind (arith, common_steps)
+
+pub returns-in-Ok-take_memory-clause-scanners : goal.returns-in-Ok-take_memory-clause-scanners
+returns-in-Ok-take_memory-clause-scanners g c = grind (arith, common_steps)

@@ -1,3 +1,4 @@
+use Rattle.std.proofs.lemmas.Grind.{common_steps}
 use Rattle.std.proofs.Common.{length, refl, ap, sym, ◌∙◌, arith}
 use Rattle.snap_writer.specs.Writer.{phase_of}
 use Rattle.std.proofs.lemmas.List.{length-append, length-map}
@@ -27,3 +28,12 @@ returns-clause-seats g c =
     let all = simp length-map at (ap length (returns-clause-segments g c)) in
     let seats = simp (length-append, length-map) at (ap length inv.seats) in
     all_yielded _ _ _ inv.seats refl (omega (arith, c.requires.starts.size, all, seats))
+
+pub unreachable-requires : goal.unreachable-requires
+unreachable-requires g c = grind (arith, common_steps)
+
+pub writers-preserved : goal.writers-preserved
+writers-preserved g c = grind (arith, common_steps)
+
+pub keep-requires : goal.keep-requires
+keep-requires g c = grind (arith, common_steps)

@@ -1,4 +1,5 @@
-use Rattle.std.proofs.Common.{ℕ, ◌+◌, length, ap, ◌∙◌}
+use Rattle.std.proofs.lemmas.Grind.{common_steps}
+use Rattle.std.proofs.Common.{ℕ, ◌+◌, length, ap, ◌∙◌, arith}
 use Rattle.std.proofs.lemmas.List.{length_push}
 use Rattle.snap_frame.specs.{Messages.IsStatus, declared.entries.SegmentStatus.SegmentStatus}
 use Rattle.snap_service.{specs.Counted.NodeState, proofs.Lines.all_more}
@@ -14,3 +15,6 @@ loop-lock-preserved g c =
       scanner = ap (λ (a : NodeState). a.scanner) c.status.ensures.counts ∙ inv.scanner;
       updates = ap (λ (a : NodeState). a.updates) c.status.ensures.counts ∙ inv.updates;
     }
+
+pub returns-clause-limits : goal.returns-clause-limits
+returns-clause-limits g c = grind (arith, common_steps)
