@@ -453,3 +453,20 @@ def test_the_seconds_of_a_proof_are_those_of_its_functions(snapd, _):
         os.utime(left / f"{name}.oantt", (at, at))
     run = subprocess.run(words, capture_output=True, text=True, timeout=PATIENCE)
     assert run.stdout == "6 s in all\n   5.0 desk.ask (Proof 3.0, Lts 2.0)\n   1.0 all else (files 1.0)\n", run
+
+
+def test_the_seconds_of_a_goal_end_where_the_next_begins(snapd, _):
+    left = pathlib.Path(snapd.folder) / "out" / "incremental" / "x-proofs.desk.ask.Proof.oantt"
+    left.parent.mkdir(parents=True)
+    left.touch()
+    at = "antt: cache: Rattle-x-proofs.desk"
+    lines = [f"{at}.ask.Proof: quick: reused", f"{at}.ask.Answers: long: not reused", f"{at}.tell.Proof: long: reused"]
+    kit = pathlib.Path(snapd.folder) / "rt"
+    one, two, three = (f"echo {it!r}" for it in lines)
+    kit.write_text(f"#!/bin/sh\n{one}; sleep 0.1; {two}; sleep 0.6; {three}; sleep 1\n")
+    kit.chmod(0o755)
+    words = [sys.executable, TOP / "bench" / "proof_seconds.py", snapd.folder, "--goals", "desk::ask"]
+    env = {**os.environ, "PATH": f"{snapd.folder}:{os.environ['PATH']}"}
+    run = subprocess.run(words, capture_output=True, text=True, timeout=PATIENCE, env=env)
+    assert [it.split(maxsplit=1)[1] for it in run.stdout.splitlines()] == ["long (Answers)", "quick (Proof)"], run
+    assert not left.exists(), "the proof that was there is not made anew"
