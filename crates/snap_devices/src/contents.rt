@@ -125,7 +125,7 @@ impl Contents {
     }
 
     /// Whether the file has the length of this, its header, the head of the slot that was stored last, and the next
-    /// one's gate; before the first store, the head of each slot. It fails with `UnexpectedEof` if it is cut meanwhile.
+    /// one's gate; before the first store, the head of each slot. Fails with `UnexpectedEof` if the file is too short.
     fn is_in(&self, file: &mut File) -> io::Result<bool> {
         let mut is_same = file.seek(SeekFrom::End(0))? == FILE_LEN;
         let mut found = [0; SLOT_READ];
