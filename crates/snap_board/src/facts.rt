@@ -2,7 +2,7 @@
 
 use crate::history::History;
 use snap_frame::SegmentStatus;
-use snap_metrics::{MetricsSnapshot, SegmentSnapshot};
+use snap_service::{MetricsSnapshot, SegmentSnapshot};
 use std::alloc::{AllocError, Global};
 use std::path::Path;
 

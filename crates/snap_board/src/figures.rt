@@ -5,7 +5,7 @@
 use crate::document::Document;
 use crate::facts::{ServerFacts, name_of};
 use crate::metrics::{all, bound, kinds, refusal_at};
-use snap_metrics::{BOUNDS, HistogramSnapshot, RequestCounts, SegmentSnapshot};
+use snap_service::{BOUNDS, HistogramSnapshot, RequestCounts, SegmentSnapshot};
 use std::alloc::{AllocError, Global};
 
 /// Makes one JSON document, on one line, of all metrics and facts. Facts that aren't known are `null`.

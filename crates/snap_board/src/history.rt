@@ -1,7 +1,7 @@
 //! The history of the last three minutes.
 
 use crate::document::Document;
-use snap_metrics::{BOUNDS, Counter, MetricsSnapshot, milliseconds_of};
+use snap_service::{BOUNDS, Counter, MetricsSnapshot, milliseconds_of};
 use std::alloc::{AllocError, Global};
 use std::time::Duration;
 
@@ -14,7 +14,7 @@ struct Sample {
     /// The time since the server's start, in milliseconds.
     uptime: Counter,
     scans: Counter,
-    /// The histogram of the stores of all segments, as in a [`HistogramSnapshot`](snap_metrics::HistogramSnapshot).
+    /// The histogram of the stores of all segments, as in a [`HistogramSnapshot`](snap_service::HistogramSnapshot).
     stores: [Counter; BOUNDS + 1],
 }
 

@@ -2,13 +2,13 @@
 //!
 //! No clause states this text: tests_server and tests/test_http.py compare it byte by byte.
 ghost use Rattle.std.specs.Prelude.{◌<◌};
-ghost use Rattle.snap_metrics.specs.declared.snapshot.TheConstants.{BOUNDS};
+ghost use Rattle.snap_service.specs.declared.metrics.snapshot.TheConstants.{BOUNDS};
 
 use crate::facts::{ServerFacts, Usage, name_of};
 use crate::metric::Unit::{Microsecond, Millisecond, Nanosecond, Whole};
 use crate::metric::{Amount, Escaped, MetricsText};
 use snap_disk::Refusal;
-use snap_metrics::{BOUNDS, FIRST_BOUND, HistogramSnapshot, RequestCounts, SegmentSnapshot};
+use snap_service::{BOUNDS, FIRST_BOUND, HistogramSnapshot, RequestCounts, SegmentSnapshot};
 use std::alloc::{AllocError, Global};
 
 /// Makes a text of all metrics, in version 0.0.4 of the text format of Prometheus. Facts that

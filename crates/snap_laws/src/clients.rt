@@ -9,8 +9,7 @@ ghost use Rattle.snap_laws.specs.{Told.IsSendable, Worker.OfScannerLaw, Worker.W
 use snap_client::{Client, ClientFault};
 use snap_disk::Disk;
 use snap_frame::{Reply, Request};
-use snap_metrics::CountingService;
-use snap_service::{Desk, Memory, UpdateObserver};
+use snap_service::{CountingService, Desk, Memory, UpdateObserver};
 use snap_session::Service;
 use std::alloc::Global;
 use std::io::{Read, Write};

@@ -1,7 +1,7 @@
 //! A listener that counts its connections.
 
-use snap_metrics::Metrics;
 use snap_server::{AcceptFault, Accepted, Listen};
+use snap_service::Metrics;
 use std::marker::Model;
 
 /// A listener that counts the connections that it accepts, and otherwise behaves as the inner listener.

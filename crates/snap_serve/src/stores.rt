@@ -14,9 +14,11 @@ use crate::observer::Observer;
 use crate::server::Runtime;
 use snap_disk::Disk;
 use snap_memory::Scanner;
-use snap_metrics::{CountingService, Metrics};
 use snap_server::{Announce, Gate, Limits, Listen, RunFault, ServerEvent, ServerFault, run};
-use snap_service::{Desk, Memory, Outcome, ReadOnlyService, Storer, StorerHandle, UpdateObserver};
+use snap_service::{
+    CountingService, Desk, Memory, Metrics, Outcome, ReadOnlyService, Storer, StorerHandle,
+    UpdateObserver,
+};
 use snap_session::{Background, Completion, Service};
 use snap_writer::Writer;
 use std::alloc::{AllocError, Global};

@@ -3,3 +3,4 @@ pub mod Told
 pub mod Meetings
 pub mod Lines
 pub mod Places
+pub mod Raised

@@ -10,3 +10,4 @@ pub mod Came
 pub mod Storer
 pub mod Handover
 pub mod Tells
+pub mod metrics

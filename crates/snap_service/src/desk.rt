@@ -1,5 +1,5 @@
 //! The desk: a worker's service.
-ghost use Rattle.std.specs.Prelude.{◌≡◌, ◌⊎◌, ℕ, ◌+◌, IfOk, IfSome, IfNone, length, false};
+ghost use Rattle.std.specs.Prelude.{◌≡◌, ◌⊎◌, ℕ, ◌+◌, IfSome, IfNone, length, false};
 ghost use Rattle.snap_memory.specs.Rule.{segments};
 ghost use Rattle.snap_frame.specs.Messages.{IsInLimits};
 ghost use Rattle.snap_service.specs.Answers.{Answers, AnswersUpdate};
@@ -8,21 +8,21 @@ ghost use Rattle.snap_service.specs.{Handover.HasHanded, Job.job_of, Tells.Tells
 
 use crate::job::Requested;
 use crate::memory::Memory;
+use crate::metrics::Looking;
 use crate::outbox::{Outbox, Sent, StorerHandle, UpdateObserver};
-use crate::read_only_service::{ReadOnlyService, answer_unstored};
+use crate::read_only_service::answer_unstored;
 use crate::verdict::{answer_by_look, refuse_place};
 use crate::writer_lease::Outcome;
 use bytes::Bytes;
 use snap_disk::Disk;
 use snap_frame::{Reply, Request};
 use snap_memory::Scanner;
-use snap_metrics::Looking;
 use snap_session::Service;
-use std::alloc::{AllocError, Global};
-use std::marker::{Brand, Model, PhantomData};
+use std::alloc::Global;
+use std::marker::{Brand, Model};
 use std::rt::Clock;
+use std::sync::Wait;
 use std::sync::atomic::{AtomicBool, Ordering};
-use std::sync::{Arc, Wait};
 
 /// A worker's [`Service`]: answers scans and statuses itself. It stores an update itself if nobody else waits for the
 /// desk or has the segment's writer, and else sends it to the segment's storer.

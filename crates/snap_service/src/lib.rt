@@ -13,6 +13,8 @@
 //!
 //! [`Node`] is a service whose writers are under locks, one for each segment. It is for a server inside another
 //! program, as in tests and benchmarks.
+//!
+//! What a server counts of all this is in [`Metrics`] (metrics.rt).
 #![tactic(auto)]
 
 mod desk;
@@ -20,6 +22,7 @@ mod heap_writer;
 mod job;
 mod locked_writer;
 mod memory;
+mod metrics;
 mod node;
 mod outbox;
 mod read_only_service;
@@ -35,6 +38,11 @@ pub use desk::{Desk, answer_outcome};
 pub use heap_writer::HeapWriter;
 pub use job::Job;
 pub use memory::Memory;
+pub use metrics::{
+    BOUNDS, Counter, CountingService, FIRST_BOUND, Histogram, HistogramSnapshot, Looking, Metrics,
+    MetricsSnapshot, REFUSALS, RequestCounts, SegmentMetrics, SegmentSnapshot, TimedDisk,
+    WorkerMetrics, milliseconds_of, nanoseconds_of, place_of, time_all,
+};
 pub use node::Node;
 pub use outbox::{NoUpdateObserver, StorerHandle, UpdateObserver};
 pub use read_only_service::ReadOnlyService;

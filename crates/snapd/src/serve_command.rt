@@ -15,10 +15,10 @@ use snap_file_commands::system::{
     FirstFault, fail_at_file, fail_twice, files_in_order, first_faults, open_telling,
 };
 use snap_log::{Destination, Lines, write_lines};
-use snap_metrics::{Metrics, time_all};
 use snap_order::{Exit, ServeOptions, Status, fail, or_stop, say, stop_without_memory};
 use snap_serve::{Environment, Network, Runtime, host, log_note};
 use snap_server::{NoGate, ServerEvent, ServerFault};
+use snap_service::{Metrics, time_all};
 use std::alloc::{AllocError, Global};
 use std::rt::Clock;
 use std::sync::Wait;

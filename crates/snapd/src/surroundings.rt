@@ -6,7 +6,7 @@ use snap_board::{Beat, FactSource, History, ServerFacts, Usage};
 use snap_file_commands::system::limit_of;
 use snap_frame::SegmentStatus;
 use snap_log::Lines;
-use snap_metrics::{Metrics, milliseconds_of};
+use snap_service::{Metrics, milliseconds_of};
 use std::alloc::{AllocError, Global};
 use std::rt::Clock;
 use std::sync::Wait;

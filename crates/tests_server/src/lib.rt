@@ -1,6 +1,6 @@
-//! The tests of a server: requests and storers (`snap_service`), connections (`snap_server`,
-//! `snap_session`), metrics (`snap_metrics`), HTTP (`snap_board`), and what of `snap_args`, `snap_file_commands` and
-//! `snap_serve` no command shows. What the program prints is compared to the byte by the end-to-end tests, `tests/`.
+//! The tests of a server: requests, storers and metrics (`snap_service`), connections (`snap_server`, `snap_session`),
+//! HTTP (`snap_board`), and what of `snap_args`, `snap_file_commands` and `snap_serve` no command shows. What the
+//! program prints is compared to the byte by the end-to-end tests, `tests/`.
 #![tactic(auto)]
 
 #[cfg(test)]

@@ -2,7 +2,7 @@
 use snap_board::{FactSource, History, ServerFacts, Usage};
 use snap_disk::Refusal;
 use snap_frame::{Reply, ReplyFeed, Request, SegmentStatus};
-use snap_metrics::{BOUNDS, HistogramSnapshot, MetricsSnapshot, RequestCounts, SegmentSnapshot};
+use snap_service::{BOUNDS, HistogramSnapshot, MetricsSnapshot, RequestCounts, SegmentSnapshot};
 use snap_session::Service;
 use std::alloc::{AllocError, Global};
 use std::time::Duration;

@@ -1,5 +1,5 @@
 //! Counters and histograms, and all metrics of a server.
-use snap_metrics::{
+use snap_service::{
     BOUNDS, Counter, FIRST_BOUND, Histogram, Metrics, REFUSALS, RequestCounts, nanoseconds_of,
     place_of,
 };

@@ -4,7 +4,7 @@ use crate::frames::{
     STORED_1,
 };
 use snap_frame::{Feed, Reply, ReplyFeed, Request, reply_frame_len, request_frame_len};
-use snap_metrics::RequestCounts;
+use snap_service::RequestCounts;
 use std::alloc::Global;
 use std::process::Abort;
 use std::test::Fail;

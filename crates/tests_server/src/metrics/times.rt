@@ -1,7 +1,7 @@
 //! Devices whose stores are timed, by a clock that advances by 20 microseconds with each reading.
 use snap_devices::{FaultPlan, MemDisk};
 use snap_disk::{Disk, Fill, Refusal};
-use snap_metrics::{BOUNDS, HistogramSnapshot, SegmentMetrics, TimedDisk};
+use snap_service::{BOUNDS, HistogramSnapshot, SegmentMetrics, TimedDisk};
 use std::alloc::{AllocError, Global};
 use std::io;
 use std::process::Abort;

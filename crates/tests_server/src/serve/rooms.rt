@@ -1,11 +1,11 @@
 //! Servers over segments in memory.
 use snap_disk::Disk;
-use snap_metrics::Metrics;
 use snap_order::{Level, NoReason, ServeOptions, Status};
 use snap_serve::{Bind, Environment, ListenFault, NoObserver, NoUpdateObserver, host};
 use snap_server::{
     AcceptFault, Accepted, BindFault, Endpoint, Gate, Listen, LocalAddress, ServerEvent, Tcp,
 };
+use snap_service::Metrics;
 use std::alloc::{AllocError, Global};
 use std::io::{self, Write};
 use std::net::{Net, SocketAddr};

@@ -1,6 +1,0 @@
-use Rattle.std.proofs.Common.{◌≡◌, ℕ, ◌<◌}
-use Rattle.snap_metrics.specs.Bounds.{bound_at}
-use Rattle.snap_metrics.proofs.histogram.place_of.Given as goal
-
-abbrev pub invariant-loop-place : goal.invariant-loop-place
-invariant-loop-place l = (l.bound ≡ bound_at l.place) × ((k : ℕ) → k < l.place → bound_at k < l.nanoseconds)

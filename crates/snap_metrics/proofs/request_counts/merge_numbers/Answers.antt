@@ -1,6 +1,0 @@
-use Rattle.std.proofs.Common.{arith}
-use Rattle.snap_metrics.proofs.Raised.{raised_each_is}
-use Rattle.snap_metrics.proofs.request_counts.merge_numbers.Goals as goal
-
-pub returns : goal.returns
-returns c = raised_each_is _ _ _ (omega arith) (omega arith) (λ k low. c.loop-place.invariant.1 k (omega arith))

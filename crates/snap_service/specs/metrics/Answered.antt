@@ -1,0 +1,16 @@
+-- The answers of a service that counts them.
+use Rattle.std.specs.Prelude.{◌≡◌, ℕ, ◌-◌}
+use Rattle.snap_frame.specs.declared.{request.Request.Request, reply.Reply.Reply}
+use Rattle.snap_service.specs.{metrics.Tallies.counted, declared.metrics.snapshot.RequestCounts.RequestCounts}
+
+-- the inner service, and the counts of the requests that it answered
+pub record CountedState (S : Type 0) : Type 0 where
+  pub service : S
+  pub tally : RequestCounts
+
+-- A request was answered by this reply: the inner service answered it, and the request was counted once, with the reply
+-- and the looks that the service took for it.
+abbrev pub HasAnswered : {S : Type 0} → (S → ℕ) → (S → Request → Reply → S → Type 0) → CountedState S
+    → Request → Reply → CountedState S → Type 0
+HasAnswered looks gives old q r new = gives old.service q r new.service
+    × (new.tally ≡ counted old.tally q r (looks old.service - looks new.service))
