@@ -2,5 +2,4 @@ pub mod Asked
 pub mod Told
 pub mod Meetings
 pub mod Lines
-pub mod Places
 pub mod Raised

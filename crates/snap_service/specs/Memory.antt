@@ -1,5 +1,5 @@
 -- Seats of one memory.
-use Rattle.std.specs.Prelude.{◌≡◌, ◌≢◌, ℕ, List, [], length, slice_get, Some}
+use Rattle.std.specs.Prelude.{◌≡◌, ℕ, List, [], length, slice_get, Some}
 use Rattle.snap_memory.specs.{Registers.RegistersId, plan.Plan.Plan, Rule.segments, Seat.Known, Seat.own_of}
 use Rattle.snap_writer.specs.Writer.{WriterState}
 
@@ -17,16 +17,6 @@ pub record AreWriters {D : Type 0} (table : RegistersId) (plan : Plan)
     (writers : List (WriterState D)) : Type 0 where
   pub all : length writers ≡ segments plan
   pub each : (i : ℕ) (w : WriterState D) → slice_get writers i ≡ Some w → IsOf table plan w.seat × (own_of w.seat ≡ i)
-
--- these are writers of these registers, as many as there are segments, and one isn't at its segment's place
-pub record AreDisplaced {D : Type 0} (table : RegistersId) (plan : Plan)
-    (writers : List (WriterState D)) : Type 0 where
-  pub all : length writers ≡ segments plan
-  pub each : (i : ℕ) (w : WriterState D) → slice_get writers i ≡ Some w → IsOf table plan w.seat
-  pub place : ℕ
-  pub writer : WriterState D
-  pub stands : slice_get writers place ≡ Some writer
-  pub elsewhere : own_of writer.seat ≢ place
 
 -- the plan that is named if no memory is meant
 abbrev pub no_plan : Plan

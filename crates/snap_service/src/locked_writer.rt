@@ -1,5 +1,5 @@
 //! Writers under locks, and the token that taking a lock and changing a writer need.
-ghost use Rattle.std.specs.Prelude.{◌≡◌, ◌≢◌, ◌+◌, ◌<◌, ◌↔◌, IsTrue, IsSome};
+ghost use Rattle.std.specs.Prelude.{◌≡◌, ◌≢◌, ◌<◌, ◌↔◌, IsTrue, IsSome};
 ghost use Rattle.snap_history.specs.Limits.{IsShort};
 ghost use Rattle.snap_memory.specs.{Rule.segments, Seat.own_of};
 ghost use Rattle.snap_frame.specs.Messages.{IsInLimits, IsStatus};
@@ -135,25 +135,6 @@ impl<M: Memory, D: Disk> LockedWriter<M, D> {
             segment,
             of: PhantomData,
         }
-    }
-
-    /// The segment that it writes.
-    pub(crate) fn segment(&self) -> usize
-        ensures own { result ≡ own_of self.now.seat }
-        ensures memory { IsOf M.table M.plan self.now.seat }
-    {
-        self.segment
-    }
-
-    /// Returns the inner writer, unchanged.
-    pub(crate) fn into_writer(self) -> Writer<D>
-        ensures writer { result ≡ self }
-        ensures memory { IsOf M.table M.plan result.seat }
-        ensures alone { result.seat.high ≡ result.seat.low + 1 }
-    {
-        // Called for its clause on the seat: it writes no other segment (docs/DECISIONS.md, 180).
-        let _own = self.writer.segment();
-        self.writer
     }
 
     /// Reads the writer's number, and whether it is fenced. The writer doesn't change.

@@ -1,9 +1,9 @@
 //! The writers that all nodes share, each under a lock of its own.
-ghost use Rattle.std.specs.Prelude.{◌≡◌, ◌+◌, ◌<◌, ◌≤◌, ℕ, [], length, slice_get, Some, vec_capacity, All, IfOk, IfErr};
+ghost use Rattle.std.specs.Prelude.{◌≡◌, ◌<◌, length, All, IfOk, IfErr};
 ghost use Rattle.snap_history.specs.Limits.{IsShort};
 ghost use Rattle.snap_memory.specs.Rule.{segments};
 ghost use Rattle.snap_frame.specs.Messages.{IsInLimits, IsStatus};
-ghost use Rattle.snap_service.specs.Memory.{IsOf, AreWriters, AreDisplaced};
+ghost use Rattle.snap_service.specs.Memory.{IsOf, AreWriters};
 ghost use Rattle.snap_service.specs.{Answers.AnswersUpdate, Counted.CountsOne, Counted.LooksOnce, Counted.next_count};
 
 use crate::locked_writer::{LockToken, LockedWriter};
@@ -27,11 +27,6 @@ impl<M: Memory, D: Disk + Drop> WriterLock<M, D> {
         WriterLock {
             held: Mutex::new(writer),
         }
-    }
-
-    /// Takes the writer out of its lock.
-    pub(crate) fn into_inner(self) -> LockedWriter<M, D> {
-        self.held.into_inner()
     }
 
     /// Reads the segment's number, and whether it is fenced, under the lock.
@@ -128,36 +123,5 @@ impl<M: Memory, D: Disk + Drop> Shared<M, D> {
             statuses.push(lock.status(rt, token))?;
         }
         Ok(statuses)
-    }
-
-    /// Takes the writers of all segments out of their locks, in order, so that a store can be closed with them.
-    ///
-    /// `room` is empty and has capacity for all of them, so nothing is allocated. If one isn't at its segment's place,
-    /// where [`Shared::new`] puts it, the error has all writers in the order in which they were.
-    pub fn into_writers(self, room: Vec<Writer<D>>) -> Result<Vec<Writer<D>>, Vec<Writer<D>>>
-        requires empty { room.items ≡ [] }
-        requires room { segments M.plan ≤ vec_capacity room }
-        ensures writers { IfOk result (λ writers. AreWriters M.table M.plan writers.items) }
-        ensures alone { IfOk result (λ writers. (i : ℕ) (w : _) → slice_get writers.items i ≡ Some w
-            → w.seat.high ≡ w.seat.low + 1) }
-        ensures displaced { IfErr result (λ back. AreDisplaced M.table M.plan back.items) }
-    {
-        let mut writers = room;
-        let mut is_displaced = false;
-        'locks: for lock in self.writers {
-            let place = writers.len();
-            let writer = lock.into_inner();
-            if writer.segment() != place {
-                is_displaced = true;
-            }
-            match writers.push(writer.into_writer()) {
-                Ok(()) => {}
-                Err(_) => unreachable!(),
-            }
-        }
-        if is_displaced {
-            return Err(writers);
-        }
-        Ok(writers)
     }
 }
