@@ -5,7 +5,7 @@ ghost use Rattle.snap_restart.specs.Report.{recovered_text, report_text};
 use std::fmt;
 
 /// A segment in the report: what was recovered of it.
-#[derive(Clone, Copy, Debug, PartialEq, Eq)]
+#[derive(Clone, Copy, PartialEq, Eq)]
 pub struct Recovered {
     /// How many values were stored since the file was formatted.
     pub number: u64,
@@ -17,7 +17,7 @@ pub struct Recovered {
 
 /// The report of a restart: what was recovered of each segment, in order. `Display` gives a line
 /// for each of them, and one with their count.
-#[derive(Debug, Drop)]
+#[derive(Drop)]
 pub struct Report {
     pub segments: Vec<Recovered>,
 }

@@ -17,7 +17,7 @@ use snap_disk::{Disk, Refusal};
 use snap_slot::{FILE_LEN, OLD_FILE_LEN, OldFound, recover_old};
 
 /// The file of a migration that was refused.
-#[derive(Clone, Copy, Debug, PartialEq, Eq)]
+#[derive(Clone, Copy, PartialEq, Eq)]
 pub enum Which {
     /// The file of the old format.
     Old,

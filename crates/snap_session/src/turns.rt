@@ -36,7 +36,7 @@ pub enum End {
 }
 
 /// The result of a turn: what the session waits for, or its end.
-#[derive(Clone, Copy, Debug, PartialEq, Eq, Drop)]
+#[derive(Clone, Copy, PartialEq, Eq, Drop)]
 pub enum Polled {
     /// Nothing: there may be more to do at once.
     Again,
