@@ -6,8 +6,8 @@ use Rattle.http.specs.{Request.head_of, Uri.uri_path}
 use Rattle.http_server.specs.declared.response.Response.{Response}
 use Rattle.snap_frame.specs.declared.{entries.SegmentStatus.SegmentStatus, reply.Reply.Reply, request.Request.Request}
 use Rattle.snap_frame.specs.segment_value.SegmentValue.{SegmentValue}
-use Rattle.snap_json.specs.Each.{each_from}
-use Rattle.snap_json.specs.Documents.{health_text, list_text, status_tokens, value_tokens}
+use Rattle.snap_order.specs.Each.{each_from}
+use Rattle.snap_order.specs.Documents.{health_text, list_text, status_tokens, value_tokens}
 use Rattle.snap_board.specs.{Paths.page_of, declared.page.Page.Page}
 use Rattle.http.specs.declared.request.Request as http
 use Rattle.snap_frame.specs.declared.reply.Reply.TheVariants as replies

@@ -17,7 +17,7 @@ use http::{HeaderValue, Request, StatusCode, header};
 use http_server::Response;
 use httpdate::HttpDate;
 use snap_frame::{Reply, SegmentStatus};
-use snap_json::{health_document, scan_document, status_document};
+use snap_order::{health_document, scan_document, status_document};
 use snap_session::Service;
 use std::alloc::{AllocError, Global};
 

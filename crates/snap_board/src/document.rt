@@ -1,7 +1,7 @@
 //! A JSON document that is being written.
 
 use json::Writer;
-use snap_json::line_of;
+use snap_order::line_of;
 use std::alloc::{AllocError, Global};
 
 /// A JSON document. If memory for a part of it runs out, it has no text in the end.

@@ -5,7 +5,7 @@ use Rattle.snap_frame.specs.declared.reply.Reply.TheVariants.{Snapshot, Part, St
 use Rattle.snap_frame.specs.{declared.reply.Reply.Reply, segment_value.SegmentValue.SegmentValue}
 use Rattle.snap_frame.specs.{declared.entries.SegmentStatus.SegmentStatus, declared.named.NamedValue.NamedValue}
 use Rattle.snap_order.specs.Hex.{hex_text}
-use Rattle.snap_json.specs.Each.{each_from}
+use Rattle.snap_order.specs.Each.{each_from}
 use Rattle.snap_order.specs.declared.order.{OutputFormat.OutputFormat, OutputFormat.TheVariants.Lines}
 use Rattle.snap_order.specs.declared.order.{CallRequest.CallRequest, CallRequest.TheVariants.Health}
 

@@ -2,7 +2,7 @@
 ghost use Rattle.std.specs.Prelude.{◌≡◌, ◌++◌, IfOk, OnOk, codes, flat_map};
 ghost use Rattle.std.specs.Fmt.InlineText.{inline_text};
 ghost use Rattle.snap_order.specs.Hex.{hex_text};
-ghost use Rattle.snap_json.specs.Each.{each_from};
+ghost use Rattle.snap_order.specs.Each.{each_from};
 ghost use Rattle.snap_order.specs.declared.order.OutputFormat.TheVariants.{Lines};
 ghost use Rattle.snap_client_commands.specs.Ends.{IsRead};
 ghost use Rattle.snap_client_commands.specs.Text.{Shows, fence_text, is_any_fenced, named_line};
@@ -11,8 +11,10 @@ ghost use Rattle.snap_client_commands.specs.Text.{segment_text, status_line, sto
 use bytes::Bytes;
 use itoa::Buffer;
 use snap_frame::{NamedValue, Reply, SegmentStatus, SegmentValue};
-use snap_json::{health_document, part_document, quote, scan_document, status_document};
-use snap_order::{CallRequest, OutputFormat, put_hex};
+use snap_order::{
+    CallRequest, OutputFormat, health_document, part_document, put_hex, quote, scan_document,
+    status_document,
+};
 use std::alloc::{AllocError, Global};
 use std::fmt::InlineText;
 

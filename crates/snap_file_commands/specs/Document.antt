@@ -7,7 +7,7 @@ use Rattle.json.specs.Token.{Token, begin_array, begin_object, end_array, end_ob
 use Rattle.sha2.specs.Sha256.{sha256}
 use Rattle.snap_history.specs.{declared.limits.TheConstants.MAX_COUNT, Limits.IsNumber, Limits.IsShort}
 use Rattle.snap_scan.specs.declared.segment_value.SegmentValue.{SegmentValue}
-use Rattle.snap_json.specs.{Documents.line_of, Documents.value_tokens, Each.each_from}
+use Rattle.snap_order.specs.{Documents.line_of, Documents.value_tokens, Each.each_from}
 
 -- the first line: the format's name and version, the time at which the values were current, the number of segments, and
 -- the beginning of their list

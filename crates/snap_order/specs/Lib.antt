@@ -1,3 +1,6 @@
+pub mod Each
+pub mod Documents
+pub mod Quotation
 pub mod Hex
 pub mod Limits
 pub mod Order

@@ -3,8 +3,7 @@
 use crate::print::{put_fence, put_segment, put_shown};
 use crate::watch::exchange::Row;
 use json::Writer;
-use snap_json::put_bytes;
-use snap_order::OutputFormat;
+use snap_order::{OutputFormat, put_bytes};
 use std::alloc::{AllocError, Global};
 
 /// The text of the changes between the rows that were shown and these: a line for each row whose segment wasn't shown

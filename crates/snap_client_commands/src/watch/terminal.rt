@@ -3,8 +3,7 @@
 use crate::print::LineText;
 use crate::watch::exchange::Row;
 use crate::watch::track::Track;
-use snap_json::quote;
-use snap_order::put_hex;
+use snap_order::{put_hex, quote};
 use std::alloc::{AllocError, Global};
 
 /// How many lines are above the rows: the title and the names of the columns.

@@ -1,11 +1,11 @@
 //! Writes dumps.
 ghost use Rattle.std.specs.Prelude.{◌≡◌, ◌++◌, ◌∷◌, [], IfOk, OnOk};
-ghost use Rattle.snap_json.specs.Each.{each_from};
+ghost use Rattle.snap_order.specs.Each.{each_from};
 ghost use Rattle.snap_file_commands.specs.Document.{Adds, dump_text, head_tokens, last_tokens, row};
 
 use json::Writer;
 use sha2::{Digest, Sha256};
-use snap_json::append_value;
+use snap_order::append_value;
 use snap_scan::SegmentValue;
 use std::alloc::{AllocError, Global};
 

@@ -1,7 +1,7 @@
 use Rattle.std.proofs.Common.{false, get_or}
 use Rattle.snap_frame.specs.declared.entries.SegmentStatus.{SegmentStatus}
 use Rattle.snap_client_commands.specs.Text.{status_line}
-use Rattle.snap_json.proofs.Growth.{each_next, same_place}
+use Rattle.snap_order.proofs.Growth.{each_next, same_place}
 use Rattle.snap_client_commands.proofs.print.put_statuses.Goals as goal
 
 pub loop-index-preserved : goal.loop-index-preserved

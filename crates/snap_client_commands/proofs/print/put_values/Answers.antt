@@ -1,5 +1,5 @@
 use Rattle.snap_client_commands.specs.Text.{value_line}
-use Rattle.snap_json.proofs.Growth.{each_next}
+use Rattle.snap_order.proofs.Growth.{each_next}
 use Rattle.snap_client_commands.proofs.print.put_values.Goals as goal
 
 pub loop-index-preserved : goal.loop-index-preserved

@@ -1,5 +1,5 @@
 use Rattle.std.proofs.Common.{◌≡◌, ◌++◌, take}
-use Rattle.snap_json.specs.Each.{each_from}
+use Rattle.snap_order.specs.Each.{each_from}
 use Rattle.snap_order.specs.declared.order.OutputFormat.TheVariants.{Lines}
 use Rattle.snap_client_commands.specs.Text.{value_line}
 use Rattle.snap_client_commands.proofs.print.put_values.Given as goal

@@ -1,6 +1,6 @@
 use Rattle.std.proofs.Common.{◌≡◌, ◌<◌, ◌∙◌, None, Some, ap, arith, get_or, length}
 use Rattle.std.proofs.lemmas.{Grind.common_steps, Option.slice_get-get_or}
-use Rattle.snap_json.proofs.Growth.{same_place}
+use Rattle.snap_order.proofs.Growth.{same_place}
 use Rattle.snap_file_commands.proofs.segment_order.order_files.Goals as goal
 
 pub returns-clause-within : goal.returns-clause-within

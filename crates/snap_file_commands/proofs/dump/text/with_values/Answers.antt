@@ -1,4 +1,4 @@
-use Rattle.snap_json.proofs.Growth.{each_next}
+use Rattle.snap_order.proofs.Growth.{each_next}
 use Rattle.snap_file_commands.specs.Document.{row}
 use Rattle.snap_file_commands.proofs.dump.text.with_values.Goals as goal
 

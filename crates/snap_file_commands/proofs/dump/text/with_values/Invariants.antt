@@ -1,5 +1,5 @@
 use Rattle.std.proofs.Common.{◌≡◌, ◌++◌, take}
-use Rattle.snap_json.specs.Each.{each_from}
+use Rattle.snap_order.specs.Each.{each_from}
 use Rattle.snap_file_commands.specs.Document.{row}
 use Rattle.snap_file_commands.proofs.dump.text.with_values.Given as goal
 

@@ -1,3 +1,0 @@
-pub mod Each
-pub mod Documents
-pub mod Quotation
