@@ -10,3 +10,15 @@ returns-in-None-None c =
     let value : word_of c.args.matches.now (codes "value") ≡ None = grind (arith, common_steps) in
     let after : word_of c.args.matches.now (codes "after") ≡ None = grind (arith, common_steps) in
     rw (← words, value, after) c.plain_question.ensures
+
+pub returns-in_err-put : goal.returns-in_err-put
+returns-in_err-put c = grind (arith, common_steps)
+
+pub returns-in_default : goal.returns-in_default
+returns-in_default c = grind (arith, common_steps)
+
+pub returns-then-is : goal.returns-then-is
+returns-then-is c = grind (arith, common_steps)
+
+pub plain_question-requires : goal.plain_question-requires
+plain_question-requires c = grind (arith, common_steps)
