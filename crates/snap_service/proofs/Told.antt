@@ -1,56 +1,49 @@
 -- An update's result fits the number and the value that it leaves.
-use Rattle.std.proofs.Common.{◌≡◌, ◌≢◌, ℕ, ◌+◌, List, Result, Ok, Err, OnOk, OnErr, refl, ap, sym, ◌∙◌, arith}
+use Rattle.std.proofs.Common.{◌≡◌, ℕ, ◌+◌, List, Result, Ok, Err, OnOk, OnErr, refl, ap, sym, ◌∙◌, arith}
 use Rattle.snap_disk.specs.declared.refusal.Refusal.{Refusal}
 use Rattle.snap_history.specs.Limits.{IsNumber, IsShort}
 use Rattle.snap_segment.specs.Segment.{SegmentState}
 use Rattle.snap_writer.{specs.Judge.IsJudged, specs.Judge.IsAnswer, proofs.Judgements.some_rule}
 use Rattle.snap_writer.specs.declared.judgement.Judgement.TheVariants.{Fenced, Worn, Go, TooLong, Stored, Conflict}
-use Rattle.snap_writer.specs.{Writer.WriterState, Writer.number_of, Writer.value_of, Update.Advances, Update.Fails}
+use Rattle.snap_writer.specs.{Writer.WriterState, Writer.number_of, Update.Advances, Update.Fails, Updated.IsUpdated}
+use Rattle.snap_writer.specs.Life.{IsShown}
 use Rattle.snap_writer.specs.declared.judgement.Judgement.{TheVariants.OutOfStep, TheVariants.Exhausted, Judgement}
 use Rattle.snap_service.specs.Settled.{IsTellable}
+use Rattle.snap_disk.specs.declared.disk.Disk as Disk
 
 module _ {D : Type 0} (old new : WriterState D) (k : ℕ) (v : List ℕ) where
   at_rest : (told answer : Result ℕ Refusal) → told ≡ answer → new ≡ old
       → IsTellable old k v answer → IsTellable new k v told
   at_rest told answer e same h = rw (same, e) h
 
-  -- the writer shows what its file has, before and after
-  record Shows : Type 0 where
-    before : old.segment.number ≡ number_of old
-    after : new.segment.number ≡ number_of new
-    value : new.segment.value ≡ value_of new
-
-  moved : Shows → (told : Result ℕ Refusal) → IsJudged old k v Go → IsAnswer k Go told
+  moved : IsShown old × IsShown new → (told : Result ℕ Refusal) → IsJudged old k v Go → IsAnswer k Go told
       → OnOk told (Advances old new v) → OnErr told (Fails old new v) → IsTellable new k v told
-  moved s (Ok n) rule answer advances fails =
+  moved shown (Ok n) rule answer advances fails =
       let one : new.segment.number ≡ old.segment.number + 1 = ap (λ (x : SegmentState D). x.number) advances.stored in
       let two : new.segment.value ≡ v = ap (λ (x : SegmentState D). x.value) advances.stored in
-      (answer, omega arith, sym two ∙ s.value)
-  moved s (Err why) rule answer advances fails =
+      (answer, omega arith, sym two ∙ shown.1.1)
+  moved shown (Err why) rule answer advances fails =
       let one : new.segment.number ≡ old.segment.number = ap (λ (x : SegmentState D). x.number) fails.fenced in
       (refl, rw answer (omega arith, rule.1))
 
-  told_by : Shows → (told : Result ℕ Refusal) → IsShort v → (rule : Judgement) → IsJudged old k v rule
-      → IsAnswer k rule told → (rule ≢ Go → new ≡ old) → (IsJudged old k v Go → OnOk told (Advances old new v))
-      → (IsJudged old k v Go → OnErr told (Fails old new v)) → IsTellable new k v told
-  told_by s told short TooLong is answer same advances fails = absurd (omega arith)
-  told_by s told short Stored is answer same advances fails = at_rest _ _ answer (same (λ e. cc)) (refl, is.1, is.2)
-  told_by s told short Conflict is answer same advances fails = at_rest _ _ answer (same (λ e. cc)) (refl, (is.1, is.2))
-  told_by s told short OutOfStep is answer same advances fails =
-      at_rest _ _ answer (same (λ e. cc)) (refl, (is.1, is.2))
-  told_by s told short Exhausted is answer same advances fails =
-      at_rest _ _ answer (same (λ e. cc)) (refl, (is.0.1, is.1))
-  told_by s told short Fenced is answer same advances fails = at_rest _ _ answer (same (λ e. cc)) (refl, (is.0.1, is.1))
-  told_by s told short Worn is answer same advances fails = at_rest _ _ answer (same (λ e. cc)) (refl, (is.0.1, is.1))
-  told_by s told short Go is answer same advances fails = moved s told is answer (advances is) (fails is)
+  module _ (disk : Disk.Ghosts D) (told : Result ℕ Refusal) (updated : IsUpdated disk old new k v told)
+      (shown : IsShown old × IsShown new) (short : IsShort v) where
+    told_by : (rule : Judgement) → IsJudged old k v rule → IsTellable new k v told
+    told_by TooLong is = absurd (omega arith)
+    told_by Stored is =
+        at_rest _ _ (updated.judged Stored is) (updated.unchanged Stored is (λ e. cc)) (refl, is.1, is.2)
+    told_by Conflict is =
+        at_rest _ _ (updated.judged Conflict is) (updated.unchanged Conflict is (λ e. cc)) (refl, (is.1, is.2))
+    told_by OutOfStep is =
+        at_rest _ _ (updated.judged OutOfStep is) (updated.unchanged OutOfStep is (λ e. cc)) (refl, (is.1, is.2))
+    told_by Exhausted is =
+        at_rest _ _ (updated.judged Exhausted is) (updated.unchanged Exhausted is (λ e. cc)) (refl, (is.0.1, is.1))
+    told_by Fenced is =
+        at_rest _ _ (updated.judged Fenced is) (updated.unchanged Fenced is (λ e. cc)) (refl, (is.0.1, is.1))
+    told_by Worn is = at_rest _ _ (updated.judged Worn is) (updated.unchanged Worn is (λ e. cc)) (refl, (is.0.1, is.1))
+    told_by Go is = moved shown told is (updated.judged Go is) (updated.advances is) (updated.fails is)
 
-  pub told_fits : (told : Result ℕ Refusal) → IsShort v → IsNumber (number_of old) → old.segment.number ≡ number_of old
-      → new.segment.number ≡ number_of new → new.segment.value ≡ value_of new
-      → ((rule : Judgement) → IsJudged old k v rule → IsAnswer k rule told)
-      → ((rule : Judgement) → IsJudged old k v rule → rule ≢ Go → new ≡ old)
-      → (IsJudged old k v Go → OnOk told (Advances old new v)) → (IsJudged old k v Go → OnErr told (Fails old new v))
-      → IsTellable new k v told
-  told_fits told short low before after value judged unchanged advances fails =
-      let is = some_rule old k v low in
-      told_by (record { before = before; after = after; value = value }) told short is.0 is.1
-      (judged is.0 is.1) (unchanged is.0 is.1) advances fails
+    pub tellable : IsNumber (number_of old) → IsTellable new k v told
+    tellable low =
+        let is = some_rule old k v low in
+        told_by is.0 is.1

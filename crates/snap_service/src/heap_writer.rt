@@ -7,7 +7,7 @@ ghost use Rattle.snap_service.specs.{Asked.StoresAsked, Memory.IsOf, Settled.IsT
 ghost use Rattle.snap_service.specs.Storer.{IsWordOf};
 
 use crate::memory::Memory;
-use crate::settlement::{reply_told, update};
+use crate::settlement::reply_told;
 use snap_disk::{Disk, Refusal};
 use snap_frame::{Reply, SegmentStatus};
 use snap_memory::Scanner;
@@ -94,14 +94,14 @@ impl<M: Memory, D: Disk + Drop> HeapWriter<M, D> {
         self.writer.as_ref()
     }
 
-    /// Updates the segment by this writer, as [`update`](crate::settlement::update) does, and publishes its status.
+    /// Updates the segment by this writer, as [`Writer::update`] does, and publishes its status.
     pub fn update(&mut self, number: u64, value: &[u8]) -> Result<u64, Refusal>
         requires size { IsShort value.now }
         requires asked { M.asked (own_of self.old.seat) number value.now }
         ensures updated { IsUpdated D.Disk self.old self.new number value.now result }
         ensures tellable { IsTellable self.new number value.now result }
     {
-        let told = update(self.writer.as_mut(), number, value);
+        let told = self.writer.as_mut().update(number, value);
         let word = word_of(self.writer.as_ref());
         self.standing.store(word, Ordering::SeqCst);
         told

@@ -47,7 +47,7 @@ pub use node::Node;
 pub use outbox::{NoUpdateObserver, StorerHandle, UpdateObserver};
 pub use read_only_service::ReadOnlyService;
 pub use scans::{answer_part, answer_scan};
-pub use settlement::{reply_told, settle, update};
+pub use settlement::settle;
 pub use shared::Shared;
 pub use storer::Storer;
 pub use verdict::{answer_by_look, refuse_place};

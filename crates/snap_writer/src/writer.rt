@@ -122,6 +122,8 @@ impl<D: Disk> Writer<D> {
     /// and the writer is fenced from now on.
     pub fn update(&mut self, number: u64, value: &[u8]) -> Result<u64, Refusal>
         ensures updated { IsUpdated D.Disk self.old self.new number value.now result }
+        ensures shown { IsShown self.old × IsShown self.new }
+        ensures low { IsNumber (number_of self.old) }
     {
         match self.judge(number, value) {
             Judgement::Go => self.advance(value),
@@ -136,6 +138,7 @@ impl<D: Disk> Writer<D> {
         ensures scanner { Meets scanner.old scanner.new }
         ensures writer { Meets self.old.seat self.new.seat }
         ensures met { scanner.new.seen ≡ self.new.seat.seen }
+        ensures shown { IsShown self.old × IsShown self.new }
         ensures below { IsBelow scanner.new }
         ensures segment { self.new.segment ≡ self.old.segment }
         ensures lived { HasLived D.Disk self.old self.new }
@@ -159,16 +162,17 @@ impl<D: Disk> Writer<D> {
     fn judge(&self, number: u64, value: &[u8]) -> Judgement
         ensures rule { IsJudged self.now number value.now result }
         ensures shown { IsShown self.now }
+        ensures low { IsNumber (number_of self.now) }
         ensures phase { self.now.seat.phase ≡ phase_of self.now.segment.begun }
         ensures kept { D.is_honest self.now.segment.device → IsKept self.now.segment.index self.now.segment.count
             (number_of self.now) (value_of self.now) self.now.segment.begun
             self.now.segment.spare_open (D.device self.now.segment.device) }
     {
         let fenced = self.segment.as_ref().is_fenced();
+        let shown = self.segment.as_ref().number();
         if value.len() > MAX_VALUE_LEN {
             return Judgement::TooLong;
         }
-        let shown = self.segment.as_ref().number();
         if number == shown {
             return if value == self.segment.as_ref().value() {
                 Judgement::Stored
@@ -202,6 +206,7 @@ impl<D: Disk> Writer<D> {
             (D.failure_count self.new.segment.device) }
         ensures honest { D.is_honest self.new.segment.device → D.is_honest self.old.segment.device }
         ensures same_seat { IsSameSeat self.old.seat self.new.seat }
+        ensures shown { IsShown self.new }
         ensures answer { IsAnswer (number_of self.old + 1) Judgement.Go result }
         ensures advances { OnOk result (Advances self.old self.new value.now) }
         ensures fails { OnErr result (Fails self.old self.new value.now) }
@@ -252,13 +257,13 @@ fn answer(rule: Judgement, number: u64) -> Result<u64, Refusal>
 fn show_stored<D: Disk>(segment: &Segment<D>, seat: &mut WriteSeat, view: View) -> u64
     requires ahead { segment.now.number ≡ number_in seat.old seat.old.seen (own_of seat.old) + 1 }
     requires unfenced { segment.now.begun ≡ None }
+    requires next { IsNumber (number_in seat.old seat.old.seen (own_of seat.old) + 1) }
     requires view { MayPublish seat.old view }
     requires storing { seat.old.phase ≡ UpdatePhase.Storing }
     ensures shown { Shows (record seat.old { phase = UpdatePhase.Stored }) seat.new segment.now.value }
     ensures below { IsBelow seat.new }
     ensures number { result ≡ number_in seat.new seat.new.seen (own_of seat.new) }
 {
-    let _number = segment.number();
     seat.end_store();
     show(seat, segment.value(), view)
 }

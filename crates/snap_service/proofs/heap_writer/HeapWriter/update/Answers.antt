@@ -1,7 +1,7 @@
 use Rattle.std.proofs.Common.{sym, subst, ◌∙◌}
 use Rattle.snap_memory.specs.Seat.{own_of}
 use Rattle.snap_service.specs.{Asked.StoresAsked, Memory.IsOf, Writer.WriterState}
-use Rattle.snap_service.proofs.Asked.{asked_update}
+use Rattle.snap_service.proofs.{Asked.asked_update, Told.tellable}
 use Rattle.snap_service.proofs.heap_writer.HeapWriter.update.Goals as goal
 
 pub invariant_of-self : goal.invariant_of-self
@@ -19,6 +19,11 @@ invariant_of-self g c =
         table_is = done.same_seat.table ∙ is_of.table_is;
         plan_is = done.same_seat.plan ∙ is_of.plan_is;
       },
-      asked_update asked c.as_mut.result.now c.update-told.new.writer c.args.number c.args.value.now asks
-          (subst Stores same c.self.invariant.1) g.D.Disk c.update-told.result shown.1 shown.0 done,
+      asked_update asked c.as_mut.result.now c.update-told.new.self c.args.number c.args.value.now asks
+          (subst Stores same c.self.invariant.1) g.D.Disk c.update-told.result c.update-told.ensures.low shown.0.0 done,
     )
+
+pub returns-clause-tellable : goal.returns-clause-tellable
+returns-clause-tellable g c =
+    let u = c.update-told.ensures in
+    tellable _ _ _ _ g.D.Disk _ u.updated u.shown c.requires.size u.low

@@ -54,6 +54,14 @@ show_stored-requires-clause-ahead g c =
     let noted = ap (λ (k : Known). number_in k k.seen (own_of k)) c.begin_store.ensures.begun in
     search rules
 
+pub show_stored-requires-clause-next : goal.show_stored-requires-clause-next
+show_stored-requires-clause-next g c =
+    let scanned = number_grown c.self.inside.seat c.prepare-view.new.seat
+    c.prepare-view.ensures.seen c.self.invariant.alone in
+    let next = c.requires.next in
+    let noted = ap (λ (k : Known). number_in k k.seen (own_of k)) c.begin_store.ensures.begun in
+    search rules
+
 pub invariant_of-self-2 : goal.invariant_of-self-2
 invariant_of-self-2 g c =
     let r = c.store.new.self in
@@ -76,6 +84,16 @@ returns-clause-advances g c =
     subst (λ (w : WriterState _). EndsWith w.seat c.show_stored.new.seat c.args.value.now) c.self.view_is
     (ends g c) in
     record { stored = search rules; shown = shown; phase = c.show_stored.ensures.shown.phase }
+
+pub returns-clause-shown : goal.returns-clause-shown
+returns-clause-shown g c =
+    let is = invariant_of-self-2 g c in
+    (is.number_is, is.value_is)
+
+pub returns-in_err-store-clause-shown : goal.returns-in_err-store-clause-shown
+returns-in_err-store-clause-shown g c =
+    let is = invariant_of-self g c in
+    (is.number_is, is.value_is)
 
 -- a fact that holds in any case holds at an error
 on_err : {T E P : Type 0} (r : Result T E) → P → OnErr r P

@@ -13,6 +13,8 @@ returns-in_default g c = record {
   updated = untouched g.D.Disk g.met.D.Disk.only_now c.args.self.now c.judge.ensures.kept
       c.args.number c.args.value.now c.judge.result c.judge.ensures.rule c.in_default.not-Go _
       c.answer.ensures.answer (c.answer.ensures.count _);
+  shown = (c.judge.ensures.shown, c.judge.ensures.shown);
+  low = c.judge.ensures.low;
 }
 
 pub returns-in-Go : goal.returns-in-Go
@@ -50,4 +52,6 @@ returns-in-Go g c =
             → IsFileOf w.segment.index w.segment.count n v b))) next (did.last honest);
         either = λ honest go. did.either honest;
       };
+      shown = (c.judge.ensures.shown, did.shown);
+      low = c.judge.ensures.low;
     }
