@@ -19,4 +19,4 @@ pub use fault::{HostFault, port_advice};
 pub use notes::log_note;
 pub use observer::{NoObserver, Observer, ServerObserver};
 pub use server::{Environment, Runtime, host};
-pub use snap_service::{NoUpdateObserver, UpdateObserver};
+pub use snap_service::{CountingObserver, FailureObserver, NoUpdateObserver};

@@ -1,7 +1,7 @@
 //! The observers of a running server.
 
 use snap_server::RunFault;
-use snap_service::NoUpdateObserver;
+use snap_service::{CountingObserver, NoUpdateObserver};
 use snap_session::Service;
 use std::rt::Clock;
 use std::sync::Wait;
@@ -40,4 +40,14 @@ impl ServerObserver for NoUpdateObserver {
     fn begun(&self, _listening: &str) {}
 
     fn ended(&self, _served: Result<u64, &RunFault>) {}
+}
+
+impl<H: ServerObserver + Copy + Drop> ServerObserver for CountingObserver<'_, H> {
+    fn begun(&self, listening: &str) {
+        self.failures.begun(listening);
+    }
+
+    fn ended(&self, served: Result<u64, &RunFault>) {
+        self.failures.ended(served);
+    }
 }

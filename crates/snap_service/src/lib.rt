@@ -39,9 +39,9 @@ pub use heap_writer::HeapWriter;
 pub use job::Job;
 pub use memory::Memory;
 pub use metrics::{
-    BOUNDS, Counter, CountingService, FIRST_BOUND, Histogram, HistogramSnapshot, Looking, Metrics,
-    MetricsSnapshot, REFUSALS, RequestCounts, SegmentMetrics, SegmentSnapshot, TimedDisk,
-    WorkerMetrics, milliseconds_of, nanoseconds_of, place_of, time_all,
+    BOUNDS, Counter, CountingObserver, CountingService, FIRST_BOUND, FailureObserver, Histogram,
+    HistogramSnapshot, Looking, Metrics, MetricsSnapshot, REFUSALS, RequestCounts, SegmentMetrics,
+    SegmentSnapshot, TimedDisk, WorkerMetrics, milliseconds_of, nanoseconds_of, place_of, time_all,
 };
 pub use node::Node;
 pub use outbox::{NoUpdateObserver, StorerHandle, UpdateObserver};

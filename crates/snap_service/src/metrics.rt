@@ -18,7 +18,7 @@ mod timed_disk;
 mod worker;
 
 pub use counter::Counter;
-pub use counting_service::{CountingService, Looking};
+pub use counting_service::{CountingObserver, CountingService, FailureObserver, Looking};
 pub use histogram::{Histogram, nanoseconds_of, place_of};
 pub use segment::{SegmentMetrics, milliseconds_of};
 pub use snapshot::{

@@ -16,7 +16,7 @@ use snap_file_commands::system::{
 };
 use snap_log::{Destination, Lines, write_lines};
 use snap_order::{Exit, ServeOptions, Status, fail, or_stop, say, stop_without_memory};
-use snap_serve::{Environment, Network, Runtime, host, log_note};
+use snap_serve::{CountingObserver, Environment, Network, Runtime, host, log_note};
 use snap_server::{NoGate, ServerEvent, ServerFault};
 use snap_service::{Metrics, time_all};
 use std::alloc::{AllocError, Global};
@@ -290,7 +290,10 @@ fn host_logged<'x, X: Runtime>(
         bind: &Network::new(system, u32::from(order.socket_mode)),
         gate: &NoGate,
         note: &note,
-        watch: ServerLog { log, process, told },
+        watch: CountingObserver {
+            metrics,
+            failures: ServerLog { log, process, told },
+        },
         metrics,
         observer: view.as_ref(),
         causes: told,

@@ -1,19 +1,18 @@
-//! Counts a server's updates, and logs its start, its end and failed stores.
+//! Logs a server's start, its end and failed stores.
 
 use crate::surroundings::{Process, ignores_interrupts};
 use log::{error, info};
 use snap_args::VERSION;
-use snap_disk::Refusal;
 use snap_file_commands::system::FirstFault;
 use snap_log::Lines;
-use snap_serve::{ServerObserver, UpdateObserver};
+use snap_serve::{FailureObserver, ServerObserver};
 use snap_server::{RunFault, ServerFault};
 use std::fmt::{self, Display};
 use std::rt::Clock;
 use std::slice;
 use std::sync::Wait;
 
-/// Logs how a server starts and ends, counts each update of a segment, and logs those whose store failed.
+/// Logs how a server starts and ends, and each update whose store failed.
 #[derive_where(Clone, Copy)]
 #[derive(Drop)]
 pub struct ServerLog<'a, X: Wait + Clock> {
@@ -65,15 +64,8 @@ impl<X: Wait + Clock> ServerObserver for ServerLog<'_, X> {
     }
 }
 
-impl<X: Wait + Clock> UpdateObserver for ServerLog<'_, X> {
-    fn told(&self, segment: usize, number: u64, told: Result<u64, Refusal>) {
-        let metrics = self.process.metrics;
-        if segment < metrics.segment_count() {
-            metrics.segment(segment).settle(told);
-        }
-        if told != Err(Refusal::DeviceFailed) {
-            return;
-        }
+impl<X: Wait + Clock> FailureObserver for ServerLog<'_, X> {
+    fn store_failed(&self, segment: usize, number: u64) {
         let (Some(file), Some(first)) = (self.process.files.get(segment), self.told.get(segment))
         else {
             return;

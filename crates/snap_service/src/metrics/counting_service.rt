@@ -1,11 +1,13 @@
-//! A service that counts its answers.
+//! A service that counts its answers, and an observer that counts updates.
 ghost use Rattle.std.specs.Prelude.{◌≡◌, ◌-◌, ℕ, IfSome, IfNone};
 ghost use Rattle.snap_frame.specs.Messages.{IsAskable, IsInLimits};
 ghost use Rattle.snap_session.specs.Asked.{WasAsked};
 ghost use Rattle.snap_service.specs.metrics.Tallies.{nothing, counted};
 
+use crate::metrics::Metrics;
 use crate::metrics::snapshot::RequestCounts;
 use crate::metrics::worker::WorkerMetrics;
+use crate::outbox::UpdateObserver;
 use snap_disk::Refusal;
 use snap_frame::{Reply, Request};
 use snap_session::Service;
@@ -120,5 +122,30 @@ impl<S: Service + Looking + Drop> Service for CountingService<'_, S> {
 
     fn refused(&self, why: Refusal) {
         self.metrics.refuse(why);
+    }
+}
+
+/// Is notified of each update whose store failed, on the thread that stored it.
+pub trait FailureObserver {
+    /// Called when the store of an update to `number` failed: the segment takes no further update until a restart.
+    fn store_failed(&self, segment: usize, number: u64);
+}
+
+/// Counts each update in its segment's metrics, and notifies `failures` of those whose store failed.
+#[derive(Clone, Copy, Drop)]
+pub struct CountingObserver<'a, H: Copy + Drop> {
+    pub metrics: &'a Metrics,
+    pub failures: H,
+}
+
+impl<H: FailureObserver + Copy + Drop> UpdateObserver for CountingObserver<'_, H> {
+    fn told(&self, segment: usize, number: u64, told: Result<u64, Refusal>) {
+        let metrics = self.metrics;
+        if let Some(metrics) = metrics.segments.get(segment) {
+            metrics.settle(told);
+        }
+        if told == Err(Refusal::DeviceFailed) {
+            self.failures.store_failed(segment, number);
+        }
     }
 }
