@@ -1,7 +1,8 @@
 -- What a list of numbers decides, and that its decisions exclude each other.
-use Rattle.std.proofs.Common.{◌≡◌, ℕ, zero, suc, ◌+◌, ◌-◌, ◌*◌, ◌<◌, ◌≤◌, inl, inr, List, length, take, Some, slice_get}
+use Rattle.std.proofs.Common.{◌≡◌, ℕ, zero, suc, ◌+◌, ◌-◌, ◌*◌, ◌<◌, ◌≤◌, inl, inr, List, length, take, Some}
 use Rattle.std.proofs.Common.{slice_index, refl, ap, sym, ◌∙◌, subst, arith}
-use Rattle.std.proofs.{Math.Nat.mul-le-mul_left, lemmas.List.length-take-le, lemmas.List.get_or-take}
+use Rattle.std.proofs.{Math.Nat.mul-le-mul_left, lemmas.List.length-take-le, lemmas.List.length-take}
+use Rattle.std.proofs.lemmas.List.{get_or-take}
 use Rattle.snap_scan.specs.Looks.{most_looks, IsTurn, IsClean, IsBorrow, IsDecided}
 use Rattle.snap_scan.specs.Sets.{named, size, IsAt}
 use Rattle.snap_scan.specs.Stands.{next_at, StandsFor, Says, IsLooking, IsUndecided, IsRising, IsFirst, AllLow, Same}
@@ -88,15 +89,13 @@ first_of n L first k l = undecided_at n L (length L - 1) k (first (length L - 1)
     (omega arith) (omega arith)
 
 -- the machine's next place, as a segment of its set
-pub at_look : (set j : ℕ) (v : Next) → next_at set v ≡ Look j → (p : ℕ) × (v ≡ Look p) × (slice_index (named set) p ≡ j)
-at_look set j (Look p) e = (p, refl, cc)
-at_look set j Clean e = cc
-at_look set j (Borrow p) e = cc
+pub at_look : (set p j : ℕ) (v : Next) → v ≡ Look p → next_at set v ≡ Look j → slice_index (named set) p ≡ j
+at_look set p j v is e = let at = subst (λ n. next_at set n ≡ Look j) is e in cc
 
 -- a place in a set's list, as its segment
-pub listed : (set : ℕ) (list : List ℕ) (p j : ℕ) → list ≡ named set → slice_get list p ≡ Some j
-    → slice_index (named set) p ≡ j
-listed set list p j is at = at_is set p j (ap (λ l. slice_get l p) (sym is) ∙ at)
+pub listed : (set n p : ℕ) (list : List ℕ) → take n list ≡ named set → p < length (take n list)
+    → slice_index list p ≡ slice_index (named set) p
+listed set n p list is l = grind (arith, length-take, get_or-take {A = ℕ}, ap (λ x. slice_index x p) is)
 
 -- the place of the next look has a segment
 pub turn_at : (set : ℕ) (s : Machine) (L : List ℕ) (p j : ℕ) → s.segments ≡ size set
@@ -151,5 +150,5 @@ module _ (set : ℕ) (s : Machine) (L : List ℕ) (count : s.segments ≡ size s
 -- the step that the machine returns is what its list decides
 pub next_is : (set : ℕ) (s : Machine) (L : List ℕ) (v : Course) (next : Next) → s.segments ≡ size set
     → StandsFor s L → (record { set = set; told = L; next = next_at set s.next }) ≡ v
-    → next_at set s.next ≡ next → IsNext v.set v.told next
+    → next ≡ v.next → IsNext v.set v.told next
 next_is set s L v next count st view is = grind (arith, says_next)

@@ -34,7 +34,8 @@ mod segments;
 mod set;
 
 pub use laws::collect_laws;
-pub use limits::{MAX_SEGMENTS, most_looks};
+pub use limits::MAX_SEGMENTS;
+pub use machine::most_looks;
 pub use next::Next;
 pub use scan::Scan;
 pub use segment_value::SegmentValue;

@@ -1,16 +1,27 @@
 //! The state machine of a scan: it keeps the numbers of the first and of the latest looks.
 ghost use Rattle.std.specs.Prelude.{◌≡◌, ℕ, ◌+◌, ◌^◌, ◌<◌, ◌≤◌, ◌↔◌, ◌==◌, ◌||◌, List, [], ◌∷◌, ◌++◌, length, not};
 ghost use Rattle.std.specs.Prelude.{slice_index, slice_set, nat_lt, IsTrue, false, if◌then◌else◌};
+ghost use Rattle.snap_scan.specs.Looks.{most_looks};
 
 use crate::limits::MAX_SEGMENTS;
 use crate::next::Next;
+
+/// The most looks that a scan of `segments` segments makes: n(n + 2).
+pub const fn most_looks(segments: usize) -> usize
+    requires { segments ≤ MAX_SEGMENTS }
+    ensures { result ≡ most_looks segments }
+{
+    segments * (segments + 2)
+}
 
 /// The state machine of a scan. It allocates nothing, and each number takes constant time.
 #[derive(Drop)]
 pub struct Machine {
     segments: usize,
-    looks: usize,
-    next: Next,
+    /// How many numbers it has got.
+    pub(crate) looks: usize,
+    /// The next step.
+    pub(crate) next: Next,
     /// Whether the current collect has found another number than the one before. The first collect
     /// has none before it, and counts as changed.
     changed: bool,
@@ -38,30 +49,6 @@ impl Machine {
             changed: true,
             first: [0; MAX_SEGMENTS],
             latest: [0; MAX_SEGMENTS],
-        }
-    }
-
-    /// The next step.
-    pub(crate) fn next(&self) -> Next
-        ensures { result ≡ self.now.next }
-    {
-        self.next
-    }
-
-    /// How many numbers it has got.
-    pub(crate) fn looks(&self) -> usize
-        ensures { result ≡ self.now.looks }
-    {
-        self.looks
-    }
-
-    /// The place of the next look; 0 if the scan has ended.
-    pub(crate) fn place(&self) -> usize
-        ensures { (p : ℕ) → self.now.next ≡ Next.Look p → result ≡ p }
-    {
-        match self.next {
-            Next::Look(place) => place,
-            Next::Clean | Next::Borrow(_) => 0,
         }
     }
 

@@ -73,10 +73,10 @@ impl Scan {
         ensures same { result ≡ self.now.next }
         ensures decides { IsNext self.now.set self.now.told result }
     {
-        match self.machine.next() {
-            Next::Look(place) => Next::Look(self.segments.at(place)),
+        match self.machine.next {
+            Next::Look(place) => Next::Look(self.segments.list[place]),
             Next::Clean => Next::Clean,
-            Next::Borrow(place) => Next::Borrow(self.segments.at(place)),
+            Next::Borrow(place) => Next::Borrow(self.segments.list[place]),
         }
     }
 
@@ -84,7 +84,7 @@ impl Scan {
     pub fn looks(&self) -> usize
         ensures { result ≡ length self.now.told }
     {
-        self.machine.looks()
+        self.machine.looks
     }
 
     /// Records the number that a look found for `segment`, whose turn it is. No number may fall.
@@ -96,7 +96,10 @@ impl Scan {
         ensures next { IsNext self.new.set self.new.told self.new.next }
     {
         let _segment = segment;
-        self.machine.told(self.machine.place(), number);
+        let Next::Look(place) = self.machine.next else {
+            unreachable!()
+        };
+        self.machine.told(place, number);
         self.numbers = self.numbers.then(&number);
     }
 }

@@ -1,5 +1,5 @@
 //! The segments of a set as a list, in ascending order.
-ghost use Rattle.std.specs.Prelude.{◌≡◌, ◌<◌, take, length, slice_get, Some};
+ghost use Rattle.std.specs.Prelude.{◌≡◌, take};
 ghost use Rattle.snap_scan.specs.Sets.{named, size};
 
 use crate::limits::MAX_SEGMENTS;
@@ -9,7 +9,7 @@ use crate::set::SegmentSet;
 #[derive(Drop)]
 pub struct Segments {
     pub(crate) count: usize,
-    list: [usize; MAX_SEGMENTS],
+    pub(crate) list: [usize; MAX_SEGMENTS],
 }
 
 impl Segments {
@@ -27,13 +27,5 @@ impl Segments {
             }
         }
         Segments { count, list }
-    }
-
-    /// The segment at `place`.
-    pub(crate) fn at(&self, place: usize) -> usize
-        requires place { place < length (take self.now.count self.now.list) }
-        ensures at { slice_get (take self.now.count self.now.list) place ≡ Some result }
-    {
-        self.list[place]
     }
 }

@@ -1,7 +1,7 @@
 use Rattle.std.proofs.Common.{ℕ, sym, subst, ap, ◌∙◌}
 use Rattle.snap_scan.specs.Sets.{size, IsAt}
 use Rattle.snap_scan.proofs.Verdict.{says_next, at_look, turn_at}
-use Rattle.snap_scan.specs.{Looks.IsNoFall, Course.Course, Stands.StandsFor, declared.next.Next.TheVariants.Look}
+use Rattle.snap_scan.specs.{Looks.IsNoFall, Course.Course, Stands.StandsFor}
 use Rattle.snap_scan.proofs.scan.Scan.told.Goals as goal
 
 -- the segment has a place
@@ -9,19 +9,18 @@ pub told-requires : goal.told-requires
 told-requires c =
     let s = c.self.inside in
     let inv = c.self.invariant in
-    let at = at_look s.set.bits c.args.segment s.machine.next
+    let p = c.in-Look.place in
+    let at = at_look s.set.bits p c.args.segment s.machine.next c.in-Look.is
     (ap (λ (v : Course). v.next) c.self.view_is ∙ c.requires.turn) in
-    let place = sym (c.place.ensures at.0 at.1) in
     let rising = subst (λ (v : Course). (p : ℕ) → IsAt v.set p c.args.segment
-    → IsNoFall (size v.set) v.told p c.args.number) (sym c.self.view_is) c.requires.rising at.0
-    (turn_at s.set.bits s.machine s.numbers.list at.0 c.args.segment inv.1.count at.1 at.2 inv.0) in
+    → IsNoFall (size v.set) v.told p c.args.number) (sym c.self.view_is) c.requires.rising p
+    (turn_at s.set.bits s.machine s.numbers.list p c.args.segment inv.1.count c.in-Look.is at inv.0) in
     record {
-      turn = at.1 ∙ ap Look place;
+      turn = c.in-Look.is;
       stands = ∣ (
         s.numbers.list,
         inv.0,
-        subst (λ p. IsNoFall s.machine.segments s.numbers.list p c.args.number) place
-            (subst (λ n. IsNoFall n s.numbers.list at.0 c.args.number) (sym inv.1.count) rising),
+        subst (λ n. IsNoFall n s.numbers.list p c.args.number) (sym inv.1.count) rising,
       ) ∣₁;
     }
 
