@@ -20,9 +20,6 @@ pub fn prepare(seat: &mut WriteSeat) -> View
     ensures view { MayPublish seat.new result }
     ensures left { TakesLooks seat.old seat.new }
 {
-    // Called for its contract: the seat writes no other segment, so only its own updates may not be
-    // missing (docs/DECISIONS.md, 180).
-    let _own = seat.segment();
     let mut numbers = [0; MAX_SEGMENTS];
     gather(seat, SegmentSet::all(seat.segments()), &mut numbers)
 }

@@ -180,7 +180,11 @@ impl Looker for WriteSeat {
         self.access.left
     }
 
-    fn segments(&self) -> usize {
+    fn segments(&self) -> usize
+        ensures count { result ≡ segments self.now.plan }
+        ensures some { (0 < result) × (result ≤ MAX_COUNT) }
+        ensures alone { self.now.high ≡ self.now.low + 1 }
+    {
         self.access.count_segments()
     }
 

@@ -21,7 +21,7 @@ returns-clause-view c =
     let b = c.gather.new.seat in
     let g = c.gather.ensures.seen in
     let n = c.segments.ensures in
-    may_publish a b g c.segment-own.ensures.alone (all_grown a b g _ n.count n.some.1)
+    may_publish a b g n.alone (all_grown a b g _ n.count n.some.1)
     c.gather.result (rw (all_is a _ _ n.count c.all.ensures.all ∙ all_same a b g) at c.gather.ensures.scan)
 
 pub returns-clause-left : goal.returns-clause-left
