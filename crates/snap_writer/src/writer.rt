@@ -16,8 +16,8 @@ use crate::judgement::Judgement;
 use crate::noted_segment::NotedSegment;
 use snap_disk::{Disk, Refusal};
 use snap_history::{LAST_NUMBER, MAX_VALUE_LEN};
-use snap_memory::{Scanner, prepare, show};
-use snap_register::{Looker, UpdatePhase, View, WriteSeat};
+use snap_memory::{Scanner, prepare};
+use snap_register::{Looker, WriteSeat};
 use snap_scan::most_looks;
 use snap_segment::Segment;
 use std::marker::Model;
@@ -229,7 +229,8 @@ impl<D: Disk> Writer<D> {
         let view = prepare(&mut self.seat);
         self.seat.begin_store();
         self.segment.store(&self.seat, value)?;
-        Ok(show_stored(self.segment.as_ref(), &mut self.seat, view))
+        self.seat.end_store();
+        Ok(self.seat.publish(value, &view))
     }
 }
 
@@ -249,21 +250,4 @@ fn answer(rule: Judgement, number: u64) -> Result<u64, Refusal>
         Judgement::Worn => Err(Refusal::Worn),
         Judgement::Go => unreachable!(),
     }
-}
-
-/// Notes that the store has ended, shows the update that the segment has stored, with this view, and returns its
-/// number. The segment is one update ahead of what the seat has shown, and no store of it has failed, so its device
-/// holds what is shown.
-fn show_stored<D: Disk>(segment: &Segment<D>, seat: &mut WriteSeat, view: View) -> u64
-    requires ahead { segment.now.number ≡ number_in seat.old seat.old.seen (own_of seat.old) + 1 }
-    requires unfenced { segment.now.begun ≡ None }
-    requires next { IsNumber (number_in seat.old seat.old.seen (own_of seat.old) + 1) }
-    requires view { MayPublish seat.old view }
-    requires storing { seat.old.phase ≡ UpdatePhase.Storing }
-    ensures shown { Shows (record seat.old { phase = UpdatePhase.Stored }) seat.new segment.now.value }
-    ensures below { IsBelow seat.new }
-    ensures number { result ≡ number_in seat.new seat.new.seen (own_of seat.new) }
-{
-    seat.end_store();
-    show(seat, segment.value(), view)
 }

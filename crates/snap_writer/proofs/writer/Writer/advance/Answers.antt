@@ -1,34 +1,33 @@
 use Rattle.std.proofs.Common.{rules, ◌≡◌, ◌∙◌, ℕ, ◌+◌, ap, sym, subst, Result, Ok, Err, List, Some, None}
 use Rattle.std.specs.Result.{OnErr}
+use Rattle.snap_history.specs.Limits.{IsNumber}
 use Rattle.snap_slot.specs.{States.IsEither, Layout.IsFileOf}
-use Rattle.snap_register.specs.Seat.{Known, Shows, MayPublish, number_in, own_of}
+use Rattle.snap_register.specs.Seat.{Known, Shows, MayPublish}
 use Rattle.snap_register.specs.declared.plan.UpdatePhase.TheVariants.{Storing, Stored}
 use Rattle.snap_writer.specs.Writer.{WriterState, IsPaired, number_of, value_of, phase_of}
 use Rattle.snap_writer.specs.Update.{IsSameSeat, EndsWith}
 use Rattle.snap_writer.proofs.Shown.{number_grown, number_shown, same_shown, ends_with, may_still}
 use Rattle.snap_writer.proofs.Paired.{paired_grown, paired_shown}
 use Rattle.snap_writer.proofs.writer.Writer.advance.Goals as goal
-use Rattle.snap_writer.proofs.writer.Writer.advance.Goals.{After-show_stored}
+use Rattle.snap_writer.proofs.writer.Writer.advance.Goals.{After-publish}
 
--- the seat as it was after its scan showed the update
-shows : (g : _) (c : After-show_stored g)
-    → Shows (record c.prepare-view.new.seat { phase = Stored }) c.show_stored.new.seat c.store.new.self.value
-shows g c =
-    let value : c.as_ref.result.now.value ≡ c.store.new.self.value = search rules in
-    subst (λ (x : Known × List ℕ). Shows (record x.0 { phase = Stored }) c.show_stored.new.seat x.1)
-    (λ t. (c.begin_store.ensures.begun t, value t)) c.show_stored.ensures.shown
+-- a seat whose store has ended is as its scan left it, but for its phase
+ended : (scanned storing stored : Known) → storing ≡ record scanned { phase = Storing }
+    → stored ≡ record storing { phase = Stored } → stored ≡ record scanned { phase = Stored }
+ended scanned storing stored begun end = end ∙ ap (λ (k : Known). record k { phase = Stored }) begun
 
-same : (g : _) (c : After-show_stored g) → IsSameSeat c.self.inside.seat c.show_stored.new.seat
-same g c = same_shown c.self.inside.seat c.prepare-view.new.seat c.show_stored.new.seat Stored _
+shows : (g : _) (c : After-publish g)
+    → Shows (record c.prepare-view.new.seat { phase = Stored }) c.publish.new.self c.args.value.now
+shows g c = subst (λ (k : Known). Shows k c.publish.new.self c.args.value.now)
+    (ended c.prepare-view.new.seat _ _ c.begin_store.ensures.begun c.end_store.ensures.stored) c.publish.ensures.shown
+
+same : (g : _) (c : After-publish g) → IsSameSeat c.self.inside.seat c.publish.new.self
+same g c = same_shown c.self.inside.seat c.prepare-view.new.seat c.publish.new.self Stored _
     c.prepare-view.ensures.seen (shows g c)
 
-stored : (g : _) (c : After-show_stored g) → c.store.new.self.value ≡ c.args.value.now
-stored g c = search rules
-
-ends : (g : _) (c : After-show_stored g) → EndsWith c.self.inside.seat c.show_stored.new.seat c.args.value.now
-ends g c = subst (λ (v : List ℕ). EndsWith c.self.inside.seat c.show_stored.new.seat v) (stored g c)
-    (ends_with c.self.inside.seat c.prepare-view.new.seat c.show_stored.new.seat Stored _
-    c.prepare-view.ensures.seen c.self.invariant.alone (shows g c))
+ends : (g : _) (c : After-publish g) → EndsWith c.self.inside.seat c.publish.new.self c.args.value.now
+ends g c = ends_with c.self.inside.seat c.prepare-view.new.seat c.publish.new.self Stored _
+    c.prepare-view.ensures.seen c.self.invariant.alone (shows g c)
 
 pub invariant_of-self : goal.invariant_of-self
 invariant_of-self g c =
@@ -41,26 +40,18 @@ invariant_of-self g c =
     (paired_grown s r c.self.inside.seat c.prepare-view.new.seat Storing c.self.invariant
     c.prepare-view.ensures.seen number value (sym (ap phase_of failed)))
 
-pub show_stored-requires-clause-view : goal.show_stored-requires-clause-view
-show_stored-requires-clause-view g c =
-    subst (λ (k : Known). MayPublish k c.prepare-view.result) (sym c.begin_store.ensures.begun)
-    (may_still c.prepare-view.new.seat Storing c.prepare-view.result c.prepare-view.ensures.view)
-
-pub show_stored-requires-clause-ahead : goal.show_stored-requires-clause-ahead
-show_stored-requires-clause-ahead g c =
-    let scanned = number_grown c.self.inside.seat c.prepare-view.new.seat
-    c.prepare-view.ensures.seen c.self.invariant.alone in
-    let next = c.requires.next in
-    let noted = ap (λ (k : Known). number_in k k.seen (own_of k)) c.begin_store.ensures.begun in
-    search rules
-
-pub show_stored-requires-clause-next : goal.show_stored-requires-clause-next
-show_stored-requires-clause-next g c =
-    let scanned = number_grown c.self.inside.seat c.prepare-view.new.seat
-    c.prepare-view.ensures.seen c.self.invariant.alone in
-    let next = c.requires.next in
-    let noted = ap (λ (k : Known). number_in k k.seen (own_of k)) c.begin_store.ensures.begun in
-    search rules
+pub publish-requires : goal.publish-requires
+publish-requires g c =
+    let k = c.prepare-view.new.seat in
+    let is = ended c.prepare-view.new.seat _ _ c.begin_store.ensures.begun c.end_store.ensures.stored in
+    record {
+      size = c.requires.size;
+      next = rw is (rw (number_grown c.self.inside.seat k c.prepare-view.ensures.seen c.self.invariant.alone)
+          (subst (λ (w : WriterState _). IsNumber (number_of w + 1)) (sym c.self.view_is) c.requires.next));
+      view = subst (λ (x : Known). MayPublish x c.prepare-view.result) (sym is)
+          (may_still k Stored c.prepare-view.result c.prepare-view.ensures.view);
+      stored = ap (λ (x : Known). x.phase) is;
+    }
 
 pub invariant_of-self-2 : goal.invariant_of-self-2
 invariant_of-self-2 g c =
@@ -68,22 +59,22 @@ invariant_of-self-2 g c =
     let number : r.number ≡ c.self.inside.segment.number + 1 = search rules in
     let value : r.value ≡ c.args.value.now = search rules in
     let unfenced : r.begun ≡ None = search rules in
-    paired_shown c.self.inside.segment r c.self.inside.seat c.show_stored.new.seat
+    paired_shown c.self.inside.segment r c.self.inside.seat c.publish.new.self
     c.args.value.now c.self.invariant (same g c) (ends g c) number value
-    (c.show_stored.ensures.shown.phase ∙ sym (ap phase_of unfenced))
+    (c.publish.ensures.shown.phase ∙ sym (ap phase_of unfenced))
 
 pub returns-clause-answer : goal.returns-clause-answer
 returns-clause-answer g c =
-    let shown = number_shown c.self.inside.seat c.show_stored.new.seat _ (same g c) (ends g c) in
-    let number = c.show_stored.ensures.number in
+    let shown = number_shown c.self.inside.seat c.publish.new.self _ (same g c) (ends g c) in
+    let number = c.publish.ensures.number in
     search rules
 
 pub returns-clause-advances : goal.returns-clause-advances
 returns-clause-advances g c =
-    let shown : EndsWith c.args.self.now.seat c.show_stored.new.seat c.args.value.now =
-    subst (λ (w : WriterState _). EndsWith w.seat c.show_stored.new.seat c.args.value.now) c.self.view_is
+    let shown : EndsWith c.args.self.now.seat c.publish.new.self c.args.value.now =
+    subst (λ (w : WriterState _). EndsWith w.seat c.publish.new.self c.args.value.now) c.self.view_is
     (ends g c) in
-    record { stored = search rules; shown = shown; phase = c.show_stored.ensures.shown.phase }
+    record { stored = search rules; shown = shown; phase = c.publish.ensures.shown.phase }
 
 pub returns-clause-shown : goal.returns-clause-shown
 returns-clause-shown g c =
