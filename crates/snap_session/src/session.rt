@@ -234,7 +234,7 @@ impl Session {
         ensures bounded { length self.old.owed ≤ most_owed → length self.new.owed ≤ most_owed }
         ensures held { self.new.over ≡ None → length self.new.held ≤ length self.old.held }
     {
-        if !self.is_free() {
+        if self.asked.is_some() {
             return WaitingFor::Outcome;
         }
         for _ in 0..MAX_ANSWERS {
