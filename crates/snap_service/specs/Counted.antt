@@ -24,9 +24,9 @@ pub record CountsNothing (old new : NodeState) : Type 0 where
 abbrev pub LooksOnce : Known → Known → Type 0
 LooksOnce a b = a.left ≤ b.left + 1
 
--- segment i doesn't exist, or the value is too long
-abbrev pub IsMisplaced : Known → ℕ → List ℕ → Type 0
-IsMisplaced a i v = (segments a.plan ≤ i) ⊎ (MAX_VALUE_LEN < length v)
+-- segment i isn't one of n, or the value is too long
+abbrev pub IsMisplaced : ℕ → ℕ → List ℕ → Type 0
+IsMisplaced n i v = (n ≤ i) ⊎ (MAX_VALUE_LEN < length v)
 
 -- one lock was taken and one update done, with at most one look
 pub record CountsOne (old new : NodeState) : Type 0 where
@@ -36,7 +36,7 @@ pub record CountsOne (old new : NodeState) : Type 0 where
 
 -- an update is done once by its writer, under one lock, or not at all if its place is refused
 abbrev pub CountsUpdate : NodeState → ℕ → List ℕ → NodeState → Type 0
-CountsUpdate old i v new = (IsMisplaced old.scanner i v × (new ≡ old))
+CountsUpdate old i v new = (IsMisplaced (segments old.scanner.plan) i v × (new ≡ old))
     ⊎ ((i < segments old.scanner.plan) × IsShort v × CountsOne old new)
 
 -- An update is done once by its writer or not at all, as `CountsUpdate` says; no other request changes a writer. A scan

@@ -2,5 +2,4 @@ pub mod Bounds
 pub mod Numbers
 pub mod Tallies
 pub mod Answered
-pub mod Stages
 pub mod Places

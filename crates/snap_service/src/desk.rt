@@ -70,11 +70,12 @@ pub fn answer_outcome<R: Wait + Copy, M: Memory, D: Disk + Drop>(
     ensures told { TellsUpdate outcome segment number value.now result }
 {
     let is_its = outcome.is_of(segment, number, value);
-    let is_there = segment < scanner.segments();
+    let count = scanner.segments();
+    let is_there = segment < count;
     if is_its && is_there {
         return outcome.tell(scanner);
     }
-    match refuse_place(scanner, segment, value) {
+    match refuse_place(count, segment, value) {
         Some(reply) => reply,
         None => answer_by_look(scanner, segment, number, value),
     }
@@ -106,7 +107,7 @@ fn ask<R: Wait + Copy + Clock, M: Memory, D: Disk + Drop, H: UpdateObserver, J: 
     ensures shared { may_store ≡ false → IfSome result (λ _.
         (scanner.new ≡ scanner.old) ⊎ (scanner.new.left + 1 ≡ scanner.old.left)) }
 {
-    if let Some(reply) = refuse_place(scanner, segment, value.as_slice()) {
+    if let Some(reply) = refuse_place(outbox.handles.len(), segment, value.as_slice()) {
         return Some(reply);
     }
     if may_store {

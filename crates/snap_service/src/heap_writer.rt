@@ -44,7 +44,7 @@ pub(crate) fn status_in(word: u64) -> SegmentStatus
 /// What it has stored was there at the opening, or was asked for.
 #[derive(Drop)]
 pub struct HeapWriter<M: Memory, D: Disk + Drop> {
-    writer: Box<Writer<D>>,
+    pub(crate) writer: Box<Writer<D>>,
     /// Its published status in one word, as [`status_in`] reads it.
     pub(crate) standing: Arc<AtomicU64, Global>,
     of: PhantomData<M>,

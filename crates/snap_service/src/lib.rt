@@ -41,7 +41,7 @@ pub use memory::Memory;
 pub use metrics::{
     BOUNDS, Counter, CountingObserver, CountingService, FIRST_BOUND, FailureObserver, Histogram,
     HistogramSnapshot, Looking, Metrics, MetricsSnapshot, REFUSALS, RequestCounts, SegmentMetrics,
-    SegmentSnapshot, TimedDisk, WorkerMetrics, milliseconds_of, nanoseconds_of, place_of, time_all,
+    SegmentSnapshot, TimedDisk, WorkerMetrics, milliseconds_of, place_of, time_all,
 };
 pub use node::Node;
 pub use outbox::{NoUpdateObserver, StorerHandle, UpdateObserver};

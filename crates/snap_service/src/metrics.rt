@@ -19,7 +19,7 @@ mod worker;
 
 pub use counter::Counter;
 pub use counting_service::{CountingObserver, CountingService, FailureObserver, Looking};
-pub use histogram::{Histogram, nanoseconds_of, place_of};
+pub use histogram::{Histogram, place_of};
 pub use segment::{SegmentMetrics, milliseconds_of};
 pub use snapshot::{
     BOUNDS, FIRST_BOUND, HistogramSnapshot, MetricsSnapshot, REFUSALS, RequestCounts,

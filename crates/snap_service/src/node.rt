@@ -64,7 +64,7 @@ impl<'a, R: Wait, M: Memory, D: Disk + Drop> Node<'a, R, M, D> {
         ensures limits { IsInLimits result }
         ensures counts { CountsUpdate self.old segment value.now self.new }
     {
-        if let Some(reply) = refuse_place(self.token.scanner(), segment, value) {
+        if let Some(reply) = refuse_place(self.token.scanner().segments(), segment, value) {
             return reply;
         }
         let shared = self.shared;

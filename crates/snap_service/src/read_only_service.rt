@@ -49,8 +49,7 @@ pub(crate) fn answer_unstored<T: AsRef<AtomicU64>>(
     ensures table { scanner.new.table ≡ scanner.old.table }
     ensures plan { scanner.new.plan ≡ scanner.old.plan }
 {
-    // Called for its clause on the scanner (docs/DECISIONS.md, 180).
-    let _segments = scanner.segments();
+    let count = scanner.segments();
     match request {
         Request::Update {
             segment,
@@ -58,7 +57,7 @@ pub(crate) fn answer_unstored<T: AsRef<AtomicU64>>(
             value,
         } => {
             let (segment, value) = (usize::from(*segment), value.as_slice());
-            match refuse_place(scanner, segment, value) {
+            match refuse_place(count, segment, value) {
                 Some(reply) => reply,
                 None => answer_by_look(scanner, segment, *number, value),
             }

@@ -2,7 +2,7 @@
 ghost use Rattle.std.specs.Prelude.{◌≡◌, ℕ, ◌+◌, ◌<◌, IfSome, IfNone};
 ghost use Rattle.snap_disk.specs.declared.refusal.Refusal.{Refusal};
 ghost use Rattle.snap_history.specs.Limits.{IsNumber, IsShort};
-ghost use Rattle.snap_memory.specs.Rule.{segments};
+ghost use Rattle.snap_memory.specs.{Rule.segments, Seat.Known};
 ghost use Rattle.snap_frame.specs.{declared.reply.Reply.Reply, Messages.IsInLimits};
 ghost use Rattle.snap_service.specs.Settled.{IsSettled, IsReplyByLook};
 ghost use Rattle.snap_service.specs.{Answers.AnswersUpdate, Counted.IsMisplaced};
@@ -12,20 +12,19 @@ use snap_frame::Reply;
 use snap_history::{LAST_NUMBER, MAX_VALUE_LEN};
 use snap_memory::Scanner;
 
-/// Refuses an update whose segment doesn't exist (2, with the number of segments), or whose value
-/// is too long (3, with its length), in this order. `None` if both are valid.
-pub fn refuse_place(scanner: &Scanner, segment: usize, value: &[u8]) -> Option<Reply>
-    ensures refused { IfSome result (λ r. (number : ℕ)
-        → AnswersUpdate scanner.now segment number value.now r scanner.now) }
-    ensures misplaced { IfSome result (λ _. IsMisplaced scanner.now segment value.now) }
-    ensures fine { IfNone result ((segment < segments scanner.now.plan) × IsShort value.now) }
+/// Refuses an update whose segment isn't one of `count` (2, with their number), or whose value is too long (3, with its
+/// length), in this order. `None` if both are valid.
+pub fn refuse_place(count: usize, segment: usize, value: &[u8]) -> Option<Reply>
+    ensures refused { IfSome result (λ r. (a : Known) (number : ℕ) → segments a.plan ≡ count
+        → AnswersUpdate a segment number value.now r a) }
+    ensures misplaced { IfSome result (λ _. IsMisplaced count segment value.now) }
+    ensures fine { IfNone result ((segment < count) × IsShort value.now) }
     ensures limits { IfSome result (λ r. IsInLimits r) }
 {
-    let segments = scanner.segments();
-    if segment >= segments {
+    if segment >= count {
         return Some(Reply::Refused {
             why: Refusal::NoSegment,
-            detail: segments as u64,
+            detail: count as u64,
         });
     }
     if value.len() > MAX_VALUE_LEN {

@@ -34,16 +34,16 @@ impl<M: Memory, D: Disk + Drop> WriterSlot<M, D> {
     pub(crate) fn take<R: Wait>(&self, rt: &R, segment: usize) -> Option<HeapWriter<M, D>>
         ensures { IfSome result (λ w. own_of w.seat ≡ segment) }
     {
-        let writer = self.here.recv(rt).ok()?;
-        (writer.as_ref().segment() == segment).then_some(writer)
+        let lent = self.here.recv(rt).ok()?;
+        (lent.writer.as_ref().segment() == segment).then_some(lent)
     }
 
     /// Takes the writer as [`WriterSlot::take`] does; also `None` if another has it.
     pub(crate) fn try_take<R: Wait>(&self, rt: &R, segment: usize) -> Option<HeapWriter<M, D>>
         ensures { IfSome result (λ w. own_of w.seat ≡ segment) }
     {
-        let writer = self.here.try_recv(rt).ok()?;
-        (writer.as_ref().segment() == segment).then_some(writer)
+        let lent = self.here.try_recv(rt).ok()?;
+        (lent.writer.as_ref().segment() == segment).then_some(lent)
     }
 }
 

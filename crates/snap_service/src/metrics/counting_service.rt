@@ -2,7 +2,7 @@
 ghost use Rattle.std.specs.Prelude.{◌≡◌, ◌-◌, ℕ, IfSome, IfNone};
 ghost use Rattle.snap_frame.specs.Messages.{IsAskable, IsInLimits};
 ghost use Rattle.snap_session.specs.Asked.{WasAsked};
-ghost use Rattle.snap_service.specs.metrics.Tallies.{nothing, counted};
+ghost use Rattle.snap_service.specs.metrics.{Tallies.nothing, Tallies.counted, Answered.looks_for};
 
 use crate::metrics::Metrics;
 use crate::metrics::snapshot::RequestCounts;
@@ -25,8 +25,8 @@ pub trait Looking {
 
 /// A service that counts its answers and publishes the counts. Its replies are those of the inner service.
 ///
-/// Models the inner service and the counts. Each request is counted once, as it is answered, with its reply and its
-/// looks; one that was handed over, as it is finished. No number falls.
+/// Models the inner service and the counts. Each request is counted once, as it is answered, with its reply, and a scan
+/// with its looks; one that was handed over, as it is finished. No number falls.
 #[derive(Drop)]
 pub struct CountingService<'a, S: Drop> {
     service: S,
@@ -56,14 +56,24 @@ impl<'a, S: Drop> CountingService<'a, S> {
 }
 
 impl<S: Service + Looking + Drop> CountingService<'_, S> {
-    /// Counts a request that the service answered. `looks_before` is the number of looks that were left before it.
+    /// The number of looks that are left, if this request is a scan, whose looks are counted; else 0.
+    fn looks_for(&self, request: &Request) -> u64
+        ensures { result ≡ looks_for request.now (S.looks self.now.service) }
+    {
+        match request {
+            Request::Scan | Request::Part(_) => self.service.looks_left(),
+            Request::Update { .. } | Request::Status => 0,
+        }
+    }
+
+    /// Counts a request that the service answered. `looks_before` is what [`CountingService::looks_for`] gave before.
     fn count(&mut self, request: &Request, reply: &Reply, looks_before: u64)
         requires limits { IsInLimits reply.now }
         ensures service { self.new.service ≡ self.old.service }
         ensures tally { self.new.tally ≡ counted self.old.tally request.now reply.now
-            (looks_before - S.looks self.old.service) }
+            (looks_before - looks_for request.now (S.looks self.old.service)) }
     {
-        let looks = looks_before.saturating_sub(self.service.looks_left());
+        let looks = looks_before.saturating_sub(self.looks_for(request));
         let before = self.tally;
         self.tally.count(request, reply, looks);
         self.metrics.follow(&before, &self.tally);
@@ -97,7 +107,7 @@ impl<S: Service + Looking + Drop> Service for CountingService<'_, S> {
         ensures under { IfNone result (S.hands_over_under key) }
         ensures counts { IfSome result (λ r. HasAnswered S.looks S.gives self.old request.now r self.new) }
     {
-        let looks = self.service.looks_left();
+        let looks = self.looks_for(request);
         let reply = self.service.answer(request, key)?;
         self.count(request, &reply, looks);
         Some(reply)
@@ -110,7 +120,7 @@ impl<S: Service + Looking + Drop> Service for CountingService<'_, S> {
         ensures tells { S.tells outcome request.now result }
         ensures counts { HasAnswered S.looks S.gives self.old request.now result self.new }
     {
-        let looks = self.service.looks_left();
+        let looks = self.looks_for(request);
         let reply = self.service.finish(request, outcome);
         self.count(request, &reply, looks);
         reply

@@ -1,18 +1,9 @@
 //! Histograms of times.
-ghost use Rattle.std.specs.Prelude.{◌≡◌, ◌-◌, ◌^◌, min};
-ghost use Rattle.std.specs.Duration.{as_nanos};
 ghost use Rattle.snap_service.specs.metrics.Bounds.{IsPlaceOf, bound_at};
 
 use crate::metrics::counter::{Counter, read_each};
 use crate::metrics::snapshot::{BOUNDS, FIRST_BOUND, HistogramSnapshot};
-use std::time::Duration;
-
-/// Converts a duration to nanoseconds, at most 2^64 - 1 (584 years).
-pub fn nanoseconds_of(took: Duration) -> u64
-    ensures { result ≡ min (as_nanos took) (2 ^ 64 - 1) }
-{
-    u64::try_from(took.as_nanos()).unwrap_or(u64::MAX)
-}
+use std::time::Instant;
 
 /// The bucket of a [`HistogramSnapshot`] that counts a time in nanoseconds: the first whose bound
 /// isn't smaller than the time, or [`BOUNDS`] if each bound is.
@@ -37,10 +28,11 @@ pub struct Histogram {
 }
 
 impl Histogram {
-    /// Counts one time; `None`, a time that couldn't be measured, isn't counted.
-    pub fn observe(&self, took: Option<Duration>) {
-        if let Some(took) = took {
-            let nanoseconds = nanoseconds_of(took);
+    /// Counts the time between two moments, if both could be read: 0 if the second is before the first.
+    pub fn observe(&self, from: Option<Instant>, until: Option<Instant>) {
+        if let (Some(from), Some(until)) = (from, until) {
+            let took = until.duration_since(from);
+            let nanoseconds = u64::try_from(took.as_nanos()).unwrap_or(u64::MAX);
             self.counts[place_of(nanoseconds)].add(1);
             self.total.add(nanoseconds);
         }

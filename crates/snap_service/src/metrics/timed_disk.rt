@@ -1,9 +1,8 @@
 //! Devices whose stores are timed.
 ghost use Rattle.std.specs.Prelude.{◌≡◌, ◌≤◌, IfOk, length};
-ghost use Rattle.snap_service.specs.metrics.Stages.{GoesBySync};
 
 use crate::metrics::Metrics;
-use crate::metrics::segment::{SegmentMetrics, milliseconds_of, took};
+use crate::metrics::segment::{SegmentMetrics, milliseconds_of};
 use snap_disk::{DeviceFault, Disk};
 use std::alloc::{AllocError, Global};
 use std::marker::Model;
@@ -25,38 +24,6 @@ pub(crate) enum TimedStore {
         began: Option<Instant>,
         synced: Option<Instant>,
     },
-}
-
-impl TimedStore {
-    /// The stage after a sync that succeeded, and began at `from` if it was a store's first: that one makes the value
-    /// durable, and the second one ends the store. Counts their times, and at the end sets the time of the last update.
-    fn after_sync<R: Clock>(
-        self,
-        clock: &R,
-        from: Option<Instant>,
-        metrics: &SegmentMetrics,
-    ) -> TimedStore
-        ensures { GoesBySync self result }
-    {
-        match self {
-            TimedStore::Resting => TimedStore::Resting,
-            TimedStore::Value { began } => {
-                let synced = Instant::now(clock).ok();
-                metrics.first_waits.observe(took(from, synced));
-                TimedStore::Gate { began, synced }
-            }
-            TimedStore::Gate { began, synced } => {
-                let ended = Instant::now(clock).ok();
-                metrics.second_waits.observe(took(synced, ended));
-                metrics.stores.observe(took(began, ended));
-                metrics.stored.add(1);
-                if let Ok(since_1970) = clock.since_1970() {
-                    metrics.updated.set(milliseconds_of(since_1970));
-                }
-                TimedStore::Resting
-            }
-        }
-    }
 }
 
 /// A device that times its stores, and otherwise behaves as the inner device.
@@ -141,14 +108,33 @@ impl<D: Disk + Drop, R: Clock + Copy> Disk for TimedDisk<'_, D, R> {
     }
 
     fn sync(&mut self) -> Result<(), DeviceFault> {
+        let metrics = self.metrics;
         let from = match self.stage {
             TimedStore::Value { .. } => Instant::now(&self.clock).ok(),
             _ => None,
         };
         let synced = self.disk.sync();
-        self.stage = match synced {
-            Ok(()) => self.stage.after_sync(&self.clock, from, self.metrics),
-            Err(DeviceFault) => TimedStore::Resting,
+        self.stage = match self.stage {
+            // The first sync of a store makes its value durable, and the second one ends it.
+            TimedStore::Value { began } if synced.is_ok() => {
+                let synced = Instant::now(&self.clock).ok();
+                metrics.first_waits.observe(from, synced);
+                TimedStore::Gate { began, synced }
+            }
+            TimedStore::Gate {
+                began,
+                synced: first,
+            } if synced.is_ok() => {
+                let ended = Instant::now(&self.clock).ok();
+                metrics.second_waits.observe(first, ended);
+                metrics.stores.observe(began, ended);
+                metrics.stored.add(1);
+                if let Ok(since_1970) = self.clock.since_1970() {
+                    metrics.updated.set(milliseconds_of(since_1970));
+                }
+                TimedStore::Resting
+            }
+            _ => TimedStore::Resting,
         };
         synced
     }

@@ -1,12 +1,11 @@
 //! Counters and histograms, and all metrics of a server.
 use snap_service::{
-    BOUNDS, Counter, FIRST_BOUND, Histogram, Metrics, REFUSALS, RequestCounts, nanoseconds_of,
-    place_of,
+    BOUNDS, Counter, FIRST_BOUND, Histogram, Metrics, REFUSALS, RequestCounts, place_of,
 };
 use std::process::Abort;
 use std::test::Fail;
 use std::thread;
-use std::time::Duration;
+use std::time::{Duration, Instant};
 
 #[test]
 fn counter_stays_at_the_largest(rt: HostRuntime) {
@@ -40,17 +39,30 @@ fn bounds_double_from_16_microseconds(rt: HostRuntime) {
 
 #[test]
 fn nanoseconds_stay_at_the_largest(rt: HostRuntime) {
-    assert!(rt; nanoseconds_of(Duration::from_millis(1_500)) == 1_500_000_000);
-    assert!(rt; nanoseconds_of(Duration::from_secs(18_446_744_073)) == 18_446_744_073_000_000_000);
-    assert!(rt; nanoseconds_of(Duration::from_secs(18_446_744_074)) == u64::MAX);
+    let from = Instant::now(&rt).ok();
+    for (time, nanoseconds) in [
+        (Duration::from_millis(1_500), 1_500_000_000),
+        (
+            Duration::from_secs(18_446_744_073),
+            18_446_744_073_000_000_000,
+        ),
+        (Duration::from_secs(18_446_744_074), u64::MAX),
+    ] {
+        let histogram = Histogram::default();
+        histogram.observe(from, from.and_then(|from| from.checked_add(time)));
+        assert!(rt; histogram.read().total == nanoseconds);
+    }
 }
 
 #[test]
 fn histogram_sorts_times(rt: HostRuntime) {
     let histogram = Histogram::default();
+    let from = Instant::now(&rt).ok();
     for micros in [16, 17, 20, 40, 20_000_000] {
-        histogram.observe(Some(Duration::from_micros(micros)));
+        let until = from.and_then(|from| from.checked_add(Duration::from_micros(micros)));
+        histogram.observe(from, until);
     }
+    histogram.observe(None, from);
     let times = histogram.read();
     let mut counts = [0; BOUNDS + 1];
     counts[0] = 1;

@@ -12,4 +12,5 @@ returns-in-Some-clause-answer g c =
     let Q : ℕ → Type 0 = λ s. AnswersUpdate scanner s number c.in-Update.value reply scanner in
     let R : Request → Type 0 = λ q. Answers scanner q reply scanner in
     subst R (sym c.in-Update.is)
-    (subst Q c.from-segment.ensures (subst P c.as_slice-value.ensures (c.in-Some.ensures.refused number)))
+    (subst Q c.from-segment.ensures (subst P c.as_slice-value.ensures
+    (c.in-Some.ensures.refused scanner number (sym c.segments-count.ensures.count))))
