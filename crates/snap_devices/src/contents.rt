@@ -13,8 +13,7 @@
 
 use crate::CallFault;
 use snap_slot::{
-    BLOCK_LEN, FILE_LEN, HEADER_GATE_AT, OPEN_GATE, SLOT_COUNT, VALUE_AT, body_at, gate_at,
-    next_slot,
+    BLOCK_LEN, BODIES_AT, FILE_LEN, GATES_AT, HEADER_GATE_AT, OPEN_GATE, SLOT_COUNT, VALUE_AT,
 };
 use std::fs::File;
 use std::io::{self, ErrorKind, Seek, SeekFrom};
@@ -55,10 +54,9 @@ impl Contents {
         if at == 0 && bytes.len() == FILE_LEN as usize {
             self.start.copy_from_slice(&bytes[..START_LEN]);
             self.header_gate = bytes[HEADER_GATE_AT as usize];
-            for slot in 0..SLOT_COUNT {
-                let body = body_at(slot) as usize;
-                let head = &mut self.slots[slot as usize];
-                head.gate = bytes[gate_at(slot) as usize];
+            for (slot, head) in self.slots.iter_mut().enumerate() {
+                let body = BODIES_AT[slot] as usize;
+                head.gate = bytes[GATES_AT[slot] as usize];
                 head.body.copy_from_slice(&bytes[body..body + VALUE_AT]);
             }
             self.opened = None;
@@ -107,16 +105,15 @@ impl Contents {
 
     /// Notes that these bytes were written from there on.
     fn note_write(&mut self, at: u64, bytes: &[u8]) {
-        for slot in 0..SLOT_COUNT {
-            let head = &mut self.slots[slot as usize];
-            if at == gate_at(slot) && bytes.len() == 1 {
+        for (slot, head) in self.slots.iter_mut().enumerate() {
+            if at == GATES_AT[slot] && bytes.len() == 1 {
                 head.gate = bytes[0];
                 if bytes[0] == OPEN_GATE {
-                    self.opened = Some(slot);
+                    self.opened = Some(slot as u64);
                 }
                 return;
             }
-            if at == body_at(slot) && bytes.len() >= VALUE_AT {
+            if at == BODIES_AT[slot] && bytes.len() >= VALUE_AT {
                 head.body.copy_from_slice(&bytes[..VALUE_AT]);
                 return;
             }
@@ -133,19 +130,19 @@ impl Contents {
         is_same &= found.starts_with(&self.start);
         is_same &= found[HEADER_GATE_AT as usize] == self.header_gate;
         let (first, after) = match self.opened {
-            Some(slot) if slot < SLOT_COUNT => (slot, slot + 1),
-            _ => (0, SLOT_COUNT),
+            Some(slot) if slot < SLOT_COUNT => (slot as usize, slot as usize + 1),
+            _ => (0, SLOT_COUNT as usize),
         };
         for slot in first..after {
-            let head = &self.slots[slot as usize];
-            file.read_exact_at(&mut found, gate_at(slot))?;
+            let head = &self.slots[slot];
+            file.read_exact_at(&mut found, GATES_AT[slot])?;
             is_same &= found[0] == head.gate;
             is_same &= found.ends_with(&head.body);
         }
         if after == first + 1 {
-            let next = next_slot(first);
-            file.read_exact_at(&mut found[..1], gate_at(next))?;
-            is_same &= found[0] == self.slots[next as usize].gate;
+            let next = after % SLOT_COUNT as usize;
+            file.read_exact_at(&mut found[..1], GATES_AT[next])?;
+            is_same &= found[0] == self.slots[next].gate;
         }
         Ok(is_same)
     }
