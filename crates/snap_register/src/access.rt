@@ -6,7 +6,7 @@ ghost use Rattle.snap_register.specs.Rule.{segments, buffers, width, given, cell
 ghost use Rattle.snap_register.specs.Setup.{IsSized, IsSeated};
 
 mod draft;
-pub(crate) mod looks;
+mod looks;
 mod meetings;
 mod publications;
 

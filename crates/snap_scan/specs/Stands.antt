@@ -4,7 +4,7 @@ use Rattle.snap_scan.specs.Looks.{IsClean, IsBorrow, IsNoFall}
 use Rattle.snap_scan.specs.Sets.{named, size}
 use Rattle.snap_scan.specs.declared.next.Next.TheVariants.{Look, Clean, Borrow}
 use Rattle.snap_scan.specs.declared.{limits.TheConstants.MAX_SEGMENTS, machine.Machine.Machine}
-use Rattle.snap_scan.specs.declared.{segments.Segments.Segments, set.SegmentSet.SegmentSet, next.Next.Next}
+use Rattle.snap_scan.specs.declared.{scan.Segments.Segments, set.SegmentSet.SegmentSet, next.Next.Next}
 
 -- each of the first k looks found a number less than 2 above that of its segment's first look
 abbrev pub AllLow : ℕ → List ℕ → ℕ → Type 0

@@ -30,7 +30,6 @@ mod machine;
 mod next;
 mod scan;
 mod segment_value;
-mod segments;
 mod set;
 
 pub use laws::collect_laws;

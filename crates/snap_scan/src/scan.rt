@@ -1,12 +1,11 @@
 //! One scan, from its start to its answer.
-ghost use Rattle.std.specs.Prelude.{◌≡◌, ℕ, ◌-◌, ◌^◌, ◌<◌, ◌≤◌, List, [], ◌∷◌, ◌++◌, length};
+ghost use Rattle.std.specs.Prelude.{◌≡◌, ℕ, ◌-◌, ◌^◌, ◌<◌, ◌≤◌, List, [], ◌∷◌, ◌++◌, length, take};
 ghost use Rattle.std.specs.Borrow.{ftrue};
-ghost use Rattle.snap_scan.specs.{Looks.IsNoFall, Sets.size, Sets.IsAt, Course.IsNext};
+ghost use Rattle.snap_scan.specs.{Looks.IsNoFall, Sets.named, Sets.size, Sets.IsAt, Course.IsNext};
 
 use crate::limits::MAX_SEGMENTS;
 use crate::machine::Machine;
 use crate::next::Next;
-use crate::segments::Segments;
 use crate::set::SegmentSet;
 use std::marker::Model;
 
@@ -101,6 +100,31 @@ impl Scan {
         };
         self.machine.told(place, number);
         self.numbers = self.numbers.then(&number);
+    }
+}
+
+/// The segments of a set, by their places in it.
+#[derive(Drop)]
+pub struct Segments {
+    pub(crate) count: usize,
+    pub(crate) list: [usize; MAX_SEGMENTS],
+}
+
+impl Segments {
+    /// The segments of `set`.
+    pub(crate) fn of(set: SegmentSet) -> Segments
+        ensures list { take result.count result.list ≡ named set.bits }
+        ensures count { result.count ≡ size set.bits }
+    {
+        let mut count = 0;
+        let mut list = [0; MAX_SEGMENTS];
+        for segment in 0..MAX_SEGMENTS {
+            if set.has(segment) {
+                list[count] = segment;
+                count += 1;
+            }
+        }
+        Segments { count, list }
     }
 }
 

@@ -3,7 +3,7 @@ ghost use Rattle.std.specs.Prelude.{◌≡◌, ◌-◌, ◌^◌, ◌<◌, ◌≤
 ghost use Rattle.snap_history.specs.declared.limits.TheConstants.{MAX_COUNT};
 ghost use Rattle.snap_scan.specs.Sets.{Names, size};
 
-use crate::segments::Segments;
+use crate::scan::Segments;
 
 /// A set of segments 0 to 15: bit i is set if the set names segment i.
 #[derive(Clone, Copy, Debug, PartialEq, Eq, Drop)]

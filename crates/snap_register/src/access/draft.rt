@@ -1,19 +1,18 @@
 //! The record of an update, drafted word by word in a free buffer; a block that the buffer holds already stays.
-ghost use Rattle.std.specs.Prelude.{◌≡◌, ℕ, ◌+◌, ◌-◌, ◌^◌, ◌*◌, ◌<◌, ◌≤◌, ◌++◌, ◌∷◌, length, take, [], IsTrue};
+ghost use Rattle.std.specs.Prelude.{◌≡◌, ℕ, ◌+◌, ◌-◌, ◌*◌, ◌<◌, ◌≤◌, ◌++◌, ◌∷◌, length, take, [], IsTrue};
 ghost use Rattle.snap_history.specs.Limits.{IsShort};
 ghost use Rattle.snap_register.specs.declared.words.TheConstants.{BLOCK_WORDS};
 ghost use Rattle.snap_register.specs.Rule.{segments, width, old_record, old_words, WasAt};
 ghost use Rattle.snap_register.specs.Words.{IsWhole, IsBlock, AreBlocks, bytes_at, piece, size_at, words_for};
 ghost use Rattle.snap_register.specs.Held.{held, taken, CanTake};
-ghost use Rattle.snap_register.specs.Steps.{view_at, view_of, draft_of, HasSeat, Owns, IsFree, HasPin, LiesAt, IsNext};
-ghost use Rattle.snap_register.specs.Steps.{IsOld, IsOf, IsAligned, Drafts, HasDrafted, HasCopied};
+ghost use Rattle.snap_register.specs.Steps.{view_of, draft_of, Owns, IsFree, HasPin, IsNext};
+ghost use Rattle.snap_register.specs.Steps.{IsOld, IsOf, IsAligned, HasDrafted, HasCopied};
 ghost use mathlib.Core.List.{IsPrefix};
 
 use crate::access::Access;
-use crate::access::looks::load_word;
-use crate::setup::{Redraft, Retain, Reuse, TableSeat, WordTable};
+use crate::setup::Retain;
 use crate::view::View;
-use crate::words::{block_size, tail_word, word_of};
+use crate::words::{block_size, copy_words, draft_word, tail_word, word_of};
 
 impl Access {
     /// Stores the block of this number and value at the start of the free buffer; `is_filled` if that has held a
@@ -178,41 +177,4 @@ pub(crate) struct DraftEnd {
     pub(crate) at: usize,
     /// Whether the next block of the record that the buffer held before begins there too.
     pub(crate) is_aligned: bool,
-}
-
-// Appends `count` words of a pinned record, from this place on, to the draft, which ends at `target`. The table is an
-// argument of its own, here and in `copy_value`, so that no word needs a lookup of where it is.
-fn copy_words(table: &WordTable, seat: &mut TableSeat, source: usize, target: usize, count: usize)
-    requires own { seat.old.table_id ≡ table.now.shared.table_id }
-    requires seated { HasSeat seat.old }
-    requires words { (j : ℕ) × (from : ℕ) × LiesAt (view_at seat.old) j from source
-        × (from + count ≤ length (held (view_at seat.old) j)) }
-    requires place { IsNext (view_at seat.old) target
-        × (length (view_at seat.old).pool.draft + count ≤ width (view_at seat.old).plan) }
-    requires fits { (source + count < 2 ^ 64) × (target + count < 2 ^ 64) }
-    ensures copied { (j from : ℕ) → LiesAt (view_at seat.old) j from source
-        → from + count ≤ length (held (view_at seat.old) j) → Drafts seat.old seat.new
-        ((view_at seat.old).pool.draft ++ piece (held (view_at seat.old) j) from count) }
-{
-    for q in 0..count {
-        let word = load_word(table, seat, source + q);
-        draft_word(table, seat, target + q, word);
-    }
-}
-
-// Makes x the next word of the free buffer, which is at this place. Returns what it was. A word that is there already
-// isn't stored: a load takes a fraction of the time of a sequentially consistent store.
-fn draft_word(table: &WordTable, seat: &mut TableSeat, place: usize, x: u64) -> u64
-    requires own { seat.old.table_id ≡ table.now.shared.table_id }
-    requires seated { HasSeat seat.old }
-    requires place { IsNext (view_at seat.old) place }
-    ensures drafted { Drafts seat.old seat.new ((view_at seat.old).pool.draft ++ x ∷ []) }
-    ensures seated { HasSeat seat.new }
-    ensures old { WasAt (view_at seat.old) (length (view_at seat.old).pool.draft) result }
-{
-    let old = table.shared.load::<Reuse>(seat, place);
-    if old != x {
-        table.shared.store::<Redraft>(seat, place, x);
-    }
-    old
 }

@@ -5,16 +5,16 @@ ghost use Rattle.snap_history.specs.{Limits.IsShort, declared.limits.TheConstant
 ghost use Rattle.snap_scan.specs.Sets.{Names};
 ghost use Rattle.snap_register.specs.declared.words.TheConstants.{BLOCK_WORDS};
 ghost use Rattle.snap_register.specs.Rule.{segments, Learns, IsLegal};
-ghost use Rattle.snap_register.specs.Words.{IsWhole, bytes_at, length_at, size_at, value_at, words_for};
+ghost use Rattle.snap_register.specs.Words.{IsWhole, length_at, size_at, value_at, words_for};
 ghost use Rattle.snap_register.specs.Held.{held, IsPinned, HasLookedFrom};
 ghost use Rattle.snap_register.specs.Seat.{Grows, IsBelow, number_in, Looks, HasLooked, IsValue, HasFoundUpdate};
 ghost use Rattle.snap_register.specs.Seat.{IsView};
-ghost use Rattle.snap_register.specs.Steps.{view_at, view_of, known_of, HasPin, LiesAt, HasSeat, IsSame};
+ghost use Rattle.snap_register.specs.Steps.{view_of, known_of, HasPin, LiesAt, IsSame};
 
 use crate::access::{Access, PIN_RANGE};
-use crate::setup::{GiveBack, Pin, Read, Revisit, TableSeat, WordTable};
+use crate::setup::{GiveBack, Pin, Revisit};
 use crate::snapshot::{NumberedValue, SnapshotBuf};
-use crate::words::block_size;
+use crate::words::{block_size, copy_value, load_word};
 use bytes::Bytes;
 use snap_scan::SegmentSet;
 use std::alloc::{AllocError, Global};
@@ -226,38 +226,4 @@ impl Access {
         out.length = self.read_value(j, at, &mut out.bytes);
         block_size(out.length)
     }
-}
-
-// Copies the value of the block at this place of a pinned record, `count` words, to the front of `out`.
-fn copy_value(table: &WordTable, seat: &mut TableSeat, place: usize, count: usize, out: &mut [u8])
-    requires own { seat.old.table_id ≡ table.now.shared.table_id }
-    requires seated { HasSeat seat.old }
-    requires block { (j : ℕ) × (at : ℕ) × LiesAt (view_at seat.old) j at place
-        × (at + 2 + count ≤ length (held (view_at seat.old) j)) }
-    requires fits { place + 2 + count < 2 ^ 64 }
-    requires room { 8 * count ≤ length out.old }
-    ensures size { length out.new ≡ length out.old }
-    ensures bytes { (j at : ℕ) → LiesAt (view_at seat.old) j at place
-        → at + 2 + count ≤ length (held (view_at seat.old) j)
-        → take (8 * count) out.new ≡ bytes_at (held (view_at seat.old) j) (at + 2) count }
-    ensures same { (seat.new.table_id ≡ seat.old.table_id) × (seat.new.id ≡ seat.old.id) × (seat.new.me ≡ seat.old.me) }
-{
-    for q in 0..count {
-        let word = load_word(table, seat, place + 2 + q);
-        let to = 8 * q;
-        out[to..to + 8].copy_from_slice(&word.to_le_bytes());
-    }
-}
-
-// Loads the word at this place of the table.
-pub(crate) fn load_word(table: &WordTable, seat: &mut TableSeat, place: usize) -> u64
-    requires own { seat.old.table_id ≡ table.now.shared.table_id }
-    requires seated { HasSeat seat.old }
-    requires place { (j : ℕ) × (q : ℕ) × LiesAt (view_at seat.old) j q place }
-    ensures word { (j q : ℕ) → LiesAt (view_at seat.old) j q place
-        → result ≡ slice_index (held (view_at seat.old) j) q }
-    ensures legal { IsLegal (view_at seat.old).plan (view_at seat.old).seen }
-    ensures same { (seat.new.table_id ≡ seat.old.table_id) × (seat.new.id ≡ seat.old.id) × (seat.new.me ≡ seat.old.me) }
-{
-    table.shared.load::<Read>(seat, place)
 }

@@ -2,8 +2,8 @@ use Rattle.std.proofs.Common.{◌≡◌, ℕ, ◌+◌, ◌≤◌, ◌++◌, ◌�
 use Rattle.std.proofs.Common.{append_assoc}
 use Rattle.snap_register.{specs.Steps.LiesAt, specs.Steps.IsNext, proofs.Spots.lies_more, proofs.Spots.next_more}
 use Rattle.snap_register.{specs.Registers.Mine, specs.Held.held, specs.Words.piece, proofs.Drafts.DraftedBy}
-use Rattle.snap_register.proofs.{Blocks.piece_more, Blocks.piece_length, access.draft.copy_words.Goals.In-loop-q}
-use Rattle.snap_register.proofs.access.draft.copy_words.Goals as goal
+use Rattle.snap_register.proofs.{Blocks.piece_more, Blocks.piece_length, words.copy_words.Goals.In-loop-q}
+use Rattle.snap_register.proofs.words.copy_words.Goals as goal
 
 -- the place of the next word
 lies : (c : In-loop-q) (j from : ℕ) → LiesAt c.args.seat.now.me.0 j from c.args.source

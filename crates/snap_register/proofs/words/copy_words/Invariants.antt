@@ -1,6 +1,6 @@
 use Rattle.std.proofs.Common.{ℕ, ◌+◌, ◌≤◌, ◌++◌, length}
 use Rattle.snap_register.specs.{Held.held, Words.piece, Steps.LiesAt, Steps.HasSeat, Steps.Drafts}
-use Rattle.snap_register.proofs.access.draft.copy_words.Given as goal
+use Rattle.snap_register.proofs.words.copy_words.Given as goal
 
 abbrev pub invariant-loop-q : goal.invariant-loop-q
 invariant-loop-q l = record {

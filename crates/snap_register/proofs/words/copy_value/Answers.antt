@@ -1,8 +1,8 @@
 use Rattle.std.{specs.Int.w64, specs.Int.to_le_bytes, proofs.lemmas.Slice.take-put_mid}
 use Rattle.std.proofs.Common.{rules, ◌≡◌, ℕ, ◌+◌, ◌-◌, ◌≤◌, ◌*◌, ◌++◌, List, length, get_or, ap, sym, ◌∙◌, arith}
-use Rattle.snap_register.proofs.{Blocks.bytes_more, Spots.lies_more, access.looks.copy_value.Goals.In-loop-q}
+use Rattle.snap_register.proofs.{Blocks.bytes_more, Spots.lies_more, words.copy_value.Goals.In-loop-q}
 use Rattle.snap_register.specs.{Registers.Mine, Held.held, Steps.LiesAt}
-use Rattle.snap_register.proofs.access.looks.copy_value.Goals as goal
+use Rattle.snap_register.proofs.words.copy_value.Goals as goal
 
 -- the place of the value's next word
 lies : (c : In-loop-q) (j at : ℕ) → LiesAt c.args.seat.now.me.0 j at c.args.place

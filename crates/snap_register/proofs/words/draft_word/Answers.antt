@@ -3,7 +3,7 @@ use Rattle.std.proofs.Math.Seq.{take-append_seam}
 use Rattle.atomic_table.specs.Seated.{TableId}
 use Rattle.snap_register.specs.{Registers.Mine, Rule.cell, Rule.without_last}
 use Rattle.snap_register.proofs.{Drafts.drafting, Later.seated_pool, Pools.redrafts, Pools.reuses, Spots.next_inside}
-use Rattle.snap_register.proofs.access.draft.draft_word.Goals as goal
+use Rattle.snap_register.proofs.words.draft_word.Goals as goal
 
 pub load-old-requires : goal.load-old-requires
 load-old-requires c =

@@ -1,8 +1,8 @@
 use Rattle.std.proofs.Common.{◌≡◌, ◌+◌, ◌<◌, ◌≤◌, arith, refl, length, ◌∙◌}
 use Rattle.std.proofs.lemmas.{Bool.iff_false, List.length-set}
 use Rattle.snap_scan.{specs.Sets.named_below, proofs.Sets.listed_with, proofs.Sets.listed_without}
-use Rattle.snap_scan.proofs.segments.Segments.of.Goals.{then-has, else-has}
-use Rattle.snap_scan.proofs.segments.Segments.of.Goals as goal
+use Rattle.snap_scan.proofs.scan.Segments.of.Goals.{then-has, else-has}
+use Rattle.snap_scan.proofs.scan.Segments.of.Goals as goal
 
 pub loop-segment-init : goal.loop-segment-init
 unfolding named_below

@@ -1,6 +1,6 @@
 use Rattle.std.proofs.Common.{◌-◌, arith, get_or}
 use Rattle.snap_register.{proofs.Keeps.reads, proofs.Spots.lies_inside}
-use Rattle.snap_register.proofs.access.looks.load_word.Goals as goal
+use Rattle.snap_register.proofs.words.load_word.Goals as goal
 
 pub load-requires : goal.load-requires
 load-requires c =

@@ -1,6 +1,6 @@
 use Rattle.std.proofs.Common.{◌≡◌, ℕ, ◌+◌, ◌*◌, ◌≤◌, length, take}
 use Rattle.snap_register.specs.{Held.held, Words.bytes_at, Steps.LiesAt}
-use Rattle.snap_register.proofs.access.looks.copy_value.Given as goal
+use Rattle.snap_register.proofs.words.copy_value.Given as goal
 
 abbrev pub invariant-loop-q : goal.invariant-loop-q
 invariant-loop-q l = record {

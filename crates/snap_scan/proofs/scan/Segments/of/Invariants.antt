@@ -1,6 +1,6 @@
 use Rattle.std.proofs.Common.{◌≡◌, ◌≤◌, take, length}
 use Rattle.snap_scan.specs.Sets.{named_below}
-use Rattle.snap_scan.proofs.segments.Segments.of.Given as goal
+use Rattle.snap_scan.proofs.scan.Segments.of.Given as goal
 
 abbrev pub invariant-loop-segment : goal.invariant-loop-segment
 invariant-loop-segment l = record {
