@@ -2,7 +2,7 @@
 ghost use Rattle.std.specs.Prelude.{◌≡◌, ℕ, ◌+◌, ◌<◌, ◌≤◌, ◌++◌, ◌∷◌, length, take, [], IsTrue, IfOk, ◌↔◌, slice_get};
 ghost use Rattle.snap_history.specs.Limits.{IsNumber, IsShort};
 ghost use Rattle.snap_history.specs.declared.limits.TheConstants.{MAX_COUNT, MAX_VALUE_LEN};
-ghost use Rattle.snap_scan.specs.Sets.{Names};
+ghost use Rattle.snap_scan.specs.{Looks.most_looks, Sets.Names};
 ghost use Rattle.snap_register.specs.Seat.{Known, own_of, number_in, IsBelow, AreTogether, Grows, Meets, Looks};
 ghost use Rattle.snap_register.specs.Seat.{HasLooked, HasFoundUpdate, IsValue, IsView, MayPublish, Shows};
 ghost use Rattle.snap_register.specs.Steps.{view_of, known_of, pool_of, Owns};
@@ -13,7 +13,7 @@ use crate::plan::{MAX_BUFFERS, UpdatePhase};
 use crate::snapshot::SnapshotBuf;
 use crate::view::View;
 use bytes::Bytes;
-use snap_scan::SegmentSet;
+use snap_scan::{SegmentSet, most_looks};
 use std::alloc::{AllocError, Global};
 use std::marker::Model;
 
@@ -240,6 +240,13 @@ impl WriteSeat {
         ensures number { result ≡ number_in self.now self.now.seen (own_of self.now) }
     {
         self.number
+    }
+
+    /// Whether enough looks are left for any scan of all segments ([`most_looks`]).
+    pub fn can_scan(&self) -> bool
+        ensures { IsTrue result ↔ (most_looks (segments self.now.plan) ≤ self.now.left) }
+    {
+        self.access.left >= most_looks(self.access.segments) as u64
     }
 
     /// Notes in the registers that a store of the next update begins: until [`end_store`](WriteSeat::end_store) a crash

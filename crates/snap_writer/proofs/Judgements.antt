@@ -2,7 +2,7 @@
 use Rattle.std.proofs.Common.{rules, ◌≡◌, ℕ, ◌+◌, List, length, Option, Some, None, refl, arith}
 use Rattle.snap_history.specs.declared.limits.TheConstants.{MAX_VALUE_LEN, LAST_NUMBER}
 use Rattle.snap_history.specs.Limits.{IsNumber, IsShort}
-use Rattle.snap_scan.specs.Looks.{most_looks}
+use Rattle.snap_memory.specs.Looks.{most_looks}
 use Rattle.snap_register.specs.Rule.{segments}
 use Rattle.snap_writer.specs.Writer.{WriterState, number_of, value_of}
 use Rattle.snap_writer.specs.declared.judgement.Judgement.TheVariants.{TooLong, Stored, Conflict, OutOfStep, Exhausted}

@@ -18,7 +18,6 @@ use snap_disk::{Disk, Refusal};
 use snap_history::{LAST_NUMBER, MAX_VALUE_LEN};
 use snap_memory::{Scanner, prepare};
 use snap_register::{Looker, WriteSeat};
-use snap_scan::most_looks;
 use snap_segment::Segment;
 use std::marker::Model;
 
@@ -97,6 +96,15 @@ impl<D: Disk> Writer<D> {
         self.segment.as_ref().is_fenced()
     }
 
+    /// The number shown last, and whether a store has failed.
+    pub fn status(&self) -> (u64, bool)
+        ensures number { result.0 ≡ number_of self.now }
+        ensures low { IsNumber result.0 }
+        ensures fence { IsTrue result.1 ↔ IsSome self.now.segment.begun }
+    {
+        (self.number(), self.is_fenced())
+    }
+
     /// The value whose store failed, if one has.
     pub fn begun(&self) -> Option<&[u8]>
         ensures { option_copied result ≡ self.now.segment.begun }
@@ -168,8 +176,9 @@ impl<D: Disk> Writer<D> {
             (number_of self.now) (value_of self.now) self.now.segment.begun
             self.now.segment.spare_open (D.device self.now.segment.device) }
     {
-        let fenced = self.segment.as_ref().is_fenced();
-        let shown = self.segment.as_ref().number();
+        let seat = &self.seat;
+        let fenced = self.is_fenced();
+        let shown = self.number();
         if value.len() > MAX_VALUE_LEN {
             return Judgement::TooLong;
         }
@@ -189,10 +198,11 @@ impl<D: Disk> Writer<D> {
         if fenced {
             return Judgement::Fenced;
         }
-        if self.seat.looks_left() < most_looks(self.seat.segments()) as u64 {
-            return Judgement::Worn;
+        if seat.can_scan() {
+            Judgement::Go
+        } else {
+            Judgement::Worn
         }
-        Judgement::Go
     }
 
     // Scans, stores and shows an update. The registers are told that the store begins, and that it has ended, so that
