@@ -43,6 +43,8 @@ where
     mailbox: Mailbox<S::Outcome>,
     sessions: Sessions<S>,
     is_open: bool,
+    /// Whether its service may wait, since nobody else waits for it.
+    may_wait: bool,
     spin: Spin,
     /// The idle timeout of its connections; `None` for no limit.
     timeout: Option<IdleTimeout>,
@@ -156,6 +158,7 @@ where
             mailbox,
             sessions: Sessions::new(alloc, service),
             is_open: true,
+            may_wait: false,
             spin: Spin::new(),
             timeout: idle.map(IdleTimeout::of),
             looked: None,
@@ -339,7 +342,11 @@ where
             self.take_arrival(rt, note);
             self.look_around(rt, note);
             let is_busy = self.sessions.connections.len() == 1 && self.mailbox.try_be_busy();
-            self.sessions.service.let_wait(is_busy);
+            let has_changed = self.may_wait != is_busy;
+            self.may_wait = is_busy;
+            if has_changed {
+                self.sessions.service.let_wait(is_busy);
+            }
             self.serve_listed(&mut piece, note);
             self.mailbox.be_free(is_busy);
         }

@@ -52,7 +52,8 @@ pub trait Service {
         ensures limits { IsInLimits result }
         ensures tells { Self.tells outcome request.now result };
 
-    /// Called before a round of turns: whether a request may take long, since nobody else waits for this service.
+    /// Called before a round of turns, if it has changed: whether a request may take long, since nobody else waits for
+    /// this service. None may at first.
     fn let_wait(&self, _may_wait: bool) {}
 
     /// Called when a session refused a frame without the service: it was no request, or too large.
