@@ -1,5 +1,5 @@
 -- An update's result fits the number and the value that it leaves.
-use Rattle.std.proofs.Common.{◌≡◌, ℕ, ◌+◌, List, Result, Ok, Err, OnOk, OnErr, refl, ap, sym, ◌∙◌, arith}
+use Rattle.std.proofs.Common.{◌≡◌, ℕ, ◌+◌, List, Result, Ok, Err, OnOk, OnErr, refl, ap, subst, sym, ◌∙◌, arith}
 use Rattle.snap_disk.specs.declared.refusal.Refusal.{Refusal}
 use Rattle.snap_history.specs.Limits.{IsNumber, IsShort}
 use Rattle.snap_segment.specs.Segment.{SegmentState}
@@ -11,7 +11,7 @@ use Rattle.snap_writer.specs.declared.judgement.Judgement.{TheVariants.OutOfStep
 use Rattle.snap_service.specs.Settled.{IsTellable}
 use Rattle.snap_disk.specs.declared.disk.Disk as Disk
 
-module _ {D : Type 0} (old new : WriterState D) (k : ℕ) (v : List ℕ) where
+module _ {D : Type 0} (old new : WriterState D) (k : ℕ) (v : List ℕ) (low : IsNumber (number_of old)) where
   at_rest : (told answer : Result ℕ Refusal) → told ≡ answer → new ≡ old
       → IsTellable old k v answer → IsTellable new k v told
   at_rest told answer e same h = rw (same, e) h
@@ -21,29 +21,35 @@ module _ {D : Type 0} (old new : WriterState D) (k : ℕ) (v : List ℕ) where
   moved shown (Ok n) rule answer advances fails =
       let one : new.segment.number ≡ old.segment.number + 1 = ap (λ (x : SegmentState D). x.number) advances.stored in
       let two : new.segment.value ≡ v = ap (λ (x : SegmentState D). x.value) advances.stored in
-      (answer, omega arith, sym two ∙ shown.1.1)
+      let at : k ≡ number_of new = omega arith in
+      ((answer, at, sym two ∙ shown.1.1), subst IsNumber at rule.1)
   moved shown (Err why) rule answer advances fails =
       let one : new.segment.number ≡ old.segment.number = ap (λ (x : SegmentState D). x.number) fails.fenced in
-      (refl, rw answer (omega arith, rule.1))
+      let at : number_of old ≡ number_of new = omega arith in
+      ((refl, rw answer (omega arith, rule.1)), subst IsNumber at low)
 
   module _ (disk : Disk.Ghosts D) (told : Result ℕ Refusal) (updated : IsUpdated disk old new k v told)
       (shown : IsShown old × IsShown new) (short : IsShort v) where
     told_by : (rule : Judgement) → IsJudged old k v rule → IsTellable new k v told
     told_by TooLong is = absurd (omega arith)
     told_by Stored is =
-        at_rest _ _ (updated.judged Stored is) (updated.unchanged Stored is (λ e. cc)) (refl, is.1, is.2)
+        at_rest _ _ (updated.judged Stored is) (updated.unchanged Stored is (λ e. cc)) ((refl, is.1, is.2), low)
     told_by Conflict is =
-        at_rest _ _ (updated.judged Conflict is) (updated.unchanged Conflict is (λ e. cc)) (refl, (is.1, is.2))
+        at_rest _ _ (updated.judged Conflict is) (updated.unchanged Conflict is (λ e. cc)) ((refl, (is.1, is.2)), low)
     told_by OutOfStep is =
-        at_rest _ _ (updated.judged OutOfStep is) (updated.unchanged OutOfStep is (λ e. cc)) (refl, (is.1, is.2))
+        at_rest _ _ (updated.judged OutOfStep is) (updated.unchanged OutOfStep is (λ e. cc)) ((refl, (is.1, is.2)), low)
     told_by Exhausted is =
-        at_rest _ _ (updated.judged Exhausted is) (updated.unchanged Exhausted is (λ e. cc)) (refl, (is.0.1, is.1))
+        let same = updated.unchanged Exhausted is (λ e. cc) in
+        at_rest _ _ (updated.judged Exhausted is) same ((refl, (is.0.1, is.1)), low)
     told_by Fenced is =
-        at_rest _ _ (updated.judged Fenced is) (updated.unchanged Fenced is (λ e. cc)) (refl, (is.0.1, is.1))
-    told_by Worn is = at_rest _ _ (updated.judged Worn is) (updated.unchanged Worn is (λ e. cc)) (refl, (is.0.1, is.1))
+        let same = updated.unchanged Fenced is (λ e. cc) in
+        at_rest _ _ (updated.judged Fenced is) same ((refl, (is.0.1, is.1)), low)
+    told_by Worn is =
+        let same = updated.unchanged Worn is (λ e. cc) in
+        at_rest _ _ (updated.judged Worn is) same ((refl, (is.0.1, is.1)), low)
     told_by Go is = moved shown told is (updated.judged Go is) (updated.advances is) (updated.fails is)
 
-    pub tellable : IsNumber (number_of old) → IsTellable new k v told
-    tellable low =
+    pub tellable : IsTellable new k v told
+    tellable =
         let is = some_rule old k v low in
         told_by is.0 is.1

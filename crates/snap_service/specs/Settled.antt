@@ -53,4 +53,4 @@ reply_of c (Err why) = Refused why c
 
 -- an update's result fits its writer's number and value, so that it can be the reply
 abbrev pub IsTellable : {D : Type 0} → WriterState D → ℕ → List ℕ → Result ℕ Refusal → Type 0
-IsTellable w k v told = IsSettled (number_of w) (value_of w) k v (reply_of (number_of w) told)
+IsTellable w k v told = IsSettled (number_of w) (value_of w) k v (reply_of (number_of w) told) × IsNumber (number_of w)

@@ -11,7 +11,7 @@ use crate::memory::Memory;
 use crate::metrics::Looking;
 use crate::outbox::{Outbox, Sent, StorerHandle, UpdateObserver};
 use crate::read_only_service::answer_unstored;
-use crate::verdict::{answer_by_look, refuse_place};
+use crate::settlement::{answer_by_look, refuse_place};
 use crate::writer_lease::Outcome;
 use bytes::Bytes;
 use snap_disk::Disk;

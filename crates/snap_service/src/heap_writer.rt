@@ -22,8 +22,9 @@ use std::sync::atomic::{AtomicU64, Ordering};
 fn word_of<D: Disk>(writer: &Writer<D>) -> u64
     ensures { IsWordOf writer.now result }
 {
-    let twice = writer.number() * 2;
-    if writer.is_fenced() { twice + 1 } else { twice }
+    let (number, is_fenced) = writer.status();
+    let twice = number * 2;
+    if is_fenced { twice + 1 } else { twice }
 }
 
 /// Reads a status from such a word.
@@ -44,20 +45,25 @@ pub(crate) fn status_in(word: u64) -> SegmentStatus
 /// What it has stored was there at the opening, or was asked for.
 #[derive(Drop)]
 pub struct HeapWriter<M: Memory, D: Disk + Drop> {
-    pub(crate) writer: Box<Writer<D>>,
+    writer: Box<Writer<D>>,
+    /// The segment that it writes.
+    pub(crate) segment: usize,
     /// Its published status in one word, as [`status_in`] reads it.
     pub(crate) standing: Arc<AtomicU64, Global>,
     of: PhantomData<M>,
 }
 
 impl<M: Memory, D: Disk + Drop> Model for HeapWriter<M, D> {
+    ghost use Rattle.std.specs.Prelude.{◌≡◌};
+    ghost use Rattle.snap_memory.specs.Seat.{own_of};
     ghost use Rattle.snap_service.specs.{Asked.StoresAsked, Memory.IsOf, Writer.WriterState};
 
     ghost Value = { WriterState D };
 
     ghost view = { λ w. w.writer.value };
 
-    ghost invariant = { λ w. IsOf M.table M.plan w.writer.value.seat × StoresAsked M.asked w.writer.value };
+    ghost invariant = { λ w. IsOf M.table M.plan w.writer.value.seat × StoresAsked M.asked w.writer.value
+        × (own_of w.writer.value.seat ≡ w.segment) };
 }
 
 impl<M: Memory, D: Disk + Drop> HeapWriter<M, D> {
@@ -69,9 +75,11 @@ impl<M: Memory, D: Disk + Drop> HeapWriter<M, D> {
         ensures { IfOk result (λ made. made ≡ writer) }
     {
         let standing = Arc::new(alloc, AtomicU64::new(word_of(&writer)))?;
+        let segment = writer.segment();
         let writer = Box::new(alloc, writer).map_err(|_| AllocError)?;
         Ok(HeapWriter {
             writer,
+            segment,
             standing,
             of: PhantomData,
         })

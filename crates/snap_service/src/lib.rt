@@ -30,7 +30,6 @@ mod scans;
 mod settlement;
 mod shared;
 mod storer;
-mod verdict;
 mod writer_lease;
 mod writer_slot;
 
@@ -47,8 +46,7 @@ pub use node::Node;
 pub use outbox::{NoUpdateObserver, StorerHandle, UpdateObserver};
 pub use read_only_service::ReadOnlyService;
 pub use scans::{answer_part, answer_scan};
-pub use settlement::settle;
+pub use settlement::{answer_by_look, refuse_place, settle};
 pub use shared::Shared;
 pub use storer::Storer;
-pub use verdict::{answer_by_look, refuse_place};
 pub use writer_lease::{Outcome, WriterLease, store_one};

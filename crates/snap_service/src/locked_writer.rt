@@ -10,8 +10,7 @@ ghost use Rattle.snap_service.specs.{Memory.IsOf, Updated.IsUpdatedAndTold};
 
 use crate::memory::Memory;
 use crate::scans::{answer_part, answer_scan};
-use crate::settlement::settle;
-use crate::verdict::answer_by_look;
+use crate::settlement::{answer_by_look, settle};
 use snap_disk::Disk;
 use snap_frame::{Reply, SegmentSet, SegmentStatus};
 use snap_memory::Scanner;

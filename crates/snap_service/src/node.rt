@@ -7,8 +7,8 @@ ghost use Rattle.snap_service.specs.Answers.{Answers, AnswersUpdate, AnswersScan
 
 use crate::locked_writer::LockToken;
 use crate::memory::Memory;
+use crate::settlement::refuse_place;
 use crate::shared::Shared;
-use crate::verdict::refuse_place;
 use snap_disk::{Disk, Refusal};
 use snap_frame::{Reply, Request};
 use snap_memory::Scanner;

@@ -8,7 +8,7 @@ use crate::heap_writer::status_in;
 use crate::memory::Memory;
 use crate::outbox::StorerHandle;
 use crate::scans::{answer_part, answer_scan};
-use crate::verdict::{answer_by_look, refuse_place};
+use crate::settlement::{answer_by_look, refuse_place};
 use snap_disk::{Disk, Refusal};
 use snap_frame::{Reply, Request, SegmentStatus};
 use snap_memory::Scanner;

@@ -35,7 +35,7 @@ impl<M: Memory, D: Disk + Drop> WriterSlot<M, D> {
         ensures { IfSome result (λ w. own_of w.seat ≡ segment) }
     {
         let lent = self.here.recv(rt).ok()?;
-        (lent.writer.as_ref().segment() == segment).then_some(lent)
+        (lent.segment == segment).then_some(lent)
     }
 
     /// Takes the writer as [`WriterSlot::take`] does; also `None` if another has it.
@@ -43,7 +43,7 @@ impl<M: Memory, D: Disk + Drop> WriterSlot<M, D> {
         ensures { IfSome result (λ w. own_of w.seat ≡ segment) }
     {
         let lent = self.here.try_recv(rt).ok()?;
-        (lent.writer.as_ref().segment() == segment).then_some(lent)
+        (lent.segment == segment).then_some(lent)
     }
 }
 

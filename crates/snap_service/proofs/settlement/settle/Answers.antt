@@ -8,7 +8,7 @@ use Rattle.snap_service.proofs.settlement.settle.Goals.{After-reply_told}
 told_fits : (g : _) (c : After-reply_told g)
     → IsTellable c.update-told.new.self c.args.number c.args.value.now c.update-told.result
 told_fits g c = let u = c.update-told.ensures in
-    tellable _ _ _ _ g.D.Disk _ u.updated u.shown c.requires.size u.low
+    tellable _ _ _ _ u.low g.D.Disk _ u.updated u.shown c.requires.size
 
 pub reply_told-requires : goal.reply_told-requires
 reply_told-requires g c = record {

@@ -1,4 +1,4 @@
-use Rattle.std.proofs.Common.{sym, subst, ◌∙◌}
+use Rattle.std.proofs.Common.{◌≡◌, sym, subst, ◌∙◌}
 use Rattle.snap_memory.specs.Seat.{own_of}
 use Rattle.snap_service.specs.{Asked.StoresAsked, Memory.IsOf, Writer.WriterState}
 use Rattle.snap_service.proofs.{Asked.asked_update, Told.tellable}
@@ -10,6 +10,7 @@ invariant_of-self g c =
     let same = sym c.as_mut.ensures.value in
     let Of : WriterState _ → Type 0 = λ w. IsOf g.M.Memory.table g.M.Memory.plan w.seat in
     let Stores : WriterState _ → Type 0 = λ w. StoresAsked asked w in
+    let Writes : WriterState _ → Type 0 = λ w. own_of w.seat ≡ c.self.inside.segment in
     let Asks : WriterState _ → Type 0 = λ w. asked (own_of w.seat) c.args.number c.args.value.now in
     let is_of = subst Of same c.self.invariant.0 in
     let asks = subst Asks (sym c.self.view_is ∙ same) c.requires.asked in
@@ -21,9 +22,10 @@ invariant_of-self g c =
       },
       asked_update asked c.as_mut.result.now c.update-told.new.self c.args.number c.args.value.now asks
           (subst Stores same c.self.invariant.1) g.D.Disk c.update-told.result c.update-told.ensures.low shown.0.0 done,
+      done.same_seat.low ∙ subst Writes same c.self.invariant.2,
     )
 
 pub returns-clause-tellable : goal.returns-clause-tellable
 returns-clause-tellable g c =
     let u = c.update-told.ensures in
-    tellable _ _ _ _ g.D.Disk _ u.updated u.shown c.requires.size u.low
+    tellable _ _ _ _ u.low g.D.Disk _ u.updated u.shown c.requires.size
