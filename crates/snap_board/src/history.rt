@@ -1,10 +1,10 @@
 //! The history of the last three minutes.
 
 use crate::document::Document;
-use snap_service::{BOUNDS, MetricsSnapshot, milliseconds_of};
+use snap_service::{BOUNDS, Metrics, MetricsSnapshot};
 use std::alloc::{AllocError, Global};
 use std::sync::atomic::{AtomicU64, Ordering};
-use std::time::Duration;
+use std::time::{Duration, Instant};
 
 /// The number of samples that are kept: one for each second of three minutes, and the one before them.
 const SAMPLES: u64 = 181;
@@ -28,6 +28,24 @@ pub struct History {
     taken: AtomicU64,
 }
 
+/// What fills a history: a server's metrics, and the time of its start, `None` if the clock couldn't be read.
+#[derive(Clone, Copy)]
+pub struct Sampler<'a> {
+    pub alloc: Global,
+    pub metrics: &'a Metrics,
+    pub began: Option<Instant>,
+    pub history: &'a History,
+}
+
+impl Sampler<'_> {
+    /// Takes a sample of the metrics at `now`, or none if memory runs out or the time of the start isn't known.
+    pub(crate) fn sample(&self, now: Instant) {
+        if let (Some(began), Ok(reading)) = (self.began, self.metrics.read(self.alloc)) {
+            self.history.take(&reading, now.duration_since(began));
+        }
+    }
+}
+
 impl History {
     /// An empty history. If memory for the samples runs out, no sample is ever kept.
     pub fn new(alloc: Global) -> History {
@@ -46,16 +64,14 @@ impl History {
         };
         let requests = &reading.requests;
         let scans = requests.scans.saturating_add(requests.parts);
-        sample
-            .uptime
-            .store(milliseconds_of(uptime), Ordering::SeqCst);
+        let milliseconds = uptime.as_millis() as u64;
+        sample.uptime.store(milliseconds, Ordering::SeqCst);
         sample.scans.store(scans, Ordering::SeqCst);
         for (place, count) in sample.stores.iter().enumerate() {
-            let counts = reading
-                .segments
-                .iter()
-                .filter_map(|segment| segment.stores.counts.get(place));
-            let sum = counts.fold(0, |sum: u64, count| sum.saturating_add(*count));
+            let mut sum = 0u64;
+            for segment in &reading.segments {
+                sum = sum.saturating_add(segment.stores.counts[place]);
+            }
             count.store(sum, Ordering::SeqCst);
         }
         self.taken.store(taken.saturating_add(1), Ordering::SeqCst);

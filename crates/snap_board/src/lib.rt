@@ -22,6 +22,6 @@ mod style;
 
 pub use board::Board;
 pub use facts::{FactSource, ServerFacts, Usage};
-pub use history::History;
+pub use history::{History, Sampler};
 pub use page::Page;
-pub use server::{Beat, HttpServer, MAX_CONNECTIONS, StopHandle};
+pub use server::{HttpServer, MAX_CONNECTIONS, StopHandle};

@@ -9,6 +9,7 @@ ghost use Rattle.snap_board.specs.Answered.{Answered};
 mod connection;
 mod connections;
 
+use crate::history::Sampler;
 use connections::Connections;
 pub use connections::MAX_CONNECTIONS;
 use http_server::Service;
@@ -38,19 +39,8 @@ const MAX_ACCEPTS: u32 = 16;
 /// The pause after a failed accept, in milliseconds.
 const ACCEPT_REST: u64 = 100;
 
-/// The seconds between two runs of the [`Beat`], and so the longest wait. Idle connections are closed as often.
-const BEAT_REST: u64 = 1;
-
-/// A task that runs about once a second while a server serves, with or without requests.
-pub trait Beat {
-    /// Runs the task, at least a second after the last time. No request is answered meanwhile.
-    fn beat(&self);
-}
-
-/// A task that does nothing.
-impl Beat for () {
-    fn beat(&self) {}
-}
+/// The seconds between two samples, and so the longest wait. Idle connections are closed as often.
+const SAMPLE_REST: u64 = 1;
 
 /// Wakes the thread of a server, which then reads `is_set`.
 #[derive(Drop)]
@@ -90,8 +80,8 @@ pub struct HttpServer {
     stopping: Arc<StopSignal, Global>,
     /// The time of the last wait.
     time: Instant,
-    /// The time of the last run of the [`Beat`].
-    beaten: Instant,
+    /// The time of the last sample.
+    sampled: Instant,
 }
 
 impl HttpServer {
@@ -120,20 +110,20 @@ impl HttpServer {
             connections: Connections::new(alloc, keys),
             stopping,
             time: now,
-            beaten: now,
+            sampled: now,
         };
         Ok((server, StopHandle { signal }))
     }
 
     /// Answers requests by this service until it is stopped; then it returns `Ok`, and pending
-    /// output is lost. It runs `beat` about once a second.
+    /// output is lost. It takes a sample about once a second.
     ///
     /// Fails only if the system's wait for events fails, never because of a peer or because memory ran out.
-    pub fn serve<X: Wait + Clock, S: Service, B: Beat>(
+    pub fn serve<X: Wait + Clock, S: Service>(
         &mut self,
         rt: &X,
         service: &mut S,
-        beat: &B,
+        sampler: Option<Sampler<'_>>,
     ) -> io::Result<()>
         ensures { Answered S.answers service.old service.new }
     {
@@ -144,9 +134,11 @@ impl HttpServer {
             self.wait()?;
             // If the clock can't be read, no time has passed.
             self.time = Instant::now(rt).unwrap_or(self.time);
-            if self.time.duration_since(self.beaten) >= Duration::from_secs(BEAT_REST) {
-                self.beaten = self.time;
-                beat.beat();
+            if self.time.duration_since(self.sampled) >= Duration::from_secs(SAMPLE_REST) {
+                self.sampled = self.time;
+                if let Some(sampler) = sampler {
+                    sampler.sample(self.time);
+                }
             }
             self.take_events(service);
             self.accept_waiting();
@@ -155,12 +147,12 @@ impl HttpServer {
         unreachable!()
     }
 
-    /// Waits for events, at most until the next accept or the next run of the [`Beat`].
+    /// Waits for events, at most until the next accept or the next sample.
     fn wait(&mut self) -> io::Result<()> {
-        let beat_rest = Duration::from_secs(BEAT_REST).saturating_sub(
-            self.time.duration_since(self.beaten),
+        let rest = Duration::from_secs(SAMPLE_REST).saturating_sub(
+            self.time.duration_since(self.sampled),
         );
-        let most = self.accept_rest.unwrap_or(beat_rest);
+        let most = self.accept_rest.unwrap_or(rest);
         self.poll.poll(&mut self.events, Some(most))
     }
 

@@ -3,7 +3,7 @@
 use crate::surroundings::{Process, Seen};
 use log::{info, warn};
 use mio::net::TcpListener;
-use snap_board::{Board, History, HttpServer, StopHandle};
+use snap_board::{Board, History, HttpServer, Sampler, StopHandle};
 use snap_log::Lines;
 use snap_order::{
     MAX_SCANNERS, ServeOptions, Status, fail_of, say, say_of, socket_path, stop_without_memory,
@@ -113,7 +113,13 @@ impl<X: Wait + Clock> Observer for HttpView<'_, X> {
             history: &history,
         };
         let mut board = Board::new(alloc, service, seen);
-        if let Err(error) = server.serve(rt, &mut board, &seen) {
+        let sampler = Sampler {
+            alloc,
+            metrics: self.process.metrics,
+            began: self.process.began,
+            history: &history,
+        };
+        if let Err(error) = server.serve(rt, &mut board, Some(sampler)) {
             warn!(self.log; target: "http", "no browser and no monitor is answered any more: {error}");
         }
     }

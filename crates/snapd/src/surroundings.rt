@@ -2,7 +2,7 @@
 //! processor time and clocks.
 
 use snap_args::VERSION;
-use snap_board::{Beat, FactSource, History, ServerFacts, Usage};
+use snap_board::{FactSource, History, ServerFacts, Usage};
 use snap_file_commands::system::limit_of;
 use snap_frame::SegmentStatus;
 use snap_log::Lines;
@@ -117,18 +117,6 @@ pub struct Seen<'a, 'h, X: Wait + Clock> {
     pub process: &'a Process<'a>,
     pub log: &'a Lines<'a, X>,
     pub history: &'h History,
-}
-
-/// Takes a sample of the metrics, or none if memory runs out.
-impl<X: Wait + Clock> Beat for Seen<'_, '_, X> {
-    fn beat(&self) {
-        let Ok(reading) = self.process.metrics.read(self.process.rt.alloc()) else {
-            return;
-        };
-        if let Some(uptime) = self.process.uptime() {
-            self.history.take(&reading, uptime);
-        }
-    }
 }
 
 impl<X: Wait + Clock> FactSource for Seen<'_, '_, X> {

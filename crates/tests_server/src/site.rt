@@ -107,7 +107,7 @@ fn asked<R: Threads + Wait + Clock + RandomSource + Net<Stream = TcpStream> + Al
         rt,
         move || {
             let mut server = server;
-            server.serve(rt, &mut Greeter, &())
+            server.serve(rt, &mut Greeter, None)
         },
         move || {
             let answer = ask(rt, address, deed);
@@ -168,8 +168,8 @@ fn a_stop_is_kept(rt: HostRuntime) -> Result<(), Fail> {
     let (mut server, stop, _) = open(&rt)?;
     stop.stop();
     stop.stop();
-    server.serve(&rt, &mut Greeter, &())?;
+    server.serve(&rt, &mut Greeter, None)?;
     drop(stop);
-    server.serve(&rt, &mut Greeter, &())?;
+    server.serve(&rt, &mut Greeter, None)?;
     Ok(())
 }
