@@ -64,7 +64,7 @@ impl History {
         };
         let requests = &reading.requests;
         let scans = requests.scans.saturating_add(requests.parts);
-        let milliseconds = uptime.as_millis() as u64;
+        let milliseconds = u64::try_from(uptime.as_millis()).unwrap_or(u64::MAX);
         sample.uptime.store(milliseconds, Ordering::SeqCst);
         sample.scans.store(scans, Ordering::SeqCst);
         for (place, count) in sample.stores.iter().enumerate() {
