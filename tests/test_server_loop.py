@@ -233,6 +233,42 @@ def test_an_update_whose_peer_is_gone_leaves_the_gate(_, __):
         assert trial.end()[1:] == ("entered 2, left 2", "served 2")
 
 
+def requests(length):
+    """Requests of so many bytes in all, and their replies."""
+    others = length % len(SCAN)
+    scans = (length - others * len(NO_REQUEST)) // len(SCAN)
+    return SCAN * scans + NO_REQUEST * others, SCANNED * scans + MALFORMED * others
+
+
+def test_what_comes_behind_a_read_is_read(_, __):
+    """Whether it filled the worker's buffer of 4,096 bytes or not: further requests, and the end, at once or later."""
+    lengths = (len(SCAN), 4_095, 4_096, 4_097, 8_192, 20_480)
+    with Trial(1, 20_000, 3 * len(lengths) + 1) as trial:
+        for length in lengths:
+            sent, replies = requests(length)
+            for rest in (0, 0.05, None):
+                with trial.connect() as stream:
+                    stream.sendall(sent)
+                    if rest is not None:
+                        time.sleep(rest)
+                        stream.sendall(SCAN)
+                        stream.shutdown(socket.SHUT_WR)
+                    assert received(stream, len(replies)) == replies
+                    if rest is None:
+                        stream.sendall(SCAN)
+                        stream.shutdown(socket.SHUT_WR)
+                    assert to_its_end(stream) == SCANNED
+        # The end comes while an update is stored, behind a request.
+        with trial.connect() as stream:
+            stream.sendall(UPDATE)
+            time.sleep(0.005)
+            stream.sendall(SCAN)
+            stream.shutdown(socket.SHUT_WR)
+            assert to_its_end(stream) == STORED + SCANNED
+        ends, _, last = trial.end()
+        assert last == f"served {3 * len(lengths) + 1}" and len(ends) == 3 * len(lengths) + 1, (ends, last)
+
+
 def test_random_bytes(_, rng):
     with Trial(2, 0, 101) as trial:
         for number in range(100):

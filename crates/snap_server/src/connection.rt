@@ -4,6 +4,7 @@ ghost use Rattle.snap_session.specs.Talk.{HoldsFrameAnd, start, most_owed};
 ghost use Rattle.snap_session.specs.{Asked.AllAsked, Turns.StandsAt, Turns.TakesRounds};
 ghost use Rattle.snap_server.specs.{Scene.scene, declared.connection.TheConstants.PIECE};
 
+use crate::input::{Input, InputReader};
 use crate::listen::{Accepted, Peer};
 use crate::stream::Stream;
 use snap_session::{End, Polled, Service, Session, proceed};
@@ -105,6 +106,7 @@ pub enum IdleCheck {
 #[derive(Drop)]
 pub struct Connection {
     pub socket: Stream,
+    pub input: Input,
     peer: Peer,
     pub session: Session,
     stage: ConnectionState,
@@ -125,6 +127,7 @@ impl Connection {
         let Accepted { stream, peer } = arrival;
         Connection {
             socket: stream,
+            input: Input::new(),
             peer,
             session: Session::new(alloc),
             stage: ConnectionState::Idle,
@@ -171,7 +174,10 @@ impl Connection {
         ensures stage { self.new.stage ≡ self.old.stage }
     {
         self.looks = 0;
-        let mut reader = &self.socket;
+        let mut reader = InputReader {
+            stream: &self.socket,
+            input: &self.input,
+        };
         let mut writer = &self.socket;
         proceed(
             &mut self.session,

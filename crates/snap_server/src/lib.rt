@@ -13,6 +13,7 @@ mod connection;
 mod dispatcher;
 mod fault;
 mod gate;
+mod input;
 mod listen;
 mod listeners;
 mod mailbox;

@@ -79,6 +79,9 @@ fn list_ready<S: Service + Drop, N: Fn(&ServerEvent)>(
                 if event.is_error() {
                     look_at(sessions, key, &IdleCheck::Lost, limit, note);
                 }
+                if let Some(connection) = sessions.connections.get(key) {
+                    connection.input.note(event.is_read_closed());
+                }
                 sessions.list(key);
             }
         }
