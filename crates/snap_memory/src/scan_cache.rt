@@ -160,8 +160,8 @@ fn list<L: Looker>(
     ensures kept { AreKept (L.known seat.old) cache.new.items }
     ensures same { L.known seat.new ≡ L.known seat.old }
 {
-    let mut values = Vec::with_capacity(alloc, set.len())?;
-    for i in 0..seat.segments() {
+    let mut values = Vec::with_capacity(alloc, cache.len())?;
+    for i in 0..MAX_SEGMENTS {
         if set.has(i) {
             let entry = take_entry(alloc, seat, i, found, &mut cache[i])?;
             values.push(entry)?;

@@ -16,7 +16,7 @@ use crate::snapshot::Snapshot;
 use snap_disk::Refusal;
 use snap_history::MAX_VALUE_LEN;
 use snap_register::{Looker, ReadSeat, WriteSeat};
-use snap_scan::{MAX_SEGMENTS, SegmentSet, SegmentValue, most_looks};
+use snap_scan::{SegmentSet, SegmentValue, most_looks};
 use std::alloc::{AllocError, Global};
 use std::marker::Model;
 use std::mem;
@@ -65,14 +65,6 @@ impl Scanner {
         self.seat.looks_left()
     }
 
-    /// Whether fewer looks are left than a scan of `count` segments might take.
-    fn is_worn(&self, count: usize) -> bool
-        requires { count ≤ MAX_SEGMENTS }
-        ensures { IsTrue result ↔ (self.now.left < most_looks count) }
-    {
-        self.seat.looks_left() < most_looks(count) as u64
-    }
-
     /// Fills `out` with the number and the value of each segment, all of one moment. This is the memory after a list of
     /// updates that begins with all that the scanner had seen before this call and with all that was in the history at
     /// the first look of this call, and that is a beginning of all that the scanner has seen afterwards. Uses up looks.
@@ -111,7 +103,7 @@ impl Scanner {
         ensures kept { OnErr result (out.new ≡ out.old) }
         ensures unchanged { OnErr result (self.new ≡ self.old) }
     {
-        if self.is_worn(set.len()) {
+        if self.looks_left() < most_looks(set.len()) as u64 {
             return Err(Refusal::Worn);
         }
         scan_some(&mut self.seat, set, &mut out.buf);
@@ -134,7 +126,7 @@ impl Scanner {
         ensures below { OnOk result (IsBelow self.new) }
         ensures left { OnOk result (TakesLooksOf (size set.bits) self.old self.new) }
     {
-        if self.is_worn(set.len()) {
+        if self.looks_left() < most_looks(set.len()) as u64 {
             return Err(Refusal::Worn);
         }
         let mut cache = match mem::replace(&mut self.cache, ScanCache::Absent) {

@@ -1,7 +1,6 @@
 //! A seat with its table, and the places of the table's words. The folder has its operations:
 //! looks, drafts of updates, publications, and meetings.
-ghost use Rattle.std.specs.Prelude.{◌≡◌, ◌<◌, ◌≤◌, IsTrue, ◌↔◌};
-ghost use Rattle.snap_history.specs.declared.limits.TheConstants.{MAX_COUNT};
+ghost use Rattle.std.specs.Prelude.{◌≡◌, ◌<◌, IsTrue, ◌↔◌};
 ghost use Rattle.snap_register.specs.Rule.{segments, buffers, width, given, cell};
 ghost use Rattle.snap_register.specs.Setup.{IsSized, IsSeated};
 
@@ -37,14 +36,6 @@ pub(crate) struct Access {
 
 impl Access {
     ghost use Rattle.snap_register.specs.{Seat.HasLooked, Steps.view_of, Steps.known_of};
-
-    /// How many segments there are.
-    pub(crate) fn count_segments(&self) -> usize
-        ensures count { result ≡ segments (view_of self.now).plan }
-        ensures some { (0 < result) × (result ≤ MAX_COUNT) }
-    {
-        self.segments
-    }
 
     /// Whether the seat has looked at `j`; that buffer is still pinned.
     pub(crate) fn has_looked(&self, j: usize) -> bool

@@ -104,7 +104,7 @@ impl Looker for ReadSeat {
     }
 
     fn segments(&self) -> usize {
-        self.access.count_segments()
+        self.access.segments
     }
 
     fn has_looked(&self, j: usize) -> bool {
@@ -185,7 +185,7 @@ impl Looker for WriteSeat {
         ensures some { (0 < result) × (result ≤ MAX_COUNT) }
         ensures alone { self.now.high ≡ self.now.low + 1 }
     {
-        self.access.count_segments()
+        self.access.segments
     }
 
     fn has_looked(&self, j: usize) -> bool {

@@ -130,7 +130,7 @@ module _ (set : ℕ) where
   at_is p j at = get_or_from_slice_get (named set) p j 0 at
 
   -- a set below 2 ^ n names no segment from n on
-  named_low : (n j : ℕ) → set < 2 ^ n → Names set j → j < n
+  pub named_low : (n j : ℕ) → set < 2 ^ n → Names set j → j < n
   named_low n j l is = grind (arith, bit_at_above)
 
   pub at_below : (n p j : ℕ) → set < 2 ^ n → IsAt set p j → j < n

@@ -20,7 +20,7 @@ use snap_scan::SegmentSet;
 use std::alloc::{AllocError, Global};
 
 impl Access {
-    /// A look: pins the current record of `j`, and returns its number.
+    /// A look: pins the current record of `j`, unless it is pinned, and returns its number.
     pub(crate) fn look(&mut self, j: usize) -> u64
         requires { (j < segments (view_of self.old).plan) × (0 < self.old.left) }
         ensures seen { Grows (known_of self.old) (known_of self.new) }
@@ -35,24 +35,11 @@ impl Access {
         ensures view { HasLookedFrom (view_of self.old) (view_of self.new) }
         ensures learns { Learns (view_of self.old) (view_of self.new) }
     {
-        self.hold(j);
-        self.read(j, 0)
-    }
-
-    // Looks at `j`: afterwards the seat pins the current buffer there.
-    fn hold(&mut self, j: usize)
-        requires { (j < segments (view_of self.old).plan) × (0 < self.old.left) }
-        ensures learns { Learns (view_of self.old) (view_of self.new) }
-        ensures looks { IsPinned (view_of self.old) (view_of self.new) j }
-        ensures left { self.new.left + 1 ≡ self.old.left }
-        ensures same { (self.new.seat.table_id ≡ self.old.seat.table_id)
-            × (self.new.seat.id ≡ self.old.seat.id) × (self.new.seat.me.1 ≡ self.old.seat.me.1) }
-        ensures view { HasLookedFrom (view_of self.old) (view_of self.new) }
-    {
         if !self.revisit(j) {
             self.give_back(j);
             self.pin(j);
         }
+        self.read(j, 0)
     }
 
     // Looks at `j`, if the buffer that the seat pins there is still the current one. Threads take turns for additions,
@@ -184,7 +171,7 @@ impl Access {
         ensures size { IfOk result (λ v. IsShort v) }
         ensures same { IsSame self.old self.new }
     {
-        let words = self.size_at(j, 0) - 2;
+        let words = (self.read(j, 1) as usize + 7) / 8;
         let mut value = Vec::new(alloc);
         value.resize(8 * words, 0)?;
         let length = self.read_value(j, 0, &mut value);
@@ -201,9 +188,8 @@ impl Access {
         ensures others { (i : ℕ) → (Names set.bits i → ⊥) → slice_get out.new i ≡ slice_get out.old i }
         ensures same { IsSame self.old self.new }
     {
-        let segments = self.count_segments();
         let mut at = self.size_at(j, 0);
-        for k in 0..segments {
+        for k in 0..self.segments {
             at += self.read_named(j, at, set.has(k), &mut out.segments[k]);
         }
     }

@@ -4,8 +4,8 @@ use Rattle.snap_memory.specs.ScanCaches.{Fits}
 use Rattle.snap_memory.proofs.scanner.Scanner.scan.Goals.{in-Kept, in-Absent+in-Ok}
 use Rattle.snap_memory.proofs.scanner.Scanner.scan.Goals as goal
 
-pub is_worn-requires : goal.is_worn-requires
-is_worn-requires c = subst (λ n. n ≤ 16) (sym c.len.ensures.size) (few c.args.set.bits)
+pub most_looks-requires : goal.most_looks-requires
+most_looks-requires c = subst (λ n. n ≤ 16) (sym c.len.ensures.size) (few c.args.set.bits)
 
 pub scan_kept-values-requires-clause-kept : goal.scan_kept-values-requires-clause-kept
 scan_kept-values-requires-clause-kept c =

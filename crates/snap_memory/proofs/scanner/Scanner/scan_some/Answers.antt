@@ -3,8 +3,8 @@ use Rattle.snap_scan.proofs.Sets.{few}
 use Rattle.snap_memory.proofs.Kept.{fits_grown}
 use Rattle.snap_memory.proofs.scanner.Scanner.scan_some.Goals as goal
 
-pub is_worn-requires : goal.is_worn-requires
-is_worn-requires c = subst (λ n. n ≤ 16) (sym c.len.ensures.size) (few c.args.set.bits)
+pub most_looks-requires : goal.most_looks-requires
+most_looks-requires c = subst (λ n. n ≤ 16) (sym c.len.ensures.size) (few c.args.set.bits)
 
 pub invariant_of-self : goal.invariant_of-self
 invariant_of-self c =

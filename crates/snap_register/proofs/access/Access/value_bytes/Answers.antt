@@ -19,4 +19,4 @@ returns-clause-value c =
     (me.seated.records_are c.args.j c.requires.segment) (c.in_ok-from_vec.ensures.ok ∙ c.truncate.ensures.items
     ∙ ap (take c.read_value-length.result) whole ∙ c.read_value-length.ensures.value
     ∙ ap (λ (m : Mine). value_at (held m.0 c.args.j) 0)
-    c.size_at-words.ensures.same.2)
+    c.read.ensures.same.2)

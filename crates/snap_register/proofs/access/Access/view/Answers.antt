@@ -5,10 +5,14 @@ use Rattle.snap_history.proofs.Lists.{get-set_same, get-set_other}
 use Rattle.snap_register.proofs.{Updates.update_found, Updates.view_shown, access.Access.view.Goals.In-loop-k}
 use Rattle.snap_register.proofs.{Blocks.behind_more, Views.view_whole, Views.ends_small}
 use Rattle.snap_register.specs.{Words.IsWhole, Words.size_at, Words.block_at, Words.behind, Held.held, Held.view_in}
-use Rattle.snap_register.specs.{Registers.Mine, Rule.segments, Steps.view_of}
+use Rattle.snap_register.specs.{Registers.Mine, Rule.segments, Steps.view_of, declared.access.Access.Access}
 use mathlib.Core.Logic.{dite}
 use native.Mathlib.Decide.{ℕ_discrete}
 use Rattle.snap_register.proofs.access.Access.view.Goals as goal
+
+-- the loop's end
+count_is : (a b : Access) → b.seat.me ≡ a.seat.me → b.segments ≡ segments (view_of a).plan
+count_is a b same = b.sized.segments_are ∙ ap (λ (m : Mine). segments m.0.plan) same
 
 words_are : (c : In-loop-k) → held (view_of c.loop-k.self) c.args.j ≡ held (view_of c.args.self.now) c.args.j
 words_are c = search rules
@@ -21,7 +25,7 @@ whole : (c : In-loop-k) → IsWhole (held (view_of c.loop-k.self) c.args.j) c.lo
 whole c =
     let a = c.args.self.now in
     let lt : c.loop-k.k < segments (view_of a).plan =
-    omega (arith, c.count_segments-segments.ensures.count, c.loop-k-test.true) in
+    omega (arith, count_is a c.size_at-at.new.self c.size_at-at.ensures.same.2, c.loop-k-test.true) in
     let found = update_found a.seat.table_id (view_of a) c.args.j c.requires.updated in
     rw (words_are c, at_is c)
     (view_whole a c.args.j c.loop-k.k c.size_at-at.ensures.legal found.1 c.requires.segment lt)
@@ -52,7 +56,7 @@ loop-k-preserved c =
     let items = c.loop-k.out-inside.segments.items in
     let test = c.loop-k-test.true in
     let long = inv.long in
-    let count = c.count_segments-segments.ensures.count in
+    let count = count_is c.args.self.now c.size_at-at.new.self c.size_at-at.ensures.same.2 in
     let room = c.requires.room in
     let out = ap length c.out.view_is in
     record {
@@ -79,7 +83,7 @@ returns-clause-view c =
     let room = c.requires.room in
     let out = ap length c.out.view_is in
     let long = inv.long in
-    let count = c.count_segments-segments.ensures.count in
+    let count = count_is c.args.self.now c.size_at-at.new.self c.size_at-at.ensures.same.2 in
     let test = c.loop-k-test.false in
     let size : length xs ≡ segments (view_of a).plan = omega arith in
     view_shown a.seat.table_id (view_of a) c.args.j c.args.set.bits xs c.size_at-at.ensures.legal
