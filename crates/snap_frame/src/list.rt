@@ -116,17 +116,6 @@ pub(crate) fn entries_len<E: ListEntry>(entries: &[E]) -> usize
     len
 }
 
-/// Writes the entries. The buffer has room for them.
-fn put_entries<E: ListEntry>(entries: &[E], out: &mut BytesMut)
-    requires each { All E.may_stand entries.now }
-    requires room { length (flat_map E.bytes entries.now) ≤ out.old.spare }
-    ensures { out.new.items ≡ out.old.items ++ flat_map E.bytes entries.now }
-{
-    for entry in entries {
-        entry.put(out);
-    }
-}
-
 /// Appends the frame of a list of this kind, as [`write_reply`](crate::write_reply) appends one.
 pub(crate) fn append_list<E: ListEntry>(
     kind: u8,
@@ -144,6 +133,8 @@ pub(crate) fn append_list<E: ListEntry>(
 {
     start_frame(LIST_HEAD_LEN + entries_len(entries), out)?;
     out.extend_reserved(&[kind, entries.len() as u8]);
-    put_entries(entries, out);
+    for entry in entries {
+        entry.put(out);
+    }
     Ok(())
 }

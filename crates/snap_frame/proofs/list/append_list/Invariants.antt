@@ -1,5 +1,5 @@
 use Rattle.std.proofs.Common.{◌≡◌, ◌≤◌, ◌++◌, length, take, drop, flat_map}
-use Rattle.snap_frame.proofs.list.put_entries.Given as goal
+use Rattle.snap_frame.proofs.list.append_list.Given as goal
 
 abbrev pub invariant-loop-entry : goal.invariant-loop-entry
 invariant-loop-entry g l =
