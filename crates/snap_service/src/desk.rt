@@ -10,7 +10,7 @@ use crate::job::Requested;
 use crate::memory::Memory;
 use crate::metrics::Looking;
 use crate::outbox::{Outbox, Sent, StorerHandle, UpdateObserver};
-use crate::read_only_service::answer_unstored;
+use crate::reads::answer_unstored;
 use crate::settlement::{answer_by_look, refuse_place};
 use crate::writer_lease::Outcome;
 use bytes::Bytes;

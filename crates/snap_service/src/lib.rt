@@ -26,7 +26,7 @@ mod metrics;
 mod node;
 mod outbox;
 mod read_only_service;
-mod scans;
+mod reads;
 mod settlement;
 mod shared;
 mod storer;
@@ -45,7 +45,7 @@ pub use metrics::{
 pub use node::Node;
 pub use outbox::{NoUpdateObserver, StorerHandle, UpdateObserver};
 pub use read_only_service::ReadOnlyService;
-pub use scans::{answer_part, answer_scan};
+pub use reads::{answer_part, answer_scan};
 pub use settlement::{answer_by_look, refuse_place, settle};
 pub use shared::Shared;
 pub use storer::Storer;

@@ -9,7 +9,7 @@ ghost use Rattle.snap_service.specs.Counted.{next_count, CountsNothing, LooksOnc
 ghost use Rattle.snap_service.specs.{Memory.IsOf, Updated.IsUpdatedAndTold};
 
 use crate::memory::Memory;
-use crate::scans::{answer_part, answer_scan};
+use crate::reads::{answer_part, answer_scan};
 use crate::settlement::{answer_by_look, settle};
 use snap_disk::Disk;
 use snap_frame::{Reply, SegmentSet, SegmentStatus};
@@ -142,10 +142,8 @@ impl<M: Memory, D: Disk> LockedWriter<M, D> {
         ensures fence { IsTrue result.is_fenced ↔ IsSome self.now.segment.begun }
         ensures limits { IsStatus result }
     {
-        SegmentStatus {
-            number: self.writer.number(),
-            is_fenced: self.writer.is_fenced(),
-        }
+        let (number, is_fenced) = self.writer.status();
+        SegmentStatus { number, is_fenced }
     }
 
     /// Updates `segment` by the writer, and replies with its result; by one look, if the writer is of another segment.

@@ -11,7 +11,6 @@ ghost use Rattle.snap_service.specs.metrics.Places.{IsWithinAccepted};
 mod counter;
 mod counting_service;
 mod histogram;
-mod request_counts;
 mod segment;
 mod snapshot;
 mod timed_disk;
@@ -22,14 +21,13 @@ pub use counting_service::{CountingObserver, CountingService, FailureObserver, L
 pub use histogram::{Histogram, place_of};
 pub use segment::{SegmentMetrics, milliseconds_of};
 pub use snapshot::{
-    BOUNDS, FIRST_BOUND, HistogramSnapshot, MetricsSnapshot, REFUSALS, RequestCounts,
-    SegmentSnapshot,
+    BOUNDS, FIRST_BOUND, HistogramSnapshot, MetricsSnapshot, REFUSALS, SegmentSnapshot,
 };
 use std::alloc::{AllocError, Global};
 use std::marker::Model;
 use std::sync::atomic::{AtomicU64, Ordering};
 pub use timed_disk::{TimedDisk, time_all};
-pub use worker::WorkerMetrics;
+pub use worker::{RequestCounts, WorkerMetrics};
 
 /// The metrics of a server. Each worker writes its own part, who has a segment's writer that of the
 /// segment, and any thread reads all of them at any time, without a lock.

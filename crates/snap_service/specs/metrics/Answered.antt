@@ -2,7 +2,7 @@
 use Rattle.std.specs.Prelude.{◌≡◌, ℕ, ◌-◌}
 use Rattle.snap_frame.specs.declared.request.Request.TheVariants.{Scan, Part}
 use Rattle.snap_frame.specs.declared.{request.Request.Request, reply.Reply.Reply}
-use Rattle.snap_service.specs.{metrics.Tallies.counted, declared.metrics.snapshot.RequestCounts.RequestCounts}
+use Rattle.snap_service.specs.{metrics.Tallies.counted, declared.metrics.worker.RequestCounts.RequestCounts}
 
 -- the inner service, and the counts of the requests that it answered
 pub record CountedState (S : Type 0) : Type 0 where

@@ -6,7 +6,7 @@ use Rattle.snap_frame.specs.declared.reply.Reply.TheVariants.{Stored, Snapshot, 
 use Rattle.snap_frame.specs.Messages.{frame, payload, says}
 use Rattle.snap_frame.specs.declared.{request.Request.Request, reply.Reply.Reply}
 use Rattle.snap_service.specs.metrics.Numbers.{raised, raised_at, raised_each}
-use Rattle.snap_service.specs.declared.metrics.snapshot.{RequestCounts.RequestCounts, TheConstants.REFUSALS}
+use Rattle.snap_service.specs.declared.metrics.{worker.RequestCounts.RequestCounts, snapshot.TheConstants.REFUSALS}
 use Rattle.snap_frame.specs.declared.reply.Reply.TheVariants as reply
 
 -- each number is 0

@@ -10,9 +10,12 @@ pub struct Counter {
 }
 
 impl Counter {
-    /// Adds `more`, up to 2^64 - 1.
+    /// Adds `more`, up to 2^64 - 1. Writes nothing if that is 0.
     pub fn add(&self, more: u64) {
-        self.set(self.get().saturating_add(more));
+        if more > 0 {
+            let number = self.get().saturating_add(more);
+            self.number.store(number, Ordering::SeqCst);
+        }
     }
 
     /// Sets the counter to `number`.
@@ -23,13 +26,6 @@ impl Counter {
     /// Reads the counter, as it was at some moment of this call.
     pub fn get(&self) -> u64 {
         self.number.load(Ordering::SeqCst)
-    }
-
-    /// Adds the growth of another number, from `before` to `now`. Writes nothing if it hasn't grown.
-    pub(crate) fn follow(&self, before: u64, now: u64) {
-        if now != before {
-            self.add(now.saturating_sub(before));
-        }
     }
 }
 

@@ -5,8 +5,7 @@ ghost use Rattle.snap_session.specs.Asked.{WasAsked};
 ghost use Rattle.snap_service.specs.metrics.{Tallies.nothing, Tallies.counted, Answered.looks_for};
 
 use crate::metrics::Metrics;
-use crate::metrics::snapshot::RequestCounts;
-use crate::metrics::worker::WorkerMetrics;
+use crate::metrics::worker::{RequestCounts, WorkerMetrics};
 use crate::outbox::UpdateObserver;
 use snap_disk::Refusal;
 use snap_frame::{Reply, Request};

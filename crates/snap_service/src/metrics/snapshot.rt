@@ -1,5 +1,7 @@
 //! Snapshots: metrics that were read, as plain numbers.
 
+use crate::metrics::worker::RequestCounts;
+
 /// The number of a histogram's bounds. The first is [`FIRST_BOUND`], and each further one is twice the one before.
 pub const BOUNDS: usize = 21;
 
@@ -17,30 +19,6 @@ pub struct HistogramSnapshot {
     pub counts: [u64; BOUNDS + 1],
     /// The sum of all times, in nanoseconds.
     pub total: u64,
-}
-
-/// Counts of the requests that one worker, or all workers together, answered. Each number stops at 2^64 - 1.
-#[derive(Clone, Copy, PartialEq, Eq)]
-pub struct RequestCounts {
-    /// Updates that were answered, with a number or with a refusal.
-    pub updates: u64,
-    /// Scans of all segments.
-    pub scans: u64,
-    /// Scans of some segments.
-    pub parts: u64,
-    /// Status requests.
-    pub statuses: u64,
-    /// Refused requests, by the number of the refusal: number 1 is at index 0.
-    ///
-    /// A worker's published counts include the frames that its sessions refused without the
-    /// service: those that are no request or are too large.
-    pub refusals: [u64; REFUSALS],
-    /// Looks at registers that scans took, of all segments or of some.
-    pub looks: u64,
-    /// The bytes of the frames of all requests that were answered.
-    pub bytes_in: u64,
-    /// The bytes of the frames of all replies.
-    pub bytes_out: u64,
 }
 
 /// The metrics of one segment, as they were read.

@@ -4,7 +4,7 @@ use Rattle.snap_scan.specs.Values.{pair_of}
 use Rattle.snap_memory.specs.Scans.{IsPart, MayRefuse, TakesLooksOf}
 use Rattle.snap_memory.proofs.ScanAnswer.{snapshot_listed, all_set, all_is, all_count, all_grown, all_same}
 use Rattle.snap_service.proofs.Lines.{listed}
-use Rattle.snap_service.proofs.scans.answer_scan.Goals as goal
+use Rattle.snap_service.proofs.reads.answer_scan.Goals as goal
 
 pub scan-requires : goal.scan-requires
 scan-requires c =

@@ -1,7 +1,7 @@
 use Rattle.std.proofs.Common.{ℕ, List, subst, sym}
 use Rattle.snap_frame.specs.declared.request.Request.{Request}
 use Rattle.snap_service.specs.Answers.{Answers, AnswersUpdate}
-use Rattle.snap_service.proofs.read_only_service.answer_unstored.Goals as goal
+use Rattle.snap_service.proofs.reads.answer_unstored.Goals as goal
 
 pub returns-in-Some-clause-answer : goal.returns-in-Some-clause-answer
 returns-in-Some-clause-answer g c =
@@ -13,4 +13,4 @@ returns-in-Some-clause-answer g c =
     let R : Request → Type 0 = λ q. Answers scanner q reply scanner in
     subst R (sym c.in-Update.is)
     (subst Q c.from-segment.ensures (subst P c.as_slice-value.ensures
-    (c.in-Some.ensures.refused scanner number (sym c.segments-count.ensures.count))))
+    (c.in-Some.ensures.refused scanner number (sym c.segments.ensures.count))))

@@ -1,6 +1,6 @@
 use Rattle.std.proofs.Common.{◌≡◌, ℕ, ◌<◌, ◌≤◌, length, get_or}
 use Rattle.snap_service.specs.metrics.Numbers.{raised}
-use Rattle.snap_service.proofs.metrics.request_counts.merge_numbers.Given as goal
+use Rattle.snap_service.proofs.metrics.worker.merge_numbers.Given as goal
 
 abbrev pub invariant-loop-place : goal.invariant-loop-place
 invariant-loop-place l = (length l.numbers ≡ length l.initial.numbers)

@@ -7,8 +7,8 @@ use Rattle.snap_scan.specs.{Sets.Names, Sets.named_below, Values.pair_of}
 use Rattle.snap_scan.proofs.Sets.{with, without}
 use Rattle.snap_frame.specs.declared.named.NamedValue.{NamedValue}
 use Rattle.snap_service.{specs.Answers.segment_of, specs.Answers.named_pair, proofs.Lines.counts}
-use Rattle.snap_service.proofs.scans.name_values.Goals.{then-has+in_ok-clone+in_ok-push, else-has}
-use Rattle.snap_service.proofs.scans.name_values.Goals as goal
+use Rattle.snap_service.proofs.reads.name_values.Goals.{then-has+in_ok-clone+in_ok-push, else-has}
+use Rattle.snap_service.proofs.reads.name_values.Goals as goal
 
 pub loop-segment-init : goal.loop-segment-init
 unfolding named_below

@@ -1,7 +1,7 @@
 use Rattle.std.proofs.Common.{◌≡◌, length, map, take}
 use Rattle.snap_scan.specs.{Sets.named_below, Values.pair_of}
 use Rattle.snap_service.specs.Answers.{segment_of, named_pair}
-use Rattle.snap_service.proofs.scans.name_values.Given as goal
+use Rattle.snap_service.proofs.reads.name_values.Given as goal
 
 abbrev pub invariant-loop-segment : goal.invariant-loop-segment
 invariant-loop-segment l = record {

@@ -2,7 +2,7 @@ use Rattle.std.proofs.Common.{◌^◌, ◌<◌, sym, subst}
 use Rattle.snap_register.specs.{declared.plan.Plan.Plan, Rule.segments}
 use Rattle.snap_memory.{specs.Scans.IsPart, proofs.ScanAnswer.all_grown}
 use Rattle.snap_service.proofs.Lines.{named_listed, short_as}
-use Rattle.snap_service.proofs.scans.answer_part.Goals as goal
+use Rattle.snap_service.proofs.reads.answer_part.Goals as goal
 
 pub returns-in-Ok-listed-clause-limits : goal.returns-in-Ok-listed-clause-limits
 returns-in-Ok-listed-clause-limits c =

@@ -1,15 +1,19 @@
-//! Scans as replies.
+//! Answers that need no store: scans, parts, statuses, and an update's by a look.
 ghost use Rattle.std.specs.Prelude.{◌≡◌, ◌<◌, ◌≤◌, length, map, All, IfOk};
 ghost use Rattle.snap_history.specs.Limits.{IsShort};
-ghost use Rattle.snap_memory.specs.{Sets.named, Sets.size, Values.pair_of};
-ghost use Rattle.snap_frame.specs.Messages.{IsInLimits};
-ghost use Rattle.snap_service.specs.Answers.{AnswersScan, AnswersPart, segment_of, named_pair};
+ghost use Rattle.snap_memory.specs.{Rule.segments, Sets.named, Sets.size, Values.pair_of};
+ghost use Rattle.snap_frame.specs.Messages.{IsAskable, IsInLimits, IsStatus};
+ghost use Rattle.snap_service.specs.Answers.{Answers, AnswersScan, AnswersPart, segment_of, named_pair};
+ghost use Rattle.snap_service.specs.Counted.{TakesFewLooks};
 
+use crate::heap_writer::status_in;
+use crate::settlement::{answer_by_look, refuse_place};
 use snap_disk::Refusal;
-use snap_frame::{NamedValue, Reply, SegmentSet, SegmentValue};
+use snap_frame::{NamedValue, Reply, Request, SegmentSet, SegmentStatus, SegmentValue};
 use snap_history::MAX_COUNT;
 use snap_memory::Scanner;
 use std::alloc::{AllocError, Global};
+use std::sync::atomic::{AtomicU64, Ordering};
 
 /// Answers a scan: the number and the value of each segment, all from one moment, with all updates
 /// that were in the history at the scan's first look.
@@ -83,4 +87,62 @@ fn name_values(
         }
     }
     Ok(list)
+}
+
+/// Reads the last published status of each segment, without a look and without a lock.
+fn list_statuses<T: AsRef<AtomicU64>>(
+    alloc: Global,
+    standings: &[T],
+) -> Result<Vec<SegmentStatus>, AllocError>
+    ensures count { IfOk result (λ s. length s.items ≡ length standings.now) }
+    ensures limits { IfOk result (λ s. All IsStatus s.items) }
+{
+    let mut statuses = Vec::new(alloc);
+    for standing in standings {
+        statuses.push(status_in(standing.as_ref().load(Ordering::SeqCst)))?;
+    }
+    Ok(statuses)
+}
+
+/// Answers a request without a store: an update by refusing its place or from one look, a status by the words in which
+/// each segment's was published last.
+pub(crate) fn answer_unstored<T: AsRef<AtomicU64>>(
+    alloc: Global,
+    scanner: &mut Scanner,
+    standings: &[T],
+    request: &Request,
+) -> Reply
+    requires standings { length standings.now ≡ segments scanner.old.plan }
+    requires askable { IsAskable request.now }
+    ensures answer { Answers scanner.old request.now result scanner.new }
+    ensures looks { TakesFewLooks scanner.old request.now scanner.new }
+    ensures limits { IsInLimits result }
+    ensures table { scanner.new.table ≡ scanner.old.table }
+    ensures plan { scanner.new.plan ≡ scanner.old.plan }
+{
+    match request {
+        Request::Update {
+            segment,
+            number,
+            value,
+        } => {
+            let (segment, value) = (usize::from(*segment), value.as_slice());
+            match refuse_place(scanner.segments(), segment, value) {
+                Some(reply) => reply,
+                None => answer_by_look(scanner, segment, *number, value),
+            }
+        }
+        Request::Scan => answer_scan(alloc, scanner),
+        Request::Part(set) => answer_part(alloc, scanner, *set),
+        Request::Status => {
+            let _at_most_16 = scanner.segments();
+            match list_statuses(alloc, standings) {
+                Ok(statuses) => Reply::Status(statuses),
+                Err(AllocError) => Reply::Refused {
+                    why: Refusal::NoMemory,
+                    detail: 0,
+                },
+            }
+        }
+    }
 }
