@@ -118,6 +118,22 @@ def test_each_call_of_a_start_fails(snapd, _):
         assert number > 1, call
 
 
+def test_an_address_for_which_no_descriptor_is_left(snapd, _):
+    """It is said how to raise the limit, of each kind of address."""
+    files, advice = segments(snapd, FRESH), "raise the limit of open files (ulimit -n, or fs.file-max)"
+    for why, reason in ((errno.EMFILE, "Too many open files"), (errno.ENFILE, "Too many open files in system")):
+        for address, words, what in (
+            (LOOPBACK, (LOOPBACK,), "there"),
+            ("unix:at", ("unix:at",), "there"),
+            (LOOPBACK, ("unix:at", "--http", LOOPBACK), "there for HTTP"),
+        ):
+            sockets = Sockets(snapd, "socket", 1, why)
+            sockets.fail()
+            run = snapd("serve", *words, *files, "--connections", 0, env=sockets.env)
+            line = f"snapd: {address}: can't listen {what}: {reason} (os error {why}): {advice}\n"
+            assert sockets.has_failed() and (run.status, run.errors) == (1, line), (words, run)
+
+
 def test_a_worker_that_cannot_wait_ends_the_server(snapd, _):
     """Its connections are closed. Those of the other worker are served until the next one is dealt to it: then no more
     are accepted, a request that has begun is answered, and the server has failed."""

@@ -6,7 +6,7 @@ ghost use Rattle.snap_order.specs.Streams.{file_line};
 use crate::bind::ListenFault;
 use snap_disk::Refusal;
 use snap_order::{
-    Exit, OLD_FILE_LEN, ServeOptions, Status, SystemReason, complain, complain_of_refusal,
+    Exit, OLD_FILE_LEN, OneLine, ServeOptions, Status, SystemReason, complain, complain_of_refusal,
     complain_twice, empty_remedy, format_command, old_format_remedy, socket_path,
     unformatted_remedy,
 };
@@ -61,7 +61,7 @@ impl HostFault {
             },
             HostFault::Address(ListenFault { place, why }) => {
                 let address = address_at(order, *place);
-                let advice = advice_on(address, why);
+                let (address, advice) = (OneLine(address), advice_on(address, why));
                 let text = format_args!("{address}: can't listen there: {why}: {advice}");
                 failed(complain(alloc, errors, &text))
             }
@@ -70,7 +70,7 @@ impl HostFault {
                 failed(complain(alloc, errors, &text))
             }
             HostFault::Server(fault) => {
-                let address = address_at(order, 0);
+                let address = OneLine(address_at(order, 0));
                 let text = format_args!("{address}: {fault}");
                 failed(complain(alloc, errors, &text))
             }
@@ -86,8 +86,7 @@ fn address_at<'a>(order: &ServeOptions<'a>, place: usize) -> &'a str {
 /// The advice after an address that couldn't be bound.
 fn advice_on(address: &str, why: &BindFault) -> &'static str {
     match why {
-        BindFault::System(reason) if socket_path(address).is_none() => port_advice(reason),
-        BindFault::System(_) => "give a path in a folder where this user may make files",
+        BindFault::System(reason) => system_advice(address, reason),
         BindFault::Taken => "end it, or give another path",
         BindFault::Foreign => {
             "give another path, or have its owner end what listens there and remove it"
@@ -99,9 +98,19 @@ fn advice_on(address: &str, why: &BindFault) -> &'static str {
     }
 }
 
-/// The advice after a host and port that couldn't be bound for this reason.
-pub fn port_advice(reason: &io::Error) -> &'static str {
+/// Linux's ENFILE and EMFILE: no descriptors are left.
+const NO_DESCRIPTOR: [i32; 2] = [23, 24];
+
+/// The advice after an address that couldn't be bound for this reason of the system.
+pub fn system_advice(address: &str, reason: &io::Error) -> &'static str {
+    let code = reason.raw_os_error();
     match reason.kind() {
+        _ if code.is_some_and(|code| NO_DESCRIPTOR.contains(&code)) => {
+            "raise the limit of open files (ulimit -n, or fs.file-max)"
+        }
+        _ if socket_path(address).is_some() => {
+            "give a path in a folder where this user may make files"
+        }
         ErrorKind::PermissionDenied => "give a port from 1024 on, or let this user listen below it",
         ErrorKind::InvalidInput => "give HOST:PORT with a port from 0 to 65535",
         _ => "give an address of this machine whose port is free",

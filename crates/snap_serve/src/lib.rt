@@ -15,7 +15,7 @@ mod server;
 mod stores;
 
 pub use bind::{Bind, ListenFault, Network};
-pub use fault::{HostFault, port_advice};
+pub use fault::{HostFault, system_advice};
 pub use notes::log_note;
 pub use observer::{NoObserver, Observer, ServerObserver};
 pub use server::{Environment, Runtime, host};

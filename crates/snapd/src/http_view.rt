@@ -8,7 +8,7 @@ use snap_log::Lines;
 use snap_order::{
     MAX_SCANNERS, ServeOptions, Status, fail_of, say, say_of, socket_path, stop_without_memory,
 };
-use snap_serve::{Observer, port_advice};
+use snap_serve::{Observer, system_advice};
 use snap_session::Service;
 use std::io::{self, ErrorKind};
 use std::net::{SocketAddr, ToSocketAddrs};
@@ -36,7 +36,7 @@ pub fn open_http(rt: &HostRuntime, order: &ServeOptions<'_>) -> Result<Option<Ht
         Ok(place) => Ok(Some(place)),
         Err(error) if error.kind() == ErrorKind::OutOfMemory => Err(stop_without_memory(rt)),
         Err(error) => {
-            let advice = port_advice(&error);
+            let advice = system_advice(address, &error);
             let why = format_args!("can't listen there for HTTP: {error}: {advice}");
             Err(fail_of(rt, address, &why))
         }
