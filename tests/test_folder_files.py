@@ -110,5 +110,8 @@ def test_names_of_further_segments(snapd, _):
                 "give the count that D was made with, or move it out of there\n",
             )
             assert [it.name for it in place.iterdir()] == [name]
+        elif name in ("a.seg", "Segment-04.seg"):
+            # No server takes it, so it is refused once the files are made.
+            run.gave(3, made(count), serve(snapd).errors)
         else:
             run.gave(0, made(count))

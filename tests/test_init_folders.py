@@ -146,18 +146,52 @@ def test_files_of_other_names_are_kept(snapd, _):
     # It shows that another one was lost.
     (place / name_of(2)).unlink()
     init(snapd, 3).gave(3, errors=lost([name_of(2)], "pressure.seg", 5, 3))
-    # Of two the one that has the segment's name is it. A file of no segment is none of theirs, and is left.
+    # Of two the one that has the segment's name is it.
     (place / name_of(2)).write_bytes(file_of(2, 3, 4))
     (place / name_of(0)).write_bytes(file_of(0, 3, 6))
-    for name, data in (("b.seg", b"x"), ("c.seg", bytes(layout.LENGTH))):
-        (place / name).write_bytes(data)
     before = files_in(place)
-    init(snapd, 3).gave(0, made(3, kept=enumerate((6, 0, 4))))
+    init(snapd, 3).gave(3, made(3, kept=enumerate((6, 0, 4))), served(snapd, "it is segment 0 of 3"))
     assert files_in(place) == before
     # And where nothing else was stored, what they hold shows a loss too.
     other = folder(snapd, (0, None), "E")
     (other / "a.seg").write_bytes(file_of(0, 2, 9))
     init(snapd, 2, folder="E").gave(3, errors=lost([name_of(1)], "a.seg", 9, 2, "E"))
+
+
+def served(snapd, why, status=3):
+    """What a server says of the folder, which it refuses for this reason."""
+    return snapd("serve", "127.0.0.1:0", "--dir", "D").failed_with(status, why).errors
+
+
+def test_a_file_that_no_server_takes_beside_whole_ones(snapd, _):
+    """They are kept, or made, and then it is refused as a server refuses it, and left as it is."""
+    mark = bytearray(file_of(0, 2, 0))
+    mark[0] ^= 1
+    never, none = "it was never formatted, or its header is gone", "it is no segment file"
+    for numbers, done in (((5, 0), made(2, kept=enumerate((5, 0)))), ((0, None), made(2, kept=[(0, 0)]))):
+        for name in ("a.seg", "z.seg", "\x1b.seg"):
+            for data, why in (
+                (b"x", none), (b"", never), (bytes(layout.LENGTH), never), (bytes(mark), none),
+                (bytes(layout.OLD.length), "it has the length of the old format"),
+                (file_of(0, 2, 0), "it is segment 0 of 2"),
+            ):
+                place = folder(snapd, numbers)
+                (place / name).write_bytes(data)
+                for word in ((), ("--missing-empty",)):
+                    after = made(2, kept=enumerate((numbers[0], 0))) if word else done
+                    run = init(snapd, 2, *word)
+                    run.gave(3, after, served(snapd, why))
+                    assert (place / name).read_bytes() == data
+                shutil.rmtree(place)
+    place = folder(snapd, (5, 0))
+    os.mkfifo(place / "a.seg")
+    init(snapd, 2).gave(1, made(2, kept=enumerate((5, 0))), served(snapd, "it is a pipe, a socket or a device", 1))
+    shutil.rmtree(place)
+    # A server doesn't look at other names, nor does an init.
+    place = folder(snapd, (5, 0))
+    for name in ("a.SEG", "a.seg~", "seg"):
+        (place / name).write_bytes(b"x")
+    init(snapd, 2).gave(0, made(2, kept=enumerate((5, 0))))
 
 
 def test_a_lost_file_beside_one_in_use(snapd, _):

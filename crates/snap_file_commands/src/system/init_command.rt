@@ -5,7 +5,7 @@ ghost use Rattle.snap_order.specs.{Limits.MAX_COUNT, Order.IsOneTo};
 use super::complaint::fail_in;
 use super::files::{FirstFault, take_file};
 use super::folder::{
-    findings_of, index_of_name, make_folder, path_at, segment_files, segment_path,
+    files_in_order, findings_of, index_of_name, make_folder, path_at, segment_files, segment_path,
 };
 use super::folder_refusal::{FolderReadFault, other};
 use crate::{finish, found, is_further, sign_of_loss};
@@ -18,7 +18,8 @@ use std::path::Path;
 
 /// Makes the folder, and in it the file of each segment in order. Whole files are left as they are. It stops at the
 /// first file that can be neither made nor left, with its status. It makes none if a file has the name of a segment
-/// `count` or above, has another count or is in use; nor if a file was lost, except with `--missing-empty`.
+/// `count` or above, has another count or is in use; nor if a file was lost, except with `--missing-empty`. At the end
+/// it refuses a file of the folder that is none of theirs, as a server does.
 pub fn init(rt: &HostRuntime, order: &InitOptions<'_>) -> Result<Status, Status>
     requires { IsOneTo MAX_COUNT order.now.count }
 {
@@ -30,7 +31,16 @@ pub fn init(rt: &HostRuntime, order: &InitOptions<'_>) -> Result<Status, Status>
         Err(trouble) => return Err(fail_in(rt, &trouble)),
     };
     match message_of_loss(rt.alloc(), order, &files, &kept, &numbers) {
-        Ok(None) => found_all(rt, order, &kept),
+        Ok(None) => {
+            found_all(rt, order, &kept)?;
+            let files = segment_files(rt, folder)?;
+            if files.len() > usize::from(order.count) {
+                if let Err(trouble) = files_in_order(rt, folder, &files) {
+                    return Err(fail_in(rt, &trouble));
+                }
+            }
+            Ok(Status::Done)
+        }
         Ok(Some(why)) => Err(refuse(rt, &why)),
         Err(_) => Err(stop_without_memory(rt)),
     }
@@ -177,11 +187,7 @@ fn greatest_number(findings: &Findings) -> u64 {
 }
 
 /// Makes the files of the segments in order, or leaves those that are kept.
-fn found_all(
-    rt: &HostRuntime,
-    order: &InitOptions<'_>,
-    kept: &[Option<&str>],
-) -> Result<Status, Status>
+fn found_all(rt: &HostRuntime, order: &InitOptions<'_>, kept: &[Option<&str>]) -> Result<(), Status>
     requires { order.now.count ≤ MAX_COUNT }
 {
     for index in 0..order.count {
@@ -193,7 +199,7 @@ fn found_all(
             }
         }
     }
-    Ok(Status::Done)
+    Ok(())
 }
 
 /// Makes the file of a segment, or leaves it if it is whole, and prints which.
