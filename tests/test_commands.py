@@ -6,6 +6,7 @@ import os
 import pathlib
 import re
 import shutil
+import stat
 import subprocess
 
 import remedies
@@ -186,13 +187,29 @@ def test_paths_that_fail(snapd, _):
     assert not snapd.file("nowhere").exists()
 
 
-def test_line_feeds_of_a_path_and_of_wrong_words_are_said_as_they_are(snapd, _):
-    """They make several lines of one reason."""
-    remedy = remedies.no_file("a\nb", "--index 0 --count 1")
-    snapd("get", "a\nb").gave(1, errors=remedies.failed("a\nb", remedies.MISSING, remedy))
-    run = snapd("get", "F", "--index", 1)
-    assert run.status == 2 and run.errors.startswith("snapd: error: the index 1 is not below the count 1\n"), run
-    assert run.errors.endswith("try '--help'.\n") and run.errors.count("snapd: ") == 1, run
+def test_a_path_of_no_regular_file(snapd, _):
+    """A pipe, a socket or a device is none, whatever is to be done with it, and nothing waits for it."""
+    os.mkfifo(snapd.file("pipe"))
+    os.symlink("pipe", snapd.file("link"))
+    snapd.formatted()
+    os.mknod(snapd.file("socket"), stat.S_IFSOCK | 0o600)
+    for path in ("pipe", "link", "socket", "/dev/null", "/dev/zero"):
+        why = f"snapd: {path}: it is a pipe, a socket or a device: give the path of a regular file\n"
+        for command in ("format", "put", "get", "check"):
+            snapd(command, path, stdin="hi").gave(1, errors=why)
+        for words in (
+            ("check", path, "--slot", 0, "--value"), ("migrate", path, "new"), ("migrate", "F", path),
+            ("serve", "127.0.0.1:0", path), ("serve", "127.0.0.1:0", "F", path),
+        ):
+            snapd(*words).gave(1, errors=why)
+    assert not snapd.file("new").exists()
+    snapd("init", "D").gave(0, "formatted 0 of 1\n")
+    os.mkfifo(snapd.file("D/a.seg"))
+    why = "D/a.seg: it is a pipe, a socket or a device: give the path of a regular file\n"
+    for words in (("serve", "127.0.0.1:0", "--dir", "D"), ("dump", "D")):
+        snapd(*words).gave(1, errors=f"snapd: {why}")
+    run = snapd("doctor", "D")
+    assert run.status == 3 and run.output.decode().startswith(why), run
 
 
 # Each command on one file, and with which place its remedy formats the file.
@@ -370,9 +387,9 @@ def test_help_and_version(snapd, _):
         assert version.output.split(b" ", 1)[1] == snapd("--version").output.split(b" ", 1)[1]
     # The second line says what the program was built from, and whether this build was proved.
     first, second, rest = snapd("--version").output.split(b"\n")
-    assert (first, rest) == (b"snapd " + VERSION, b"") and len(second) == 100, second
+    assert (first, rest) == (b"snapd " + VERSION, b"")
     assert re.fullmatch(
-        rb"(not )?proved; ([0-9a-f]{12}\+?|no commit), rattle-kit-\S+ logic [0-9a-f]{16} *", second
+        rb"(not )?proved; ([0-9a-f]{12}\+?|no commit), rattle-kit-\S+ logic [0-9a-f]{16}", second
     ), second
     snapd("-V").gave(0, snapd("--version").output)
 

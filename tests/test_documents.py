@@ -378,9 +378,9 @@ def test_figures_of_readme_are_those_of_performance(snapd, random):
 MOST_WORDS = {
     "README.md": 1_386, "SECURITY.md": 200, "docs/TOUR.md": 1_500, "docs/READING.md": 1_080, "docs/PROMISES.md": 3_960,
     "docs/UNPROVED.md": 3_715,
-    "docs/FORMATS.md": 6_410, "docs/RECIPES.md docs/REPLICATION.md": 5_840,
+    "docs/FORMATS.md": 6_450, "docs/RECIPES.md docs/REPLICATION.md": 5_840,
     "docs/PERFORMANCE.md docs/COMPARISON.md": 2_475,
-    "docs/DECISIONS.md": 2_680, "docs/ARCHITECTURE.md": 2_410, "CONTRIBUTING.md CHANGELOG.md": 2_055,
+    "docs/DECISIONS.md": 2_680, "docs/ARCHITECTURE.md": 2_370, "CONTRIBUTING.md CHANGELOG.md": 2_055,
     "clients/c/README.md clients/python/README.md": 1_570,
 }
 

@@ -50,8 +50,9 @@ def calls_of(snapd, *words, stdin=b"", file="F", folder="."):
     return on_file, on_streams
 
 
-OPENED = [("open",), ("flock",), ("statx",)]
-# Commands that only read check first whether it is a file, since a pipe would block them.
+# First whether it is a regular file, or a folder, which can't be opened so.
+OPENED = [("look at the name",), ("open",), ("flock",), ("statx",)]
+# Commands that only read check that once more, since a pipe would block them.
 READ = [("look at the name",), *OPENED]
 # A sync, and then whether the path still names the file; and the next one, which doesn't ask again.
 LOOK = ("look at the name of the folder",)
@@ -104,7 +105,7 @@ def test_calls_of_a_migration(snapd, _):
     """Two on the old file, none of which writes, and seven on the new one."""
     snapd.file("OLD").write_bytes(layout.OLD.holding((0, b""), (1, b"hi")))
     on_file, on_streams = calls_of(snapd, "migrate", "OLD", "F")
-    opened = of_old("look at the name", "open", "flock", "statx") + OPENED
+    opened = of_old(*["look at the name"] * 2, "open", "flock", "statx") + OPENED
     taken = opened + NAMED + [("ftruncate",)]
     read = [*of_old("fdatasync"), LOOK, *of_old("look at the name"), ("pread64 of the old file", 0, 20_480)]
     ends = on_file[-2:]
@@ -143,7 +144,7 @@ def test_calls_of_an_init(snapd, _):
     for length in (layout.LENGTH - 1, layout.OLD.length):
         file.write_bytes(bytes(length))
         on_file, _ = calls_of(snapd, "init", "D", file="D/segment-00.seg", folder="D")
-        assert ("pwrite64" not in {call[0] for call in on_file}) and on_file[-4:] == [*OPENED, ("close",)], on_file
+        assert ("pwrite64" not in {call[0] for call in on_file}) and on_file[-5:] == [*OPENED, ("close",)], on_file
 
 
 def test_refused_calls_make_none(snapd, _):

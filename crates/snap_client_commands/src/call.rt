@@ -13,8 +13,8 @@ use crate::put::store;
 use snap_client::{ClientFault, call_again, call_while};
 use snap_frame::{NamedValue, Reply, SegmentValue};
 use snap_order::{
-    CallOptions, CallRequest, Exit, OutputFormat, Refusal, Request, SegmentSet, Status, complain,
-    complain_of_refusal, write_whole,
+    CallOptions, CallRequest, Exit, OneLine, OutputFormat, Refusal, Request, SegmentSet, Status,
+    complain, complain_of_refusal, write_whole,
 };
 use std::alloc::Global;
 use std::fmt::Display;
@@ -34,7 +34,7 @@ use std::io::{Read, Write};
 /// the status is [`Status::Refused`]. The outcome of an update is printed without memory, so after
 /// a reply memory can run out only for the values and fences of a read. If a connection, `writer`
 /// or `input` fails, `errors` gets a complaint and the status is [`Status::Failed`]; `writer` may
-/// have got a beginning of the text. A complaint is one line, except for line feeds in the address.
+/// have got a beginning of the text. A complaint is one line.
 pub fn ask<
     R: Read + Drop,
     C: Write + Drop,
@@ -290,6 +290,7 @@ pub(crate) fn give_up<E: Write>(
     ensures { HasFailed result }
 {
     let remedy = remedy_of(fault);
+    let address = OneLine(address);
     fail(alloc, &format_args!("{address}: {fault}{remedy}"), errors)
 }
 

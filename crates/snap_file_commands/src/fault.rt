@@ -5,7 +5,7 @@ ghost use Rattle.snap_file_commands.specs.Commands.{status_at, status_of};
 use crate::remedy::line_behind;
 use snap_disk::Refusal;
 use snap_order::{
-    Exit, FileOrder, Status, SystemReason, complain, complain_of_refusal, complain_twice,
+    Exit, FileOrder, OneLine, Status, SystemReason, complain, complain_of_refusal, complain_twice,
 };
 use snap_slot::SlotFault;
 use std::alloc::{AllocError, Global};
@@ -45,6 +45,7 @@ impl Display for CommandFault {
                 write!(f, "stored {number}, but standard output: {error}")
             }
             CommandFault::NoValue { file, slot, flaw } => {
+                let file = OneLine(file.as_str());
                 write!(
                     f,
                     "{file}: slot {slot} holds no value, bad {flaw}: try another slot"

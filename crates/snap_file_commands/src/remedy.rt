@@ -4,8 +4,8 @@
 use snap_disk::Refusal;
 use snap_history::MAX_VALUE_LEN;
 use snap_order::{
-    FileOrder, MigrateOptions, SystemReason, empty_remedy, format_command, old_format_remedy,
-    unformatted_remedy,
+    FileOrder, MigrateOptions, OneLine, SystemReason, empty_remedy, format_command,
+    old_format_remedy, unformatted_remedy,
 };
 use snap_segment::{OLD_FILE_LEN, Which};
 use snap_slot::FILE_LEN;
@@ -38,6 +38,7 @@ pub(crate) fn line_behind<C: SystemReason>(
         _ => return Some(String::new(alloc)),
     };
     let text = text.ok()?;
+    let (file, text) = (OneLine(file), OneLine(text.as_str()));
     format!(in alloc; "snapd: {file}: {text}\n").ok()
 }
 
@@ -72,6 +73,7 @@ pub(crate) fn line_of_migration<C: SystemReason>(
         ),
     };
     let text = text.ok()?;
+    let (file, text) = (OneLine(file), OneLine(text.as_str()));
     format!(in alloc; "snapd: {file}: refused as the {role} file: {text}\n").ok()
 }
 

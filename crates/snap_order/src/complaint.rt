@@ -11,7 +11,7 @@ use std::fmt::{Display, InlineText};
 use std::io::{self, Write};
 
 /// The size of the buffer for a text that there is no memory for, in bytes.
-const IN_PLACE: usize = 4096;
+pub(crate) const IN_PLACE: usize = 4096;
 
 /// Writes `snapd: `, the text and a line feed on standard error: in one call, if there is memory
 /// and the writer takes it whole. Returns whether the whole line was written.

@@ -27,7 +27,9 @@ pub use document::{health_document, line_of, part_document, scan_document, statu
 pub use findings::findings_document;
 pub use hex_text::{put_hex, read_hex};
 pub use member::{append_value, put_bytes};
-pub use message::{fail, fail_of, or_stop, refuse, refuse_of, say, say_of, stop_without_memory};
+pub use message::{
+    OneLine, fail, fail_of, or_stop, refuse, refuse_of, say, say_of, stop_without_memory,
+};
 pub use order::{
     CallOptions, CallRequest, DoctorOptions, DumpOptions, DumpSource, FileOrder, InitOptions,
     Level, LoadOptions, MAX_ADDRESSES, MAX_CLIENTS, MAX_EVERY, MAX_IDLE, MAX_TIMEOUT, MODE_BITS,

@@ -2,15 +2,39 @@
 ghost use Rattle.std.specs.Prelude.{◌≡◌, IfOk, Ok};
 ghost use Rattle.snap_order.specs.declared.status.Status.TheVariants as status;
 
-use crate::complaint::{complain, complain_of_refusal};
+use crate::complaint::{IN_PLACE, complain, complain_of_refusal};
 use crate::status::Status;
 use snap_disk::Refusal;
 use std::alloc::AllocError;
-use std::fmt::Display;
+use std::fmt::{self, Display, Formatter, InlineText, Write};
 
-/// Prints this text on standard error.
+/// A text as one line, which does nothing to a terminal: control characters and line ends, as the name of a file may
+/// have them, are escaped as in the log, by `\n` or `\u{1b}`. All else is as it was.
+#[derive(Clone, Copy)]
+pub struct OneLine<'a>(pub &'a str);
+
+impl Display for OneLine<'_> {
+    fn fmt<W: fmt::Write>(&self, f: &mut Formatter<W>) -> fmt::Result {
+        for c in self.0.chars() {
+            match c {
+                '\u{2028}' | '\u{2029}' => f.write(c.escape_default())?,
+                _ if c.is_control() => f.write(c.escape_default())?,
+                _ => f.write_char(c)?,
+            }
+        }
+        Ok(())
+    }
+}
+
+/// Prints this text on standard error, as [`OneLine`].
 pub fn say<T: Display>(rt: &HostRuntime, text: &T) {
-    let _ = complain(rt.alloc(), &mut rt.stderr(), text);
+    let _ = match format!(in rt.alloc(); "{text}") {
+        Ok(text) => complain(rt.alloc(), &mut rt.stderr(), &OneLine(text.as_str())),
+        Err(_) => {
+            let text = InlineText::<IN_PLACE>::of(text);
+            complain(rt.alloc(), &mut rt.stderr(), &OneLine(text.as_str()))
+        }
+    };
 }
 
 /// Prints this of the file, folder or address with this name.

@@ -27,8 +27,8 @@ use snap_file_commands::system::{
 };
 use snap_file_commands::{CommandFault, act, act_pair, finish};
 use snap_order::{
-    DumpOptions, DumpSource, FileOrder, MigrateOptions, Order, ServeOptions, Status, fail, fail_of,
-    say, stop_without_memory,
+    DumpOptions, DumpSource, FileOrder, MigrateOptions, Order, ServeOptions, Status, complain,
+    fail, fail_of, stop_without_memory,
 };
 use snap_script::play;
 use snap_serve::Runtime;
@@ -118,18 +118,19 @@ fn is_writing(order: &Order<'_>) -> bool {
 
 /// Prints the help that was asked for, or what is wrong with the arguments.
 fn explain(rt: &HostRuntime, fault: &WordFault) -> Status {
+    let Ok(text) = fault.to_string(rt.alloc()) else {
+        return stop_without_memory(rt);
+    };
+    // Some messages end in a line feed of their own, and that of the version in blanks.
+    let text = text.trim_end();
     match fault {
-        WordFault::Help(text) => match rt.print(text) {
+        WordFault::Help(_) => match rt.println(&text) {
             Ok(()) => Status::Done,
             Err(error) => stop(rt, &CommandFault::Output(error)),
         },
         WordFault::Memory => stop_without_memory(rt),
         _ => {
-            match fault.to_string(rt.alloc()) {
-                // Some messages end in a line feed of their own.
-                Ok(text) => say(rt, &text.trim_end()),
-                Err(_) => say(rt, fault),
-            }
+            let _ = complain(rt.alloc(), &mut rt.stderr(), &text);
             Status::Misused
         }
     }

@@ -9,7 +9,7 @@ use super::folder_refusal::FolderReadFault;
 use super::store_times::{STORED_LEN, STORES, measure};
 use crate::{CommandFault, SegmentPlace};
 use snap_devices::FileFault;
-use snap_order::{DoctorOptions, Status, SystemReason, stop_without_memory};
+use snap_order::{DoctorOptions, OneLine, Status, SystemReason, stop_without_memory};
 use std::fmt::Display;
 use std::io::{self, ErrorKind};
 
@@ -122,7 +122,8 @@ fn report_segment(
 fn tell<T: Display, V: Copy>(rt: &HostRuntime, name: &str, what: &T, value: V) -> io::Result<V>
     ensures { IfOk result (λ it. it ≡ value) }
 {
-    rt.println(&format_args!("{name}: {what}"))?;
+    let line = format!(in rt.alloc(); "{name}: {what}")?;
+    rt.println(&OneLine(line.as_str()))?;
     Ok(value)
 }
 
@@ -138,7 +139,7 @@ fn report_remedy<T: Display, V: Copy>(
     tell(rt, path, what, ())?;
     if let Some(reason) = reason {
         if let Some(remedy) = remedy_of(rt, path, reason, None) {
-            rt.println(&remedy)?;
+            rt.println(&OneLine(remedy.as_str()))?;
         }
     }
     Ok(value)
@@ -159,7 +160,7 @@ fn report_trouble<V: Copy>(
             report_remedy(rt, file, fault, reason, value)
         }
         FolderReadFault::Unformatted(why) | FolderReadFault::Other(why) => {
-            rt.println(why)?;
+            rt.println(&OneLine(why.as_str()))?;
             Ok(value)
         }
         FolderReadFault::NoMemory => Err(io::Error::from(ErrorKind::OutOfMemory)),

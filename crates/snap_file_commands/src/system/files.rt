@@ -12,6 +12,7 @@ use snap_segment::{OLD_FILE_LEN, Which};
 use snap_slot::FILE_LEN;
 use std::alloc::{AllocError, Global};
 use std::sync::OnceLock;
+use std::{fs, io};
 
 /// The reason why a call on an open file failed first. The file's device sets it; it outlives the device.
 #[derive(Drop)]
@@ -85,7 +86,8 @@ pub fn open_telling<'a>(
     open_as(rt, file, Some(lock), told)
 }
 
-/// Opens the file with this lock, or makes it if there is none. Each function with a call of `FileDisk` costs seconds.
+/// Opens the file with this lock, or makes it if there is none. A pipe, a socket or a device is a `System` fault. Each
+/// function with a call of `FileDisk` costs seconds.
 pub fn open_as<'a>(
     rt: &'a HostRuntime,
     file: &'a str,
@@ -94,6 +96,10 @@ pub fn open_as<'a>(
 ) -> Result<FileDisk<'a, HostRuntime>, FileFault>
     ensures { IfOk result IsUncalled }
 {
+    if fs::metadata(rt, file).is_ok_and(|found| !found.is_file() && !found.is_dir()) {
+        let why = "it is a pipe, a socket or a device: give the path of a regular file";
+        return Err(FileFault::System(io::Error::other(why)));
+    }
     let opened = match lock {
         Some(lock) => FileDisk::open(rt, file, lock),
         None => FileDisk::create(rt, file),

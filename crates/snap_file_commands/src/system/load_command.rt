@@ -17,7 +17,7 @@ use snap_devices::FileFault;
 use snap_disk::Disk;
 use snap_frame::SegmentValue;
 use snap_order::{
-    FileOrder, LoadOptions, Status, or_stop, read_up_to, refuse_of, stop_without_memory,
+    FileOrder, LoadOptions, OneLine, Status, or_stop, read_up_to, refuse_of, stop_without_memory,
 };
 use std::fs::File;
 use std::io::Read;
@@ -89,7 +89,8 @@ fn make_folder(
         make_file(rt, file.as_str(), index, count, values)?;
     }
     // The line is made first, so that if memory runs out the folder isn't renamed.
-    let line = or_stop(rt, format!(in rt.alloc(); "ready {folder}\n"))?;
+    let shown = OneLine(folder);
+    let line = or_stop(rt, format!(in rt.alloc(); "ready {shown}\n"))?;
     loading.put_in_place(rt)?;
     print_whole(rt, line.as_bytes())
 }
