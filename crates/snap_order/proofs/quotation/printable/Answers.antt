@@ -1,6 +1,5 @@
-use Rattle.std.{proofs.Common.◌∙◌, proofs.Common.false, proofs.Common.sym, specs.Str.is_utf8}
+use Rattle.std.{proofs.Common.◌∙◌, proofs.Common.sym, specs.Str.is_utf8}
 use Rattle.std.proofs.lemmas.{Bool.false_from_ne_true, Str.IsUtf8-from_is_utf8, Str.is_utf8-from_IsUtf8}
-use Rattle.snap_order.specs.Quotation.{are_plain}
 use Rattle.snap_order.proofs.quotation.printable.Goals as goal
 
 pub returns-in-Ok-clause-is : goal.returns-in-Ok-clause-is
